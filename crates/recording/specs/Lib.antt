@@ -1,0 +1,3 @@
+pub mod Condition
+pub mod Reading
+pub mod Recording

@@ -1,0 +1,70 @@
+// The refusals of the calls, and the number and the place that each is reported with.
+ghost use mathlib.Core.Path.{_≡_};
+ghost use Rattle.refusal.specs.Numbers.{numberOf, placeOf};
+
+pub enum Refusal {
+    // The recording's length is not a multiple of 16 bytes.
+    PartialRecord,
+    // The recording has over 4,096 records.
+    TooManyRecords,
+    // The record with this index is the first out of its rules.
+    BadRecord(usize),
+    // The recording has no record.
+    NoRecord,
+    // The text is empty or over 256 bytes long.
+    TextLength,
+    // The text has no reading.
+    NoReading,
+    // The text has over 32 nodes, or over 16 brackets open at some byte.
+    TextTooLarge,
+    // Some node's set at some record has too many runs.
+    TooManyRuns,
+    // Differences are asked for of a curve with over 256 tops.
+    TooManyTops,
+    // The output is shorter than the result.
+    ShortOutput,
+    // The marks are not 4 bytes each, over 8, or too large.
+    BadMarks,
+    // The target is off the axis, or the curve number is not 0 or 1.
+    BadTarget,
+}
+
+// The refusal's number in the table.
+pub fn number(r: Refusal) -> u32
+    ensures { λ n. ⌜ n ≡ numberOf r ⌝ }
+{
+    match r {
+        Refusal::PartialRecord => 1,
+        Refusal::TooManyRecords => 2,
+        Refusal::BadRecord(_) => 3,
+        Refusal::NoRecord => 4,
+        Refusal::TextLength => 5,
+        Refusal::NoReading => 6,
+        Refusal::TextTooLarge => 7,
+        Refusal::TooManyRuns => 8,
+        Refusal::TooManyTops => 9,
+        Refusal::ShortOutput => 10,
+        Refusal::BadMarks => 11,
+        Refusal::BadTarget => 12,
+    }
+}
+
+// The record's index for a bad record, else 0.
+pub fn place(r: Refusal) -> usize
+    ensures { λ n. ⌜ n ≡ placeOf r ⌝ }
+{
+    match r {
+        Refusal::PartialRecord => 0,
+        Refusal::TooManyRecords => 0,
+        Refusal::BadRecord(i) => i,
+        Refusal::NoRecord => 0,
+        Refusal::TextLength => 0,
+        Refusal::NoReading => 0,
+        Refusal::TextTooLarge => 0,
+        Refusal::TooManyRuns => 0,
+        Refusal::TooManyTops => 0,
+        Refusal::ShortOutput => 0,
+        Refusal::BadMarks => 0,
+        Refusal::BadTarget => 0,
+    }
+}

@@ -1,0 +1,1 @@
+// Sets of whole numbers on the axis.
