@@ -1,3 +1,11 @@
 pub mod Condition
 pub mod Reading
 pub mod Recording
+pub mod Output
+pub mod R1
+pub mod Booleans
+pub mod LeastLaws
+pub mod ValueLaws
+pub mod RecordLaws
+pub mod AcceptanceLaws
+pub mod OutcomeLaws

@@ -1,1 +1,17 @@
 pub mod Syntax
+pub mod Bytes
+pub mod Classes
+pub mod Size
+pub mod Grammar
+pub mod Table
+pub mod Told
+pub mod Lexer
+pub mod Parse
+pub mod WordLaws
+pub mod NumberLaws
+pub mod LeafLaws
+pub mod Unique
+pub mod Rows
+pub mod TableLaws
+pub mod ToldLaws
+pub mod Examples

@@ -3,9 +3,6 @@ use Rattle.number.specs.Words.{turned}
 use borrow.Author.Needs.{needs}
 use Rattle.number.proofs.turn.Statement.{statement}
 use Rattle.number.proofs.turn.Tie as tie
-use Rattle.number.proofs.turn.Reads as reads
-use Rattle.number.proofs.turn.Lts as lts
-use Rattle.std.proofs.num.wrapping_add_u32.Reads as wrapping-add-u32-reads
 
 wrapping-add-u32-requires : tie.Need-wrapping-add-u32-requires
 wrapping-add-u32-requires c κs = search needs

@@ -1,0 +1,4 @@
+pub mod Times
+pub mod Cuts
+pub mod Search
+pub mod TimesLaws

@@ -1,0 +1,59 @@
+-- Document 01, "Kept readings", and demand 3: recordings that no text without F, G, X, U, W tells apart, if its after-times are among the marks.
+use Prim.Native.Nat.{ℕ, _+_}
+use mathlib.Core.Path.{_≡_}
+use mathlib.Core.Bool.{false}
+use mathlib.Core.Logic.{_↔_}
+use mathlib.Core.List.{List, [], _∷_, map, List·Memᴰ}
+use lib.IntN.{ℤ}
+use lib.Signed.{_≤ℤ_, _<ℤ_}
+use Rattle.number.specs.Axis.{origin}
+use Rattle.recording.specs.Condition.{Condition, pick}
+use Rattle.recording.specs.Reading.{Reading, Curve, value, top, crossing}
+use Rattle.text.specs.Syntax.{Listed, high, low, lowafter, capafter, peaks, cross, ampl, gaps, steps, lag, Text, listed}
+use Rattle.meaning.specs.Listed.{SomeRecord, After}
+use Rattle.meaning.specs.Meaning.{readingAt, Holds}
+use Rattle.meaning.specs.Overfull.{Node, temporal, Overfull, TooManyTops}
+
+-- the index of a mark on the axis
+abbrev pub markIndex : ℕ → ℕ
+markIndex m = m + origin
+
+-- the after-times of a question
+abbrev pub afterTimes : Listed → List ℕ
+afterTimes (lowafter c k) = k ∷ []
+afterTimes (capafter c k) = k ∷ []
+afterTimes (high c) = []
+afterTimes (low c) = []
+afterTimes (peaks c) = []
+afterTimes cross = []
+afterTimes (ampl c) = []
+afterTimes (gaps c) = []
+afterTimes (steps c) = []
+afterTimes lag = []
+
+-- a text without F, G, X, U, W, whose after-times are among the marks
+pub record Plain (marks : List ℕ) (p : Text) : Type 0 where
+  pub flat : temporal p ≡ false
+  pub marked : (q : Listed) → Node (listed q) p → (k : ℕ) → List·Memᴰ k (afterTimes q) → List·Memᴰ k (map markIndex marks)
+
+-- the times of the records of which the condition holds
+abbrev pub times : Condition Reading → List Reading → List ℕ
+times ρ r = map (λ (x : Reading). x .time) (pick ρ r)
+
+-- THE SAME OBSERVATION: the first reading, how far each curve goes up and down, also after each mark, and the times of tops and crossings
+pub record Alike (marks : List ℕ) (r s : List Reading) : Type 0 where
+  pub first : readingAt r 0 ≡ readingAt s 0
+  pub up : (c : Curve) (z : ℤ) → SomeRecord r (λ x. z ≤ℤ value c x) ↔ SomeRecord s (λ x. z ≤ℤ value c x)
+  pub down : (c : Curve) (z : ℤ) → SomeRecord r (λ x. value c x ≤ℤ z) ↔ SomeRecord s (λ x. value c x ≤ℤ z)
+  pub up-after : (k : ℕ) → List·Memᴰ k (map markIndex marks) → (c : Curve) (z : ℤ)
+      → SomeRecord r (λ x. After k x × (z <ℤ value c x)) ↔ SomeRecord s (λ x. After k x × (z <ℤ value c x))
+  pub down-after : (k : ℕ) → List·Memᴰ k (map markIndex marks) → (c : Curve) (z : ℤ)
+      → SomeRecord r (λ x. After k x × (value c x ≤ℤ z)) ↔ SomeRecord s (λ x. After k x × (value c x ≤ℤ z))
+  pub tops : (c : Curve) → times (top c) r ≡ times (top c) s
+  pub crossings : times crossing r ≡ times crossing s
+
+-- the same truth for every number, and the same refusals 8 and 9
+pub record Same (r s : List Reading) (p : Text) : Type 0 where
+  pub truth : (z : ℤ) → Holds r z p 0 ↔ Holds s z p 0
+  pub eight : Overfull r p ↔ Overfull s p
+  pub nine : TooManyTops r p ↔ TooManyTops s p

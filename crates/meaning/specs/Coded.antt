@@ -1,0 +1,77 @@
+-- Readings as code holds them: the time and the values as indices of the axis.
+use Prim.Native.Nat.{ℕ, suc, _+_, _-_}
+use mathlib.Core.Bool.{Bool}
+use mathlib.Core.List.{List, map}
+use lib.Dec.{leb, ltb, eqb}
+use lib.IntN.{ℤ, pos, negsuc}
+use Rattle.number.specs.Axis.{origin}
+use Rattle.recording.specs.Condition.{Condition, pick}
+use Rattle.recording.specs.Recording.{readings}
+use Rattle.recording.specs.Reading.{Reading, Curve, A, B, edge, nothing}
+
+-- the index of a whole number of the axis
+abbrev pub index : ℤ → ℕ
+index (pos n) = n + origin
+index (negsuc n) = origin - suc n
+
+pub record Coded : Type 0 where
+  pub time : ℕ
+  pub a : ℕ
+  pub b : ℕ
+  pub slope-a : ℕ
+  pub slope-b : ℕ
+
+abbrev pub code : Reading → Coded
+code x = record {
+  time = x .time + origin;
+  a = index (x .a);
+  b = index (x .b);
+  slope-a = x .slope-a;
+  slope-b = x .slope-b;
+}
+
+-- a recording
+abbrev pub coded : List ℕ → List Coded
+coded bytes = map code (readings bytes)
+
+-- what stands past the end of a recording
+abbrev pub blank : Coded
+blank = code nothing
+
+abbrev pub codedValue : Curve → Coded → ℕ
+codedValue A x = x .a
+codedValue B x = x .b
+
+abbrev pub codedSlope : Curve → Coded → ℕ
+codedSlope A x = x .slope-a
+codedSlope B x = x .slope-b
+
+abbrev pub codedFalls : Curve → Coded → Bool
+codedFalls c x = eqb (codedSlope c x) 0
+
+abbrev pub codedRises : Curve → Coded → Bool
+codedRises c x = eqb (codedSlope c x) 2
+
+-- A ≤ B
+abbrev pub codedCrossed : Coded → Bool
+codedCrossed x = leb (x .a) (x .b)
+
+-- T > k
+abbrev pub codedAfter : ℕ → Coded → Bool
+codedAfter k x = ltb k (x .time)
+
+abbrev pub codedTop : Curve → Condition Coded
+codedTop c = edge (codedFalls c)
+
+abbrev pub codedCrossing : Condition Coded
+codedCrossing = edge codedCrossed
+
+-- the times of the records of which the condition holds
+abbrev pub timesOf : Condition Coded → List Coded → List ℕ
+timesOf ρ r = map (λ (x : Coded). x .time) (pick ρ r)
+
+abbrev pub topTimes : Curve → List Coded → List ℕ
+topTimes c r = timesOf (codedTop c) r
+
+abbrev pub crossingTimes : List Coded → List ℕ
+crossingTimes r = timesOf codedCrossing r

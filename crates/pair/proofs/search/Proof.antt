@@ -1,0 +1,157 @@
+-- `pair::search` meets its contract. The outer loop has passed the earlier places below i, the inner one the later places below j. Assumes nothing.
+use borrow.Author.Needs.{needs}
+use borrow.Author.Count.{below-none, below-more}
+use mathlib.Core.Path.{_≡_, refl, sym, subst}
+use mathlib.Core.Logic.{⊎-elim}
+use mathlib.Core.List.{List}
+use Prim.Native.Nat.{ℕ, _+_, _-_, _≤_, _<_}
+use native.Mathlib.Omega.{arith}
+use lib.ListN.{getD}
+use Rattle.pair.specs.Search.{Apart}
+use Rattle.pair.proofs.search.Statement.{statement}
+use Rattle.pair.proofs.search.Tie as tie
+
+abbrev Inv-loop : tie.InvT-loop
+Inv-loop times n g i j₀ sought j = (i < j) × (j ≤ n) × ((b : ℕ) → b < j → Apart times n g i b → ⊥)
+
+abbrev μ-loop : tie.MeasureT-loop
+μ-loop times n g i j₀ sought j = n - j
+
+abbrev Inv-earlier : tie.InvT-earlier
+Inv-earlier times n g i₀ j₀ i j = (i ≤ n) × ((a : ℕ) → a < i → (b : ℕ) → Apart times n g a b → ⊥)
+
+abbrev μ-earlier : tie.MeasureT-earlier
+μ-earlier times n g i₀ j₀ i j = n - i
+
+earlier-holds : tie.Need-earlier-holds Inv-loop μ-loop Inv-earlier μ-earlier
+earlier-holds c = (omega arith, below-none _)
+
+mul-wide : tie.Need-mul-wide Inv-loop μ-loop Inv-earlier μ-earlier
+mul-wide c = search needs
+
+shared-slice-read-wide : tie.Need-shared-slice-read-wide Inv-loop μ-loop Inv-earlier μ-earlier
+shared-slice-read-wide c = search needs
+
+wide-requires : tie.Need-wide-requires Inv-loop μ-loop Inv-earlier μ-earlier
+wide-requires c κs = search needs
+
+wide-requires-2 : tie.Need-wide-requires-2 Inv-loop μ-loop Inv-earlier μ-earlier
+wide-requires-2 c κs = search needs
+
+add-sought : tie.Need-add-sought Inv-loop μ-loop Inv-earlier μ-earlier
+add-sought c = search needs
+
+add-j : tie.Need-add-j Inv-loop μ-loop Inv-earlier μ-earlier
+add-j c = search needs
+
+loop-holds : tie.Need-loop-holds Inv-loop μ-loop Inv-earlier μ-earlier
+loop-holds c = (omega arith, omega arith, λ b h a. omega arith)
+
+mul-wide-2 : tie.Need-mul-wide-2 Inv-loop μ-loop Inv-earlier μ-earlier
+mul-wide-2 c = search needs
+
+shared-slice-read-wide-2 : tie.Need-shared-slice-read-wide-2 Inv-loop μ-loop Inv-earlier μ-earlier
+shared-slice-read-wide-2 c = search needs
+
+wide-requires-3 : tie.Need-wide-requires-3 Inv-loop μ-loop Inv-earlier μ-earlier
+wide-requires-3 c κs = search needs
+
+add-j-2 : tie.Need-add-j-2 Inv-loop μ-loop Inv-earlier μ-earlier
+add-j-2 c = search needs
+
+loop-less : tie.Need-loop-less Inv-loop μ-loop Inv-earlier μ-earlier
+loop-less c = search needs
+
+loop-again : tie.Need-loop-again Inv-loop μ-loop Inv-earlier μ-earlier
+loop-again c =
+    let h = c .before .before .before .before in
+    let outer = h .before .before .before .before .before in
+    let args = outer .before .before .args in
+    let times : List ℕ = args .times .now in
+    let i : ℕ = outer .earlier .i in
+    let j : ℕ = h .loop .j in
+    let later : c .before .wide3 .result ≡ getD times j 0 = c .before .wide3 .ensures .0 in
+    let earlier : h .before .before .wide .result ≡ getD times i 0 = h .before .before .wide .ensures .0 in
+    let more : h .before .wide2 .result ≡ args .g = h .before .wide2 .ensures .0 in
+    (omega arith, omega arith, below-more _ j (h .loop .inv .2) (λ (a : Apart times (args .n) (args .g) i j). c .if1 .left (omega arith)))
+
+add-i : tie.Need-add-i Inv-loop μ-loop Inv-earlier μ-earlier
+add-i c = search needs
+
+earlier-less : tie.Need-earlier-less Inv-loop μ-loop Inv-earlier μ-earlier
+earlier-less c = search needs
+
+earlier-again : tie.Need-earlier-again Inv-loop μ-loop Inv-earlier μ-earlier
+earlier-again c =
+    let h = c .before .before .before .before .before .before in
+    (omega arith, below-more _ (h .earlier .i) (h .earlier .inv .1) (λ b a. c .before .loop .inv .2 b (omega arith) a))
+
+-- where i is inside after the loops, it was left at a fitting pair
+found : (c : tie.Then2 Inv-loop μ-loop Inv-earlier μ-earlier)
+    → Apart (c .before .before .before .before .args .times .now) (c .before .before .before .before .args .n) (c .before .before .before .before .args .g) (c .before .before .earlier .i) (c .before .earlier-test .j)
+found c =
+    let h = c .before .before in
+    let args = h .before .before .args in
+    let times : List ℕ = args .times .now in
+    let i : ℕ = h .earlier .i in
+    ⊎-elim
+    (λ w. let out : args .n ≤ i = w .0 .left in let no : ⊥ = omega arith in absurd no)
+    (λ w.
+    let j : ℕ = w .4 .j in
+    let later : w .7 .result ≡ getD times j 0 = w .7 .ensures .0 in
+    let earlier : w .2 .result ≡ getD times i 0 = w .2 .ensures .0 in
+    let more : w .3 .result ≡ args .g = w .3 .ensures .0 in
+    let met : w .7 .result ≡ w .2 .result + w .3 .result = w .8 .taken in
+    let at : c .before .earlier-test .j ≡ j = w .9 in
+    subst (λ (k : ℕ). Apart times (args .n) (args .g) i k) (sym at) (record { order = w .4 .inv .0; inside = w .5 .taken; apart = omega arith }))
+    (c .before .earlier-test .came)
+
+mul-first : tie.Need-mul-first Inv-loop μ-loop Inv-earlier μ-earlier
+mul-first c = search needs
+
+shared-slice-read-first : tie.Need-shared-slice-read-first Inv-loop μ-loop Inv-earlier μ-earlier
+shared-slice-read-first c = search needs
+
+mul-second : tie.Need-mul-second Inv-loop μ-loop Inv-earlier μ-earlier
+mul-second c = let f = found (c .before .before) in let inside = f .inside in search needs
+
+shared-slice-read-second : tie.Need-shared-slice-read-second Inv-loop μ-loop Inv-earlier μ-earlier
+shared-slice-read-second c = let f = found (c .before .before .before) in let inside = f .inside in search needs
+
+returns : tie.Need-returns Inv-loop μ-loop Inv-earlier μ-earlier
+returns c = record { i = _; j = _; apart = found (c .before .before .before); first = refl; second = refl }
+
+returns-2 : tie.Need-returns-2 Inv-loop μ-loop Inv-earlier μ-earlier
+returns-2 c = let h = c .before .before in λ i j a. h .earlier .inv .1 i (omega arith) j a
+
+pub search-spec : {M : Type 1} → statement M
+search-spec =
+    tie.close
+    (tie.spec
+    Inv-loop
+    μ-loop
+    Inv-earlier
+    μ-earlier
+    earlier-holds
+    mul-wide
+    shared-slice-read-wide
+    wide-requires
+    wide-requires-2
+    add-sought
+    add-j
+    loop-holds
+    mul-wide-2
+    shared-slice-read-wide-2
+    wide-requires-3
+    add-j-2
+    loop-less
+    loop-again
+    add-i
+    earlier-less
+    earlier-again
+    mul-first
+    shared-slice-read-first
+    mul-second
+    shared-slice-read-second
+    returns
+    returns-2)

@@ -1,0 +1,99 @@
+// The pair call: the times of two tops of a curve whose distance in time is the target.
+ghost use mathlib.Core.Path.{_≡_};
+ghost use mathlib.Core.List.{[], _∷_};
+ghost use Prim.Native.Nat.{_/_, _≤_, _<_};
+ghost use lib.ListN.{length};
+ghost use Rattle.number.specs.Axis.{whole};
+ghost use Rattle.recording.specs.Recording.{readings, Accepted};
+ghost use Rattle.tops.specs.Tops.{curveOf};
+ghost use Rattle.pair.specs.Pair.{tooManyTops, acceptedLines, Answering, Answers};
+ghost use Rattle.pair.specs.Search.{Sought};
+
+// The answer of the pair call.
+pub enum TopPair {
+    // The times of two tops, the earlier first.
+    Times(u32, u32),
+    // No two tops fit.
+    Nothing,
+    Refused(refusal::Refusal),
+}
+
+// The number in 64 bits.
+fn wide(x: u32) -> u64
+    ensures { λ r. ⌜ (r ≡ x) × (r < 4294967296) ⌝ }
+{
+    x as u64
+}
+
+// Two of the first n times that differ by g: the later one is sought for each earlier one in turn.
+fn search(times: &[u32], n: usize, g: u32) -> TopPair
+    requires { ⌜ n ≤ length (now times) ⌝ }
+    ensures { λ r. ⌜ Sought (now (times .entry)) n g r ⌝ }
+{
+    let mut i: usize = 0;
+    let mut j: usize = 0;
+    'earlier: while i < n {
+        let sought = wide(times[i]) + wide(g);
+        j = i + 1;
+        while j < n {
+            if wide(times[j]) == sought {
+                break 'earlier;
+            }
+            j += 1;
+        }
+        i += 1;
+    }
+    if i < n {
+        let first = times[i];
+        let second = times[j];
+        TopPair::Times(first, second)
+    } else {
+        TopPair::Nothing
+    }
+}
+
+// Two tops of a curve whose times are the number at `index` apart.
+fn tops_apart(rec: &[u8], n: usize, curve: usize, index: u32) -> TopPair
+    requires { ⌜ Accepted (now rec) × (n ≡ length (now rec) / 16) × (curve < 2) ⌝ }
+    ensures { λ r. ⌜ Answering (tooManyTops (now (rec .entry)) curve ∷ []) (readings (now (rec .entry))) (curveOf curve) (whole index) r ⌝ }
+{
+    let mut times = [0u32; tops::MOST_TOPS];
+    let count = tops::top_times(rec, n, curve, &mut times);
+    if tops::MOST_TOPS < count {
+        return TopPair::Refused(refusal::Refusal::TooManyTops);
+    }
+    if index <= number::ORIGIN {
+        return TopPair::Nothing;
+    }
+    search(&times, count, index - number::ORIGIN)
+}
+
+// The pair call on an accepted recording of n records.
+fn in_accepted(rec: &[u8], n: usize, curve: u32, target: i64) -> TopPair
+    requires { ⌜ Accepted (now rec) × (n ≡ length (now rec) / 16) ⌝ }
+    ensures { λ r. ⌜ Answering (acceptedLines (now (rec .entry)) curve target) (readings (now (rec .entry))) (curveOf curve) target r ⌝ }
+{
+    if n == 0 {
+        return TopPair::Refused(refusal::Refusal::NoRecord);
+    }
+    if 1 < curve {
+        return TopPair::Refused(refusal::Refusal::BadTarget);
+    }
+    let place = targets::on_axis(target);
+    match place {
+        targets::OnAxis::Index(index) => tops_apart(rec, n, curve as usize, index),
+        targets::OnAxis::Off => TopPair::Refused(refusal::Refusal::BadTarget),
+    }
+}
+
+// THE PAIR CALL: the times of two tops of the curve, 0 for A and 1 for B, whose later time minus the earlier is the target.
+// Which two, where several fit, is left open.
+pub fn pair(rec: &[u8], curve: u32, target: i64) -> TopPair
+    ensures { λ r. ⌜ Answers (now (rec .entry)) curve target r ⌝ }
+{
+    let checked = recording::check(rec);
+    match checked {
+        recording::Checked::Records(n) => in_accepted(rec, n, curve, target),
+        recording::Checked::Refused(x) => TopPair::Refused(x),
+    }
+}

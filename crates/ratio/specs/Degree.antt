@@ -1,0 +1,13 @@
+-- Document 01, "Degree and pair": the degree of a distance d, the satisfaction degree of a missed target.
+use Prim.Native.Nat.{ℕ, _+_}
+use mathlib.Core.Bool.{false}
+use lib.IntN.{pos}
+use lib.Ieee.{Float, fin, binary64, div, ofInt}
+
+-- 1, as a float
+abbrev pub one : Float
+one = fin false 1 (pos 0)
+
+-- one binary64 division of 1 by the sum of 1 and d
+unfoldable pub degreeOf : ℕ → Float
+degreeOf d = div binary64 one (ofInt binary64 (pos (1 + d)))

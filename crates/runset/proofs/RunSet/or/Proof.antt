@@ -1,0 +1,18 @@
+-- The operation on the members, by the walk along the cuts.
+use borrow.Author.Needs.{needs}
+use Rattle.runset.specs.Set.{member}
+use Rattle.runset.specs.SetLaws.{valid-operand}
+use Rattle.runset.proofs.RunSet.or.Statement.{statement}
+use Rattle.runset.proofs.RunSet.or.Tie as tie
+
+limited-requires : tie.Need-limited-requires
+limited-requires c κs =
+    let s = c .before .before .before .before .before .before in
+    (valid-operand (s .args .t1) (s .pre .0), valid-operand (s .args .t2) (s .pre .1))
+
+returns : tie.Need-returns
+unfolding member
+returns c = c .limited .ensures
+
+pub or-spec : {M : Type 1} → statement M
+or-spec = tie.close (tie.spec limited-requires returns)

@@ -1,0 +1,181 @@
+-- The replies, by what an operation made.
+use Prim.Native.Nat.{ℕ, _+_, _*_, _≤_, _<_}
+use mathlib.Core.Path.{_≡_, refl, sym, ap, ap₂, subst, _∙_}
+use mathlib.Core.Bool.{Bool, true, false, not, cond, _&&_, _||_}
+use mathlib.Core.List.{List, _++_}
+use native.Mathlib.Omega.{arith}
+use lib.Dec.{leb, ltb, eqb}
+use lib.ListN.{length, drop}
+use borrow.Author.Tests.{lt-ltb, le-ltb, le-leb, lt-leb, eq-eqb, ne-eqb, ltb-false}
+use Rattle.number.specs.Axis.{axis}
+use Rattle.runset.specs.Runs.{mostRuns, runCount, setBytes}
+use Rattle.runset.specs.Distance.{distance}
+use Rattle.runset.specs.DistanceLaws.{distance-ext}
+use Rattle.runset.specs.Set.{member, Valid, Makes}
+use Rattle.runset.specs.RunsLaws.{runCount-ext, setBytes-ext}
+use Rattle.runset.specs.SetLaws.{makes-ext}
+use Rattle.runset.specs.declared.Made.{Made}
+use Rattle.runset_c.specs.Bytes.{chosen, asked, setOf, unfit, unfitAny, replyOf, outputOf, memberReply, distanceReply}
+use Rattle.runset_c.specs.Promises.{Loaded, Delivered}
+
+-- ---- the operation that is chosen
+
+module _ (op : ℕ) (f g h : ℕ → Bool) (v : ℕ) where
+  pub chosen-or : op ≡ 0 → (f v || g v) ≡ chosen op f g h v
+  unfolding chosen
+  chosen-or e = sym (ap (λ (b : Bool). cond b (f v || g v) (cond (eqb op 1) (f v && g v) (cond (eqb op 2) (not (f v)) (f v || (g v && h v))))) (eq-eqb op 0 e))
+
+  pub chosen-and : op ≡ 1 → (f v && g v) ≡ chosen op f g h v
+  unfolding chosen
+  chosen-and e =
+      sym (ap₂ (λ (a b : Bool). cond a (f v || g v) (cond b (f v && g v) (cond (eqb op 2) (not (f v)) (f v || (g v && h v))))) (ne-eqb op 0 (λ z. omega arith)) (eq-eqb op 1 e))
+
+  pub chosen-not : op ≡ 2 → not (f v) ≡ chosen op f g h v
+  unfolding chosen
+  chosen-not e =
+      sym (ap₂ (λ (a b : Bool). cond a (f v || g v) (cond b (f v && g v) (cond (eqb op 2) (not (f v)) (f v || (g v && h v))))) (ne-eqb op 0 (λ z. omega arith)) (ne-eqb op 1 (λ z. omega arith))
+      ∙ ap (λ (b : Bool). cond b (not (f v)) (f v || (g v && h v))) (eq-eqb op 2 e))
+
+  pub chosen-else : (op ≡ 0 → ⊥) → (op ≡ 1 → ⊥) → (op ≡ 2 → ⊥) → (f v || (g v && h v)) ≡ chosen op f g h v
+  unfolding chosen
+  chosen-else a b c =
+      sym (ap₂ (λ (a b : Bool). cond a (f v || g v) (cond b (f v && g v) (cond (eqb op 2) (not (f v)) (f v || (g v && h v))))) (ne-eqb op 0 a) (ne-eqb op 1 b)
+      ∙ ap (λ (b : Bool). cond b (not (f v)) (f v || (g v && h v))) (ne-eqb op 2 c))
+
+pub chosen-ext : (op : ℕ) (f g h f' g' h' : ℕ → Bool) (v : ℕ) → f v ≡ f' v → g v ≡ g' v → h v ≡ h' v → chosen op f g h v ≡ chosen op f' g' h' v
+unfolding chosen
+chosen-ext op f g h f' g' h' v p q r =
+    ap₂ (λ (x y : Bool). cond (eqb op 0) (x || y) (cond (eqb op 1) (x && y) (cond (eqb op 2) (not x) (x || (y && h v))))) p q
+    ∙ ap (λ (z : Bool). cond (eqb op 0) (f' v || g' v) (cond (eqb op 1) (f' v && g' v) (cond (eqb op 2) (not (f' v)) (f' v || (g' v && z))))) r
+
+-- ---- what is delivered
+
+module _ (f : ℕ → Bool) (m : Made) (k : Makes f m) where
+  reply-over : (room : ℕ) → m .over ≡ true → replyOf false f room ≡ 4294967294
+  unfolding replyOf
+  reply-over room o = ap (λ (b : Bool). cond b 4294967294 (cond (ltb room (8 * runCount f)) 4294967293 (runCount f))) (sym (k .over) ∙ o)
+
+  no-over : (room : ℕ) → m .over ≡ false → replyOf false f room ≡ cond (ltb room (8 * runCount f)) 4294967293 (runCount f)
+  unfolding replyOf
+  no-over room o = ap (λ (b : Bool). cond b 4294967294 (cond (ltb room (8 * runCount f)) 4294967293 (runCount f))) (sym (k .over) ∙ o)
+
+  same-count : m .over ≡ false → runCount (member (m .set)) ≡ runCount f
+  same-count o = runCount-ext (member (m .set)) f (k .members o)
+
+  reply-short : (room n : ℕ) → m .over ≡ false → n ≡ runCount (member (m .set)) → room < 8 * n → replyOf false f room ≡ 4294967293
+  reply-short room n o e h =
+      no-over room o ∙ ap (λ (b : Bool). cond b 4294967293 (runCount f)) (lt-ltb room (8 * runCount f) (let q : n ≡ runCount f = e ∙ same-count o in omega arith))
+
+  reply-count : (room n : ℕ) → m .over ≡ false → n ≡ runCount (member (m .set)) → 8 * n ≤ room → replyOf false f room ≡ n
+  reply-count room n o e h =
+      let q : n ≡ runCount f = e ∙ same-count o in
+      no-over room o ∙ ap (λ (b : Bool). cond b 4294967293 (runCount f)) (le-ltb room (8 * runCount f) (omega arith)) ∙ sym q
+
+  few-runs : m .over ≡ false → runCount f ≤ mostRuns
+  few-runs o = ltb-false mostRuns (runCount f) (sym (k .over) ∙ o)
+
+pub untouched : (refused : Bool) (f : ℕ → Bool) (before : List ℕ) (r : ℕ) → replyOf refused f (length before) ≡ r → 4294967293 ≤ r → before ≡ outputOf refused f before
+unfolding outputOf
+untouched refused f before r e h =
+    sym (ap (λ (b : Bool). cond b (setBytes f ++ drop (length (setBytes f)) before) before) (ap (λ (n : ℕ). ltb n 4294967293) e ∙ le-ltb r 4294967293 h))
+
+put : (f : ℕ → Bool) (before : List ℕ) (r : ℕ) → replyOf false f (length before) ≡ r → r < 4294967293 → setBytes f ++ drop (length (setBytes f)) before ≡ outputOf false f before
+unfolding outputOf
+put f before r e h =
+    sym (ap (λ (b : Bool). cond b (setBytes f ++ drop (length (setBytes f)) before) before) (ap (λ (n : ℕ). ltb n 4294967293) e ∙ lt-ltb r 4294967293 h))
+
+pub delivered-over : (m : Made) (out : List ℕ) → m .over ≡ true → Delivered m out out 4294967294
+delivered-over m out o =
+    record {
+      reply = λ f k. sym (reply-over f m k (length out) o);
+      output = λ f k. untouched false f out 4294967294 (reply-over f m k (length out) o) (omega arith);
+    }
+
+pub delivered-short : (m : Made) (out : List ℕ) (n : ℕ) → m .over ≡ false → n ≡ runCount (member (m .set)) → length out < 8 * n → Delivered m out out 4294967293
+delivered-short m out n o e h =
+    record {
+      reply = λ f k. sym (reply-short f m k (length out) n o e h);
+      output = λ f k. untouched false f out 4294967293 (reply-short f m k (length out) n o e h) (omega arith);
+    }
+
+pub delivered-set : (m : Made) (before after : List ℕ) (n : ℕ) → m .over ≡ false → n ≡ runCount (member (m .set)) → 8 * n ≤ length before
+    → after ≡ setBytes (member (m .set)) ++ drop (length (setBytes (member (m .set)))) before → Delivered m before after n
+delivered-set m before after n o e h w =
+    record {
+      reply = λ f k. sym (reply-count f m k (length before) n o e h);
+      output = λ f k.
+          w ∙ ap (λ (l : List ℕ). l ++ drop (length l) before) (setBytes-ext (member (m .set)) f (k .members o))
+          ∙ put f before n (reply-count f m k (length before) n o e h) (let q : n ≡ runCount f = e ∙ same-count f m k o in omega (arith, few-runs f m k o));
+    }
+
+-- ---- bytes that are refused
+
+pub refused-reply : (refused : Bool) (f : ℕ → Bool) (room : ℕ) → refused ≡ true → replyOf refused f room ≡ 4294967295
+unfolding replyOf
+refused-reply refused f room e =
+    ap (λ (b : Bool). cond b 4294967295 (cond (ltb mostRuns (runCount f)) 4294967294 (cond (ltb room (8 * runCount f)) 4294967293 (runCount f)))) e
+
+pub refused-both : (refused : Bool) (f : ℕ → Bool) (out : List ℕ) → refused ≡ true → (4294967295 ≡ replyOf refused f (length out)) × (out ≡ outputOf refused f out)
+refused-both refused f out e = (sym (refused-reply refused f (length out) e), untouched refused f out 4294967295 (refused-reply refused f (length out) e) (omega arith))
+
+-- ---- all three sets are there
+
+pub asked-is : (op : ℕ) (a b c : List ℕ) (p q r : Made) → Loaded a p → Loaded b q → Loaded c r → p .over ≡ false → q .over ≡ false → r .over ≡ false
+    → (v : ℕ) → v < axis → chosen op (member (p .set)) (member (q .set)) (member (r .set)) v ≡ asked op a b c v
+asked-is op a b c p q r lp lq lr op' oq or' v h =
+    chosen-ext op (member (p .set)) (member (q .set)) (member (r .set)) (setOf a) (setOf b) (setOf c) v (lp .members op' v h) (lq .members oq v h) (lr .members or' v h)
+
+pub made-asked : (op : ℕ) (a b c : List ℕ) (p q r m : Made) → Loaded a p → Loaded b q → Loaded c r → p .over ≡ false → q .over ≡ false → r .over ≡ false
+    → Makes (chosen op (member (p .set)) (member (q .set)) (member (r .set))) m → Makes (asked op a b c) m
+made-asked op a b c p q r m lp lq lr op' oq or' k =
+    makes-ext (chosen op (member (p .set)) (member (q .set)) (member (r .set))) (asked op a b c) m (asked-is op a b c p q r lp lq lr op' oq or') k
+
+-- one of three that is refused
+pub first-refused : (x y z : Bool) → x ≡ true → (x || (y || z)) ≡ true
+first-refused x y z e = ap (λ (b : Bool). b || (y || z)) e
+
+pub second-refused : (x y z : Bool) → y ≡ true → (x || (y || z)) ≡ true
+second-refused true y z e = refl
+second-refused false y z e = ap (λ (b : Bool). b || z) e
+
+pub third-refused : (x y z : Bool) → z ≡ true → (x || (y || z)) ≡ true
+third-refused true y z e = refl
+third-refused false true z e = refl
+third-refused false false z e = e
+
+pub none-refused : (a b c : List ℕ) (p q r : Made) → Loaded a p → Loaded b q → Loaded c r → p .over ≡ false → q .over ≡ false → r .over ≡ false → unfitAny a b c ≡ false
+none-refused a b c p q r lp lq lr op oq or' =
+    ap₂ (λ (x y : Bool). x || (y || unfit c)) (sym (lp .over) ∙ op) (sym (lq .over) ∙ oq) ∙ sym (lr .over) ∙ or'
+
+pub all-delivered : (refused : Bool) (f : ℕ → Bool) (m : Made) (before after : List ℕ) (n : ℕ) → refused ≡ false → Makes f m → Delivered m before after n
+    → (n ≡ replyOf refused f (length before)) × (after ≡ outputOf refused f before)
+all-delivered refused f m before after n e k d =
+    (d .reply f k ∙ ap (λ (b : Bool). replyOf b f (length before)) (sym e), d .output f k ∙ ap (λ (b : Bool). outputOf b f before) (sym e))
+
+-- ---- one set and a number
+
+module _ (a : List ℕ) (p : Made) (l : Loaded a p) (v : ℕ) where
+  refused-is : (b : Bool) → p .over ≡ b → unfit a ≡ b
+  refused-is b o = sym (l .over) ∙ o
+
+  pub member-refused : p .over ≡ true → 2 ≡ memberReply (unfit a) (setOf a) v
+  member-refused o = sym (ap (λ (b : Bool). memberReply b (setOf a) v) (refused-is true o))
+
+  pub member-off : p .over ≡ false → axis ≤ v → 3 ≡ memberReply (unfit a) (setOf a) v
+  member-off o h = sym (ap₂ (λ (b c : Bool). cond b 2 (cond c 3 (cond (setOf a v) 1 0))) (refused-is false o) (le-leb axis v h))
+
+  pub member-said : p .over ≡ false → v < axis → (b : Bool) → b ≡ member (p .set) v → cond b 1 0 ≡ memberReply (unfit a) (setOf a) v
+  member-said o h b e =
+      ap (λ (x : Bool). cond x 1 0) (e ∙ l .members o v h)
+      ∙ sym (ap₂ (λ (b c : Bool). cond b 2 (cond c 3 (cond (setOf a v) 1 0))) (refused-is false o) (lt-leb axis v h))
+
+  pub distance-refused : p .over ≡ true → 4294967295 ≡ distanceReply (unfit a) (setOf a) v
+  distance-refused o = sym (ap (λ (b : Bool). distanceReply b (setOf a) v) (refused-is true o))
+
+  pub distance-off : p .over ≡ false → axis ≤ v → 4294967294 ≡ distanceReply (unfit a) (setOf a) v
+  distance-off o h = sym (ap₂ (λ (b c : Bool). cond b 4294967295 (cond c 4294967294 (distance (setOf a) v))) (refused-is false o) (le-leb axis v h))
+
+  pub distance-said : p .over ≡ false → v < axis → (d : ℕ) → d ≡ distance (member (p .set)) v → d ≡ distanceReply (unfit a) (setOf a) v
+  distance-said o h d e =
+      e ∙ distance-ext (member (p .set)) (setOf a) v h (l .members o)
+      ∙ sym (ap₂ (λ (b c : Bool). cond b 4294967295 (cond c 4294967294 (distance (setOf a) v))) (refused-is false o) (lt-leb axis v h))

@@ -1,0 +1,3 @@
+pub mod Loading
+pub mod Delivery
+pub mod Repetition

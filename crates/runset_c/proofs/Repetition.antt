@@ -1,0 +1,72 @@
+-- The sum that repetitions make.
+use Prim.Native.Nat.{ℕ, zero, suc, _+_, _%_, _^_, _<_}
+use mathlib.Core.Path.{_≡_, refl, sym, ap, ap₂, _∙_}
+use mathlib.Core.Bool.{Bool, true, false, cond}
+use mathlib.Core.List.{List}
+use native.Mathlib.Omega.{arith}
+use native.Mathlib.Numerals.{add-one}
+use lib.Dec.{ltb, eqb}
+use lib.ListN.{getD}
+use borrow.Author.Tests.{eq-eqb, ne-eqb}
+use Rattle.number.specs.Axis.{axis}
+use Rattle.runset.specs.Runs.{mostRuns, runCount, lows}
+use Rattle.runset.specs.Set.{member, Makes}
+use Rattle.runset.specs.RunsLaws.{runCount-ext, lows-ext}
+use Rattle.runset.specs.declared.Made.{Made}
+use Rattle.runset_c.specs.Bytes.{sumOf, repeatReply}
+
+pub no-turn : (f : ℕ → Bool) → 0 ≡ repeatReply false f 0
+unfolding repeatReply sumOf
+no-turn f = by (ltb mostRuns (runCount f)) (eqb (runCount f) 0)
+  where
+    by : (a b : Bool) → _≡_ {A = ℕ} 0 (cond a 0 (cond b 0 0))
+    by true b = refl
+    by false true = refl
+    by false false = refl
+
+module _ (f : ℕ → Bool) (m : Made) (k : Makes f m) (times : ℕ) where
+  pub over-reply : m .over ≡ true → 0 ≡ repeatReply false f times
+  unfolding repeatReply
+  over-reply o = sym (ap (λ (b : Bool). cond b 0 (cond (eqb (runCount f) 0) 0 (sumOf f times))) (sym (k .over) ∙ o))
+
+  pub same-runs : m .over ≡ false → runCount (member (m .set)) ≡ runCount f
+  same-runs o = runCount-ext (member (m .set)) f (k .members o)
+
+  pub empty-reply : m .over ≡ false → (n : ℕ) → n ≡ runCount (member (m .set)) → n ≡ 0 → 0 ≡ repeatReply false f times
+  unfolding repeatReply
+  empty-reply o n e z =
+      sym (ap₂ (λ (a b : Bool). cond a 0 (cond b 0 (sumOf f times))) (sym (k .over) ∙ o) (eq-eqb (runCount f) 0 (sym (e ∙ same-runs o) ∙ z)))
+
+  sum-reply : m .over ≡ false → (n : ℕ) → n ≡ runCount (member (m .set)) → (n ≡ 0 → ⊥) → repeatReply false f times ≡ sumOf f times
+  unfolding repeatReply
+  sum-reply o n e z =
+      ap₂ (λ (a b : Bool). cond a 0 (cond b 0 (sumOf f times))) (sym (k .over) ∙ o) (ne-eqb (runCount f) 0 (λ q. z (e ∙ same-runs o ∙ q)))
+
+-- one more turn
+pub one-more : (f : ℕ → Bool) (m : Made) (k : Makes f m) (i total n low r : ℕ) → m .over ≡ false → n ≡ runCount (member (m .set)) → (n ≡ 0 → ⊥)
+    → total ≡ repeatReply false f i → low ≡ getD (lows (member (m .set))) (total % n) 0 → r ≡ (total + low) % 2 ^ 64 → r ≡ repeatReply false f (i + 1)
+unfolding sumOf
+one-more f m k i total n low r o e z t l s =
+    let q : total ≡ sumOf f i = t ∙ sum-reply f m k i o n e z in
+    let c : n ≡ runCount f = e ∙ same-runs f m k i o in
+    let w : low ≡ getD (lows f) (sumOf f i % runCount f) 0 =
+    l ∙ ap₂ (λ (x : List ℕ) (y : ℕ). getD x y 0) (lows-ext (member (m .set)) f (k .members o)) (ap₂ _%_ q c) in
+    s ∙ ap₂ (λ (x y : ℕ). (x + y) % 2 ^ 64) q w ∙ sym (ap (sumOf f) (add-one i)) ∙ sym (sum-reply f m k (i + 1) o n e z)
+
+pub refused-repeat : (refused : Bool) (f : ℕ → Bool) (times : ℕ) → refused ≡ true → 0 ≡ repeatReply refused f times
+unfolding repeatReply
+refused-repeat refused f times e =
+    sym (ap (λ (b : Bool). cond b 0 (cond (ltb mostRuns (runCount f)) 0 (cond (eqb (runCount f) 0) 0 (sumOf f times)))) e)
+
+-- the sum depends on the members alone
+sum-ext : (f g : ℕ → Bool) → ((v : ℕ) → v < axis → f v ≡ g v) → (n : ℕ) → sumOf f n ≡ sumOf g n
+unfolding sumOf
+sum-ext f g e zero = refl
+sum-ext f g e (suc n) =
+    let q : sumOf f n ≡ sumOf g n = sum-ext f g e n in
+    ap₂ (λ (x y : ℕ). (x + y) % 2 ^ 64) q (ap₂ (λ (x : List ℕ) (y : ℕ). getD x y 0) (lows-ext f g e) (ap₂ _%_ q (runCount-ext f g e)))
+
+pub repeat-ext : (f g : ℕ → Bool) → ((v : ℕ) → v < axis → f v ≡ g v) → (times : ℕ) → repeatReply false f times ≡ repeatReply false g times
+unfolding repeatReply
+repeat-ext f g e times =
+    ap₂ (λ (n s : ℕ). cond (ltb mostRuns n) 0 (cond (eqb n 0) 0 s)) (runCount-ext f g e) (sum-ext f g e times)

@@ -1,0 +1,76 @@
+-- The invariant: the sum so far is the reply to as many turns.
+use Prim.Native.Nat.{ℕ, _-_, _≤_, _<_, _%_}
+use mathlib.Core.Path.{_≡_, ap, _∙_}
+use mathlib.Core.Bool.{false}
+use native.Mathlib.Omega.{arith}
+use native.Mathlib.Nat.{mod-lt}
+use borrow.Author.Needs.{needs}
+use Rattle.runset.specs.Runs.{runCount}
+use Rattle.runset.specs.Set.{member}
+use Rattle.runset_c.specs.Bytes.{chosen, repeatReply}
+use Rattle.runset_c.proofs.Repetition.{no-turn, over-reply, empty-reply, one-more}
+use Rattle.runset_c.proofs.repeated.Statement.{statement}
+use Rattle.runset_c.proofs.repeated.Tie as tie
+
+positive : (n : ℕ) → (n ≡ 0 → ⊥) → 0 < n
+positive n h = omega arith
+
+abbrev Inv-loop : tie.InvT-loop
+Inv-loop op a b c times total₀ i₀ total i = (i ≤ times) × (total ≡ repeatReply false (chosen op (member a) (member b) (member c)) i)
+
+abbrev μ-loop : tie.MeasureT-loop
+μ-loop op a b c times total₀ i₀ total i = times - i
+
+loop-holds : tie.Need-loop-holds Inv-loop μ-loop
+loop-holds c = (omega arith, no-turn _)
+
+combine-requires : tie.Need-combine-requires Inv-loop μ-loop
+combine-requires c κs = c .before .before .pre
+
+returns : tie.Need-returns Inv-loop μ-loop
+returns c = let g = c .before .before .before .before .args in over-reply (chosen (g .op) (member (g .a)) (member (g .b)) (member (g .c))) _ (c .before .combine .ensures) (g .times) (c .if1 .taken)
+
+count-requires : tie.Need-count-requires Inv-loop μ-loop
+count-requires c κs = c .before .before .combine .ensures .valid
+
+returns-2 : tie.Need-returns-2 Inv-loop μ-loop
+returns-2 c =
+    let g = c .before .before .before .before .before .before .before .args in
+    empty-reply (chosen (g .op) (member (g .a)) (member (g .b)) (member (g .c))) _ (c .before .before .before .before .combine .ensures) (g .times) (c .before .before .before .if1 .left) _ (c .before .count .ensures) (c .if2 .taken)
+
+rem-k : tie.Need-rem-k Inv-loop μ-loop
+rem-k c = omega (arith, c .if2 .left)
+
+low-requires : tie.Need-low-requires Inv-loop μ-loop
+low-requires c κs =
+    let n = c .before .count .result in
+    let e : n ≡ runCount (member (c .before .before .before .before .combine .result .set)) = c .before .count .ensures in
+    (c .before .before .before .before .combine .ensures .valid, omega (arith, mod-lt (c .before .before .before .before .before .before .loop .total) (positive n (c .if2 .left))))
+
+cast-wrapping-add-u64 : tie.Need-cast-wrapping-add-u64 Inv-loop μ-loop
+cast-wrapping-add-u64 c = search needs
+
+wrapping-add-u64-requires : tie.Need-wrapping-add-u64-requires Inv-loop μ-loop
+wrapping-add-u64-requires c κs = search needs
+
+add-i : tie.Need-add-i Inv-loop μ-loop
+add-i c = omega arith
+
+loop-less : tie.Need-loop-less Inv-loop μ-loop
+loop-less c = omega arith
+
+loop-again : tie.Need-loop-again Inv-loop μ-loop
+loop-again c =
+    let g = c .before .before .before .before .before .before .before .before .before .args in
+    let l = c .before .before .before .before .before .before .before .before .loop in
+    (omega arith, one-more (chosen (g .op) (member (g .a)) (member (g .b)) (member (g .c))) _ (c .before .before .before .before .before .before .combine .ensures) (l .i) (l .total) _ _ _ (c .before .before .before .before .before .if1 .left) (c .before .before .before .count .ensures) (c .before .before .if2 .left) (l .inv .1) (c .before .low .ensures) (c .wrapping-add-u64 .ensures))
+
+returns-3 : tie.Need-returns-3 Inv-loop μ-loop
+returns-3 c =
+    let g = c .before .before .args in
+    let l = c .before .loop in
+    let e : l .i ≡ g .times = omega arith in
+    l .inv .1 ∙ ap (repeatReply false (chosen (g .op) (member (g .a)) (member (g .b)) (member (g .c)))) e
+
+pub repeated-spec : {M : Type 1} → statement M
+repeated-spec = tie.close (tie.spec Inv-loop μ-loop loop-holds combine-requires returns count-requires returns-2 rem-k low-requires cast-wrapping-add-u64 wrapping-add-u64-requires add-i loop-less loop-again returns-3)

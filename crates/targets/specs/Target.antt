@@ -1,0 +1,25 @@
+-- Document 01, refusal 12: a target on the axis and one off it.
+use Prim.Native.Nat.{_-_, _<_}
+use mathlib.Core.Path.{_≡_}
+use mathlib.Core.Bool.{Bool, true, false, _||_}
+use lib.IntN.{ℤ}
+use lib.Signed.{ltZ}
+use Rattle.number.specs.Axis.{axis, whole}
+use Rattle.targets.specs.declared.OnAxis.{OnAxis}
+use Rattle.targets.specs.declared.OnAxis.the-variants.{Index, Off}
+
+-- the ends of the axis, −2,000,000,000 and 2,000,000,000
+abbrev pub lowest : ℤ
+lowest = whole 0
+
+abbrev pub highest : ℤ
+highest = whole (axis - 1)
+
+-- a whole number is off the axis
+abbrev pub offAxis : ℤ → Bool
+offAxis z = ltZ z lowest || ltZ highest z
+
+-- the number at the index is z; Off exactly where z is off the axis
+abbrev pub Placed : ℤ → OnAxis → Type 0
+Placed z (Index n) = (offAxis z ≡ false) × (n < axis) × (whole n ≡ z)
+Placed z Off = offAxis z ≡ true

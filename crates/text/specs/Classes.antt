@@ -1,0 +1,24 @@
+-- Document 01, "The question text": each byte of the text falls in one class, digit, letter, sign or foreign.
+use Prim.Native.Nat.{ℕ}
+use mathlib.Core.Bool.{Bool, _&&_, _||_, cond}
+use lib.Dec.{leb, eqb}
+use Rattle.text.specs.declared.Class.{Class}
+use Rattle.text.specs.declared.Class.the-variants.{Digit, Letter, Sign, Foreign}
+
+abbrev pub within : ℕ → ℕ → ℕ → Bool
+within low high b = leb low b && leb b high
+
+-- `0` to `9`
+abbrev pub isDigit : ℕ → Bool
+isDigit b = within 48 57 b
+
+-- `A` to `Z` and `a` to `z`
+abbrev pub isLetter : ℕ → Bool
+isLetter b = within 65 90 b || within 97 122 b
+
+-- `!` `&` `(` `)` `,` `-` `<` `=` `>` `|`
+abbrev pub isSign : ℕ → Bool
+isSign b = eqb b 33 || (eqb b 38 || (within 40 41 b || (within 44 45 b || (within 60 62 b || eqb b 124))))
+
+unfoldable pub classOf : ℕ → Class
+classOf b = cond (isDigit b) Digit (cond (isLetter b) Letter (cond (isSign b) Sign Foreign))

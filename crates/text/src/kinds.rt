@@ -1,0 +1,54 @@
+// The kinds of nodes, in the order of the specification's table.
+
+// A field and v, a field and a number, and A and B.
+pub const COMPARE_V: u32 = 0;
+
+pub const COMPARE: u32 = 1;
+
+pub const A_TO_B: u32 = 2;
+
+pub const FALL: u32 = 3;
+
+pub const RISE: u32 = 4;
+
+// The listed questions.
+pub const HIGH: u32 = 5;
+
+pub const LOW: u32 = 6;
+
+pub const LOWAFTER: u32 = 7;
+
+pub const CAPAFTER: u32 = 8;
+
+pub const PEAKS: u32 = 9;
+
+pub const CROSS: u32 = 10;
+
+pub const AMPL: u32 = 11;
+
+pub const GAPS: u32 = 12;
+
+pub const STEPS: u32 = 13;
+
+pub const LAG: u32 = 14;
+
+// Operators over one text: `!`, X, F and G.
+pub const NOT: u32 = 15;
+
+pub const NEXT: u32 = 16;
+
+pub const FINALLY: u32 = 17;
+
+pub const GLOBALLY: u32 = 18;
+
+// Operators over two texts: `|`, `&`, U and W.
+pub const OR: u32 = 19;
+
+pub const AND: u32 = 20;
+
+pub const UNTIL: u32 = 21;
+
+pub const WEAK_UNTIL: u32 = 22;
+
+// A bracket, which is no node.
+pub const BRACKET: u32 = 23;

@@ -1,0 +1,6 @@
+pub mod Tops
+pub mod Scan
+pub mod EdgeLaws
+pub mod ScanLaws
+pub mod PickLaws
+pub mod TopLaws

@@ -1,0 +1,209 @@
+//! The proved sets beside sets of another making: maps from numbers to membership, and maximal runs counted there.
+use runset_compare::*;
+
+struct Random(u64);
+
+impl Random {
+    fn below(&mut self, n: u64) -> u64 {
+        self.0 = self.0.wrapping_mul(6364136223846793005).wrapping_add(1442695040888963407);
+        (self.0 >> 33) % n
+    }
+}
+
+/// Disjoint ascending runs that do not touch.
+fn joined(mut list: Vec<Run>) -> Vec<Run> {
+    list.retain(|r| r.0 <= r.1);
+    list.sort();
+    let mut out: Vec<Run> = vec![];
+    for (l, h) in list {
+        match out.last_mut() {
+            Some(last) if l <= last.1 + 1 => last.1 = last.1.max(h),
+            _ => out.push((l, h)),
+        }
+    }
+    out
+}
+
+fn member(set: &[Run], v: i64) -> bool {
+    set.iter().any(|r| r.0 <= v && v <= r.1)
+}
+
+fn wanted(op: Op, a: bool, b: bool, c: bool) -> bool {
+    match op {
+        Op::Or => a || b,
+        Op::And => a && b,
+        Op::Not => !a,
+        Op::OrAnd => a || (b && c),
+    }
+}
+
+/// The maximal runs of an operation, found by asking for membership at every number where it can change.
+fn expected(op: Op, a: &[Run], b: &[Run], c: &[Run]) -> Vec<Run> {
+    let mut cuts: Vec<i64> = [a, b, c].concat().iter().flat_map(|r| [r.0, r.1 + 1]).collect();
+    cuts.extend([LOW, HIGH + 1]);
+    cuts.sort();
+    cuts.dedup();
+    let pieces = cuts.windows(2).filter(|w| wanted(op, member(a, w[0]), member(b, w[0]), member(c, w[0])));
+    joined(pieces.map(|w| (w[0], w[1] - 1)).collect())
+}
+
+fn check(op: Op, a: &[Run], b: &[Run], c: &[Run]) {
+    let want = expected(op, a, b, c);
+    let mut out = vec![7u8; 8 * 200];
+    let n = combine(op, &bytes(a), &bytes(b), &bytes(c), &mut out);
+    if want.len() > 64 {
+        assert_eq!(n, OVER, "{op:?} {a:?} {b:?} {c:?}");
+        assert!(out.iter().all(|&x| x == 7));
+        return;
+    }
+    assert_eq!(n as usize, want.len(), "{op:?} {a:?} {b:?} {c:?}");
+    assert_eq!(runs(&out[..8 * want.len()]), want);
+    assert!(out[8 * want.len()..].iter().all(|&x| x == 7));
+    // an output that just fits, and one byte less
+    let mut fit = vec![7u8; 8 * want.len()];
+    assert_eq!(combine(op, &bytes(a), &bytes(b), &bytes(c), &mut fit), n);
+    assert_eq!(fit, bytes(&want));
+    if !want.is_empty() {
+        let mut short = vec![7u8; 8 * want.len() - 1];
+        assert_eq!(combine(op, &bytes(a), &bytes(b), &bytes(c), &mut short), SHORT);
+        assert!(short.iter().all(|&x| x == 7));
+    }
+}
+
+fn check_all(a: &[Run], b: &[Run], c: &[Run]) {
+    for op in OPS {
+        check(op, a, b, c);
+    }
+}
+
+/// At most 64 runs in a window of numbers, many of them touching or overlapping before they are joined.
+fn random_set(r: &mut Random, from: i64, width: u64, longest: u64) -> Vec<Run> {
+    let n = r.below(80);
+    let list = (0..n)
+        .map(|_| {
+            let l = from + r.below(width) as i64;
+            (l, (l + r.below(longest) as i64).min(HIGH))
+        })
+        .collect();
+    let mut set = joined(list);
+    set.truncate(64);
+    set
+}
+
+#[test]
+fn random_sets_in_windows() {
+    let mut r = Random(1);
+    for k in 0..4000 {
+        let (width, longest) = [(200, 3), (300, 2), (1000, 12), (100_000, 900)][k % 4];
+        let from = [LOW, -50, HIGH - width as i64 + 1, 123_456][k / 4 % 4];
+        let set = |r: &mut Random| random_set(r, from, width, longest);
+        let (a, b, c) = (set(&mut r), set(&mut r), set(&mut r));
+        check_all(&a, &b, &c);
+    }
+}
+
+#[test]
+fn members_and_distances() {
+    let mut r = Random(2);
+    for k in 0..600 {
+        let (width, longest) = [(200, 3), (1000, 12), (4_000_000_000, 90_000_000)][k % 3];
+        let from = if width > 1000 { LOW } else { [LOW, -50, HIGH - 999][k / 3 % 3] };
+        let a = random_set(&mut r, from, width, longest);
+        let x = bytes(&a);
+        for _ in 0..40 {
+            let v = (from + r.below(width + 3) as i64 - 1).clamp(LOW, HIGH);
+            assert_eq!(has(&x, v), member(&a, v) as u32);
+            let near = a.iter().map(|q| (q.0 - v).max(v - q.1).max(0)).min();
+            assert_eq!(distance(&x, v), near.map_or(AXIS, |d| d as u32), "{a:?} {v}");
+        }
+    }
+    assert_eq!(distance(&bytes(&[(LOW, LOW)]), HIGH), 4_000_000_000);
+    assert_eq!(distance(&[], 5), AXIS);
+    assert_eq!(has(&[], HIGH + 1), 3);
+    assert_eq!(distance(&[], HIGH + 1), OFF_AXIS);
+}
+
+#[test]
+fn touching_runs_join() {
+    check_all(&[(3, 5)], &[(6, 9)], &[]);
+    let mut out = [0u8; 8];
+    assert_eq!(combine(Op::Or, &bytes(&[(3, 5)]), &bytes(&[(6, 9)]), &[], &mut out), 1);
+    assert_eq!(runs(&out), [(3, 9)]);
+}
+
+fn apart(n: i64, from: i64, step: i64) -> Vec<Run> {
+    (0..n).map(|k| (from + k * step, from + k * step)).collect()
+}
+
+#[test]
+fn the_limit_is_exact() {
+    // 64 runs inside the axis have a complement of 65, with a run at an axis end of 64
+    for (set, over) in [(apart(64, 5, 10), true), (apart(64, LOW, 10), false), (apart(64, HIGH - 630, 10), false), (apart(63, 5, 10), false)] {
+        let mut out = [0u8; 512];
+        assert_eq!(combine(Op::Not, &bytes(&set), &[], &[], &mut out) == OVER, over);
+        check_all(&set, &apart(64, 10, 10), &apart(32, 0, 20));
+    }
+    // 64 and 65 runs in all; and 128 that join to one
+    check_all(&apart(40, 0, 10), &apart(24, 405, 10), &[]);
+    check_all(&apart(40, 0, 10), &apart(25, 405, 10), &[]);
+    check_all(&apart(64, 0, 2), &apart(64, 1, 2), &[(0, 200)]);
+    // what b and c share has 127 runs; with a it is one
+    let comb = |from: i64| (0..64).map(|k| (from + 10 * k, from + 10 * k + 7)).collect::<Vec<_>>();
+    check_all(&[], &comb(0), &comb(5));
+    check_all(&[(0, 700)], &comb(0), &comb(5));
+    check_all(&[(0, 320)], &comb(0), &comb(5));
+}
+
+#[test]
+fn the_ends_of_the_axis() {
+    let (first, last, all) = ([(LOW, LOW)], [(HIGH, HIGH)], [(LOW, HIGH)]);
+    for a in [&[][..], &first, &last, &all, &[(LOW, -1), (1, HIGH)]] {
+        for b in [&[][..], &first, &last, &all, &[(LOW + 1, HIGH - 1)]] {
+            check_all(a, b, &all);
+            check_all(a, b, &[]);
+        }
+    }
+}
+
+#[test]
+fn refused_bytes() {
+    let mut out = [9u8; 16];
+    let off = [HIGH as i32 as u32, (HIGH + 1) as u32].map(|x| x.to_le_bytes()).concat();
+    assert_eq!(combine(Op::Or, &off, &[], &[], &mut out), REFUSED);
+    assert_eq!(combine(Op::Or, &bytes(&apart(65, 0, 2)), &[], &[], &mut out), REFUSED);
+    assert_eq!(out, [9u8; 16]);
+    assert_eq!(has(&off, 0), 2);
+}
+
+/// The plain Rust that the measurement compares with gives the same sets.
+#[test]
+fn plain_is_the_same() {
+    let mut r = Random(3);
+    let set = |list: &[Run]| {
+        let mut s = plain::EMPTY;
+        for (k, q) in list.iter().enumerate() {
+            s.cuts[2 * k] = index(q.0);
+            s.cuts[2 * k + 1] = index(q.1) + 1;
+        }
+        s.n = 2 * list.len();
+        s
+    };
+    for _ in 0..2000 {
+        let mut one = || random_set(&mut r, -50, 300, 4);
+        let (a, b, c) = (one(), one(), one());
+        for op in OPS {
+            let want = expected(op, &a, &b, &c);
+            let (x, y, z) = (set(&a), set(&b), set(&c));
+            let made = match op {
+                Op::Or => x.or(y),
+                Op::And => x.and(y),
+                Op::Not => x.not(),
+                Op::OrAnd => x.or_and(y, z),
+            };
+            assert_eq!(made.over, want.len() > 64);
+            if !made.over {
+                assert_eq!(made.set, set(&want));
+            }
+        }
+    }
+}
