@@ -1,0 +1,45 @@
+-- Document 01, "The boundary": what each call of the library returns, and what it leaves in the caller's memory.
+use Prim.Native.Nat.{ℕ}
+use mathlib.Core.Path.{_≡_}
+use mathlib.Core.List.{List}
+use lib.IntN.{ℤ}
+use Rattle.refusal.specs.Outcome.{Outcome, result, refused, judged, NoneMeets}
+use Rattle.recording.specs.Recording.{readings}
+use Rattle.recording.specs.Output.{counted, outputAfter}
+use Rattle.tops.specs.Tops.{curveOf}
+use Rattle.pair.specs.Pair.{Given, times, none, Right, pairLines}
+use Rattle.reply.specs.Reply.{packed}
+
+-- ---- thinning
+
+-- a call that writes bytes returns how many they are, or its refusal; behind the result, and after a refusal, the output stays
+pub record Writes (outcome : Outcome (List ℕ)) (old : List ℕ) (r : ℕ) (new : List ℕ) : Type 0 where
+  pub returned : r ≡ packed (counted outcome)
+  pub output : new ≡ outputAfter outcome old
+
+-- ---- the pair
+
+-- 1 for a pair, 0 for none
+abbrev pub told : Outcome Given → Outcome ℕ
+told (result (times t u)) = result 1
+told (result none) = result 0
+told (refused n p) = refused n p
+
+-- a pair's times are written, the earlier to the first place and the later to the second; else both places stay
+abbrev pub earlierAfter : Outcome Given → ℕ → ℕ
+earlierAfter (result (times t u)) old = t
+earlierAfter (result none) old = old
+earlierAfter (refused n p) old = old
+
+abbrev pub laterAfter : Outcome Given → ℕ → ℕ
+laterAfter (result (times t u)) old = u
+laterAfter (result none) old = old
+laterAfter (refused n p) old = old
+
+-- THE COMPLETE OUTCOME of the pair call: what it returns, and the two places, `earlier` and `later` before, `first` and `second` after
+pub record Pairs (bytes : List ℕ) (curve : ℕ) (g : ℤ) (earlier later r first second : ℕ) : Type 0 where
+  pub given : Given
+  pub right : NoneMeets (pairLines bytes curve g) → Right (readings bytes) (curveOf curve) g given
+  pub returned : r ≡ packed (told (judged (pairLines bytes curve g) given))
+  pub first-place : first ≡ earlierAfter (judged (pairLines bytes curve g) given) earlier
+  pub second-place : second ≡ laterAfter (judged (pairLines bytes curve g) given) later

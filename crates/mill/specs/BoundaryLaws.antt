@@ -1,0 +1,64 @@
+-- Laws of the boundary: the result and the place fit in the low half of what a call returns, so that a reply can be told from another.
+use Prim.Native.Nat.{ℕ, suc, _*_, _/_, _≤_, _<_}
+use native.Mathlib.Omega.{arith}
+use mathlib.Core.Path.{_≡_, refl, ap}
+use mathlib.Core.Bool.{Bool, true, false}
+use mathlib.Core.List.{List, [], _∷_, _++_}
+use lib.IntN.{ℤ}
+use lib.ListN.{length}
+use borrow.Author.Tests.{ltb-false}
+use Rattle.refusal.specs.Outcome.{Outcome, result, refused, Line, judged}
+use Rattle.recording.specs.Condition.{Condition, pick, pickFrom, when, on}
+use Rattle.recording.specs.Recording.{Raw, records, reading, recordingLines, mostRecords}
+use Rattle.recording.specs.Output.{counted, outputLine}
+use Rattle.recording.specs.RecordLaws.{length-flat, length-records}
+use Rattle.recording.specs.OutcomeLaws.{result-none, none-append}
+use Rattle.kept.specs.Kept.{keptFor}
+use Rattle.thin.specs.Thin.{keptBytes, marksOf, marksLine, thinOf}
+use Rattle.thin.specs.BookLaws.{kept-sixteens}
+use Rattle.pair.specs.Pair.{Given, pairLines, acceptedLines}
+use Rattle.reply.specs.Reply.{half, InHalf}
+use Rattle.reply.specs.PlaceLaws.{place-below}
+
+-- ---- bytes written
+
+pick-most : {X : Type 0} (ρ : Condition X) (before xs : List X) → length (pickFrom ρ before xs) ≤ length xs
+pick-most ρ before [] = omega arith
+pick-most {X} ρ before (x ∷ xs) = go (ρ before x xs) (pick-most ρ (x ∷ before) xs)
+  where
+    go : (k : Bool) → length (pickFrom ρ (x ∷ before) xs) ≤ length xs → length (when k x (pickFrom ρ (x ∷ before) xs)) ≤ suc (length xs)
+    go true h = omega arith
+    go false h = omega arith
+
+-- kept readings are no more than the readings
+pub kept-most : (marks bytes : List ℕ) → length (keptBytes marks bytes) ≤ 16 * (length bytes / 16)
+unfolding keptBytes
+kept-most marks bytes =
+    let ρ : Condition Raw = on reading (keptFor marks) in
+    let a = length-flat (pick ρ (records bytes)) (kept-sixteens marks bytes) in
+    let b = pick-most ρ [] (records bytes) in
+    let c = length-records bytes in
+    omega arith
+
+-- ---- the calls
+
+pub thin-in-half : (bytes marks : List ℕ) (room : ℕ) → InHalf (counted (thinOf bytes marks room))
+unfolding thinOf
+thin-in-half bytes marks room = go (thinOf bytes marks room) refl
+  where
+    kept : List ℕ
+    kept = keptBytes (marksOf marks) bytes
+
+    go : (o : Outcome (List ℕ)) → thinOf bytes marks room ≡ o → InHalf (counted o)
+    go (refused n p) e = place-below bytes (marksLine marks ∷ outputLine room (keptBytes (marksOf marks) bytes) ∷ []) (keptBytes (marksOf marks) bytes) n p (refl, (refl, tt)) e
+    go (result written) e =
+        let ls : List Line = marksLine marks ∷ outputLine room (keptBytes (marksOf marks) bytes) ∷ [] in
+        let k = result-none (recordingLines bytes ++ ls) (keptBytes (marksOf marks) bytes) written e in
+        let a = none-append (recordingLines bytes) ls (k .0) .0 in
+        let m : length bytes / 16 ≤ mostRecords = ltb-false mostRecords (length bytes / 16) (a .1 .0) in
+        let q = kept-most (marksOf marks) bytes in
+        let l = ap length (k .1) in
+        omega arith
+
+pub pair-place : (bytes : List ℕ) (curve : ℕ) (g : ℤ) (given : Given) (n p : ℕ) → judged (pairLines bytes curve g) given ≡ refused n p → p < half
+pair-place bytes curve g given n p e = place-below bytes (acceptedLines bytes curve g) given n p (refl, (refl, (refl, tt))) e

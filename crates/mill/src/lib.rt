@@ -1,0 +1,40 @@
+// The C boundary of the library.
+ghost use mathlib.Core.Path.{_≡_};
+ghost use lib.ListN.{length};
+ghost use Rattle.thin.specs.Thin.{thinOf};
+ghost use Rattle.mill.specs.Boundary.{Writes, Pairs};
+
+// THE THINNING CALL. Returns how many bytes of the output the kept readings take, or the refusal.
+#[no_mangle]
+pub extern "C" fn mill_thin(rec: &[u8], marks: &[u8], out: &mut [u8]) -> u64
+    ensures { λ r. ⌜ Writes (thinOf (now (rec .entry)) (now (marks .entry)) (length (now (out .entry)))) (now (out .entry)) r (now (out .exit)) ⌝ }
+{
+    let written = thin::thin(rec, marks, out);
+    match written {
+        recording::Written::Bytes(n) => n as u64,
+        recording::Written::Refused(x) => reply::refused(x),
+    }
+}
+
+// THE PAIR CALL. Returns 1 where the times of a pair are written, 0 where there is none, or the refusal.
+#[no_mangle]
+pub extern "C" fn mill_pair(
+    rec: &[u8],
+    curve: u32,
+    target: i64,
+    earlier: &mut u32,
+    later: &mut u32,
+) -> u64
+    ensures { λ r. ⌜ Pairs (now (rec .entry)) curve target (now (earlier .entry)) (now (later .entry)) r (now (earlier .exit)) (now (later .exit)) ⌝ }
+{
+    let found = pair::pair(rec, curve, target);
+    match found {
+        pair::TopPair::Times(t, u) => {
+            *earlier = t;
+            *later = u;
+            1
+        }
+        pair::TopPair::Nothing => 0,
+        pair::TopPair::Refused(x) => reply::refused(x),
+    }
+}

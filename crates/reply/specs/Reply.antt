@@ -1,0 +1,17 @@
+-- Document 01, "When no result is given": an outcome as the one number that a call returns.
+use Prim.Native.Nat.{ℕ, _+_, _*_, _<_}
+use Rattle.refusal.specs.Outcome.{Outcome, result, refused}
+
+-- the size of either half of 64 bits
+abbrev pub half : ℕ
+half = 4294967296
+
+-- in the high half the refusal's number, 0 for a result; in the low half the result, or the refusal's place
+abbrev pub packed : Outcome ℕ → ℕ
+packed (result n) = n
+packed (refused k p) = k * half + p
+
+-- what stands in the low half fits in it, so that both halves can be told apart
+abbrev pub InHalf : Outcome ℕ → Type 0
+InHalf (result n) = n < half
+InHalf (refused k p) = p < half

@@ -1,0 +1,264 @@
+//! Recordings of bead mills, their thinning and pairs of tops: a safe wrapper of the proved library behind `include/mill.h`.
+//!
+//! A recording goes in as bytes, 16 to a reading ([`Reading::to_bytes`] makes them). Every call answers with a result or with
+//! one numbered [`Refusal`], for any bytes.
+
+#[doc(hidden)]
+pub mod plain;
+#[doc(hidden)]
+pub mod reference;
+pub mod sys;
+
+/// A curve of the recording.
+#[derive(Clone, Copy, PartialEq, Eq, Debug)]
+pub enum Curve {
+    /// The batch.
+    A,
+    /// The master.
+    B,
+}
+
+/// What the head says a curve does at a reading.
+#[derive(Clone, Copy, PartialEq, Eq, Debug)]
+pub enum Slope {
+    Falling,
+    Flat,
+    Rising,
+}
+
+/// One reading of a recording.
+#[derive(Clone, Copy, PartialEq, Eq, Debug)]
+pub struct Reading {
+    /// In tenths of a second.
+    pub time: u32,
+    pub a: i32,
+    pub b: i32,
+    pub slope_a: Slope,
+    pub slope_b: Slope,
+}
+
+impl Reading {
+    /// The 16 bytes of the reading in a recording.
+    pub fn to_bytes(self) -> [u8; sys::MILL_RECORD_BYTES] {
+        let mut bytes = [0; sys::MILL_RECORD_BYTES];
+        bytes[0..4].copy_from_slice(&self.time.to_le_bytes());
+        bytes[4..8].copy_from_slice(&self.a.to_le_bytes());
+        bytes[8..12].copy_from_slice(&self.b.to_le_bytes());
+        bytes[12] = self.slope_a.to_byte();
+        bytes[13] = self.slope_b.to_byte();
+        bytes
+    }
+}
+
+impl Slope {
+    fn to_byte(self) -> u8 {
+        match self {
+            Slope::Falling => sys::MILL_FALLING,
+            Slope::Flat => sys::MILL_FLAT,
+            Slope::Rising => sys::MILL_RISING,
+        }
+    }
+}
+
+/// The whole numbers from `low` to `high`, both included.
+#[cfg(feature = "questions")]
+#[derive(Clone, Copy, PartialEq, Eq, Debug)]
+pub struct Run {
+    pub low: i32,
+    pub high: i32,
+}
+
+/// How near the numbers of a question's set come to a wanted one.
+#[cfg(feature = "questions")]
+#[derive(Clone, Copy, PartialEq, Debug)]
+pub enum Degree {
+    /// The wanted number is in the set.
+    Met,
+    /// It is not: the distance to the nearest member, and 1 / (1 + distance).
+    Short { distance: u32, degree: f64 },
+    /// The set is empty.
+    NoValue,
+}
+
+/// The times of two tops.
+#[derive(Clone, Copy, PartialEq, Eq, Debug)]
+pub struct Pair {
+    pub earlier: u32,
+    pub later: u32,
+}
+
+/// Why a call gives no result.
+#[derive(Clone, Copy, PartialEq, Eq, Debug)]
+pub enum Refusal {
+    /// 1: the recording is not a multiple of 16 bytes.
+    PartialRecord,
+    /// 2: it has over 4,096 records.
+    TooManyRecords,
+    /// 3: the first record that breaks its rules.
+    BadRecord { index: u32 },
+    /// 4: the recording has no record.
+    NoRecord,
+    /// 5: the text is empty or over 256 bytes.
+    TextLength,
+    /// 6: the text has no reading.
+    NoReading,
+    /// 7: the text has over 32 nodes, or over 16 brackets open at once.
+    TextTooLarge,
+    /// 8: a node's set has over 64 runs.
+    TooManyRuns,
+    /// 9: a curve that is asked for its tops has over 256 of them.
+    TooManyTops,
+    /// 10: the output is shorter than the result.
+    ShortOutput,
+    /// 11: the marks are not 4 bytes each, over 8, or too large.
+    BadMarks,
+    /// 12: the target is off the axis.
+    BadTarget,
+}
+
+impl Refusal {
+    /// The number of the refusal in the table.
+    pub fn number(self) -> u32 {
+        match self {
+            Refusal::PartialRecord => sys::MILL_PARTIAL_RECORD,
+            Refusal::TooManyRecords => sys::MILL_TOO_MANY_RECORDS,
+            Refusal::BadRecord { .. } => sys::MILL_BAD_RECORD,
+            Refusal::NoRecord => sys::MILL_NO_RECORD,
+            Refusal::TextLength => sys::MILL_TEXT_LENGTH,
+            Refusal::NoReading => sys::MILL_NO_READING,
+            Refusal::TextTooLarge => sys::MILL_TEXT_TOO_LARGE,
+            Refusal::TooManyRuns => sys::MILL_TOO_MANY_RUNS,
+            Refusal::TooManyTops => sys::MILL_TOO_MANY_TOPS,
+            Refusal::ShortOutput => sys::MILL_SHORT_OUTPUT,
+            Refusal::BadMarks => sys::MILL_BAD_MARKS,
+            Refusal::BadTarget => sys::MILL_BAD_TARGET,
+        }
+    }
+
+    /// The record's index for number 3, else 0.
+    pub fn place(self) -> u32 {
+        match self {
+            Refusal::BadRecord { index } => index,
+            _ => 0,
+        }
+    }
+
+    /// The refusal that a call's return value carries, none for a result.
+    pub fn of_returned(returned: u64) -> Option<Refusal> {
+        let refusal = match sys::mill_number(returned) {
+            0 => return None,
+            sys::MILL_PARTIAL_RECORD => Refusal::PartialRecord,
+            sys::MILL_TOO_MANY_RECORDS => Refusal::TooManyRecords,
+            sys::MILL_BAD_RECORD => Refusal::BadRecord { index: sys::mill_place(returned) },
+            sys::MILL_NO_RECORD => Refusal::NoRecord,
+            sys::MILL_TEXT_LENGTH => Refusal::TextLength,
+            sys::MILL_NO_READING => Refusal::NoReading,
+            sys::MILL_TEXT_TOO_LARGE => Refusal::TextTooLarge,
+            sys::MILL_TOO_MANY_RUNS => Refusal::TooManyRuns,
+            sys::MILL_TOO_MANY_TOPS => Refusal::TooManyTops,
+            sys::MILL_SHORT_OUTPUT => Refusal::ShortOutput,
+            sys::MILL_BAD_MARKS => Refusal::BadMarks,
+            sys::MILL_BAD_TARGET => Refusal::BadTarget,
+            number => unreachable!("the library gives no refusal {number}"),
+        };
+        Some(refusal)
+    }
+}
+
+impl std::fmt::Display for Refusal {
+    fn fmt(&self, f: &mut std::fmt::Formatter<'_>) -> std::fmt::Result {
+        write!(f, "refused {} {}", self.number(), self.place())
+    }
+}
+
+impl std::error::Error for Refusal {}
+
+#[cfg(feature = "library")]
+mod calls {
+    use super::{sys, Curve, Pair, Refusal};
+    #[cfg(feature = "questions")]
+    use super::{Degree, Run};
+
+    /// The set of all numbers that make the text true of the recording, as ascending maximal runs.
+    #[cfg(feature = "questions")]
+    pub fn question(recording: &[u8], text: &[u8]) -> Result<Vec<Run>, Refusal> {
+        let mut out = [0; sys::MILL_MAX_RUNS * sys::MILL_RUN_BYTES];
+        let length = question_into(recording, text, &mut out)?;
+        let number = |at: usize| i32::from_le_bytes([out[at], out[at + 1], out[at + 2], out[at + 3]]);
+        Ok((0..length).step_by(sys::MILL_RUN_BYTES).map(|at| Run { low: number(at), high: number(at + 4) }).collect())
+    }
+
+    /// The same set as bytes in `out`, 8 to a run, and how many they are. What is behind them stays as it was.
+    #[cfg(feature = "questions")]
+    pub fn question_into(recording: &[u8], text: &[u8], out: &mut [u8]) -> Result<usize, Refusal> {
+        // SAFETY: each pointer is a live slice's with its own length, and `out` is borrowed alone.
+        let returned = unsafe {
+            sys::mill_question(recording.as_ptr(), recording.len(), text.as_ptr(), text.len(), out.as_mut_ptr(), out.len())
+        };
+        bytes_written(returned)
+    }
+
+    /// How near the text's set comes to `target`.
+    #[cfg(feature = "questions")]
+    pub fn degree(recording: &[u8], text: &[u8], target: i64) -> Result<Degree, Refusal> {
+        let (mut distance, mut degree) = (0, 0.0);
+        // SAFETY: each pointer is a live slice's with its own length, or a live number's.
+        let returned = unsafe {
+            sys::mill_degree(recording.as_ptr(), recording.len(), text.as_ptr(), text.len(), target, &mut distance, &mut degree)
+        };
+        match (Refusal::of_returned(returned), returned) {
+            (Some(refusal), _) => Err(refusal),
+            (None, sys::MILL_MET) => Ok(Degree::Met),
+            (None, sys::MILL_SHORT) => Ok(Degree::Short { distance, degree }),
+            (None, sys::MILL_NO_VALUE) => Ok(Degree::NoValue),
+            (None, other) => unreachable!("mill_degree gives no {other}"),
+        }
+    }
+
+    /// Two tops of the curve whose times lie `target` apart, if there are any.
+    pub fn pair(recording: &[u8], curve: Curve, target: i64) -> Result<Option<Pair>, Refusal> {
+        let curve = match curve {
+            Curve::A => sys::MILL_CURVE_A,
+            Curve::B => sys::MILL_CURVE_B,
+        };
+        let (mut earlier, mut later) = (0, 0);
+        // SAFETY: the pointer is a live slice's with its length, the others are live numbers'.
+        let returned = unsafe { sys::mill_pair(recording.as_ptr(), recording.len(), curve, target, &mut earlier, &mut later) };
+        match (Refusal::of_returned(returned), returned) {
+            (Some(refusal), _) => Err(refusal),
+            (None, sys::MILL_PAIR) => Ok(Some(Pair { earlier, later })),
+            (None, sys::MILL_NO_PAIR) => Ok(None),
+            (None, other) => unreachable!("mill_pair gives no {other}"),
+        }
+    }
+
+    /// The kept readings of the recording under the marks.
+    pub fn thin(recording: &[u8], marks: &[u32]) -> Result<Vec<u8>, Refusal> {
+        let marks: Vec<u8> = marks.iter().flat_map(|mark| mark.to_le_bytes()).collect();
+        let mut out = vec![0; recording.len().min(sys::MILL_MAX_RECORDS * sys::MILL_RECORD_BYTES)];
+        let length = thin_into(recording, &marks, &mut out)?;
+        out.truncate(length);
+        Ok(out)
+    }
+
+    /// The same kept readings in `out`, and how many bytes they are. What is behind them stays as it was.
+    pub fn thin_into(recording: &[u8], marks: &[u8], out: &mut [u8]) -> Result<usize, Refusal> {
+        // SAFETY: each pointer is a live slice's with its own length, and `out` is borrowed alone.
+        let returned = unsafe {
+            sys::mill_thin(recording.as_ptr(), recording.len(), marks.as_ptr(), marks.len(), out.as_mut_ptr(), out.len())
+        };
+        bytes_written(returned)
+    }
+
+    fn bytes_written(returned: u64) -> Result<usize, Refusal> {
+        match Refusal::of_returned(returned) {
+            Some(refusal) => Err(refusal),
+            None => Ok(sys::mill_place(returned) as usize),
+        }
+    }
+}
+
+#[cfg(feature = "questions")]
+pub use calls::{degree, question, question_into};
+#[cfg(feature = "library")]
+pub use calls::{pair, thin, thin_into};

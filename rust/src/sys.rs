@@ -1,0 +1,109 @@
+//! The C boundary as `include/mill.h` declares it: its calls and its named numbers.
+
+/// The least number of the axis.
+pub const MILL_AXIS_LOW: i64 = -2_000_000_000;
+/// The greatest number of the axis.
+pub const MILL_AXIS_HIGH: i64 = 2_000_000_000;
+
+pub const MILL_RECORD_BYTES: usize = 16;
+#[cfg(feature = "questions")]
+pub const MILL_RUN_BYTES: usize = 8;
+pub const MILL_MARK_BYTES: usize = 4;
+
+pub const MILL_MAX_RECORDS: usize = 4096;
+pub const MILL_MAX_TIME: u32 = 2_000_000_000;
+pub const MILL_MAX_VALUE: i32 = 1_000_000_000;
+pub const MILL_MIN_VALUE: i32 = -1_000_000_000;
+#[cfg(feature = "questions")]
+pub const MILL_MAX_TEXT: usize = 256;
+#[cfg(feature = "questions")]
+pub const MILL_MAX_NODES: usize = 32;
+#[cfg(feature = "questions")]
+pub const MILL_MAX_BRACKETS: usize = 16;
+#[cfg(feature = "questions")]
+pub const MILL_MAX_RUNS: usize = 64;
+pub const MILL_MAX_TOPS: usize = 256;
+pub const MILL_MAX_MARKS: usize = 8;
+pub const MILL_MAX_MARK: u32 = 2_000_000_000;
+
+pub const MILL_FALLING: u8 = 0;
+pub const MILL_FLAT: u8 = 1;
+pub const MILL_RISING: u8 = 2;
+
+pub const MILL_CURVE_A: u32 = 0;
+pub const MILL_CURVE_B: u32 = 1;
+
+#[cfg(feature = "questions")]
+pub const MILL_MET: u64 = 0;
+#[cfg(feature = "questions")]
+pub const MILL_SHORT: u64 = 1;
+#[cfg(feature = "questions")]
+pub const MILL_NO_VALUE: u64 = 2;
+
+pub const MILL_NO_PAIR: u64 = 0;
+pub const MILL_PAIR: u64 = 1;
+
+pub const MILL_PARTIAL_RECORD: u32 = 1;
+pub const MILL_TOO_MANY_RECORDS: u32 = 2;
+pub const MILL_BAD_RECORD: u32 = 3;
+pub const MILL_NO_RECORD: u32 = 4;
+pub const MILL_TEXT_LENGTH: u32 = 5;
+pub const MILL_NO_READING: u32 = 6;
+pub const MILL_TEXT_TOO_LARGE: u32 = 7;
+pub const MILL_TOO_MANY_RUNS: u32 = 8;
+pub const MILL_TOO_MANY_TOPS: u32 = 9;
+pub const MILL_SHORT_OUTPUT: u32 = 10;
+pub const MILL_BAD_MARKS: u32 = 11;
+pub const MILL_BAD_TARGET: u32 = 12;
+
+/// The number of the refusal in a return value, 0 for a result.
+pub const fn mill_number(returned: u64) -> u32 {
+    (returned >> 32) as u32
+}
+
+/// The place of the refusal in a return value.
+pub const fn mill_place(returned: u64) -> u32 {
+    returned as u32
+}
+
+#[cfg(feature = "library")]
+extern "C" {
+    #[cfg(feature = "questions")]
+    pub fn mill_question(
+        recording: *const u8,
+        recording_len: usize,
+        text: *const u8,
+        text_len: usize,
+        out: *mut u8,
+        out_len: usize,
+    ) -> u64;
+
+    #[cfg(feature = "questions")]
+    pub fn mill_degree(
+        recording: *const u8,
+        recording_len: usize,
+        text: *const u8,
+        text_len: usize,
+        target: i64,
+        distance: *mut u32,
+        degree: *mut f64,
+    ) -> u64;
+
+    pub fn mill_pair(
+        recording: *const u8,
+        recording_len: usize,
+        curve: u32,
+        target: i64,
+        earlier: *mut u32,
+        later: *mut u32,
+    ) -> u64;
+
+    pub fn mill_thin(
+        recording: *const u8,
+        recording_len: usize,
+        marks: *const u8,
+        marks_len: usize,
+        out: *mut u8,
+        out_len: usize,
+    ) -> u64;
+}

@@ -1,0 +1,180 @@
+//! Covers: the C boundary itself: null with length 0, inputs that overlap, lengths past 32 bits, and that the guards hold.
+
+use crate::guarded::{Against, Guarded};
+#[cfg(feature = "questions")]
+use crate::support::recordings::flat;
+use crate::support::recordings::r1_bytes;
+#[cfg(feature = "questions")]
+use mill::reference::recording::bytes;
+#[cfg(feature = "questions")]
+use mill::sys::{mill_degree, mill_question};
+use mill::sys::{mill_pair, mill_thin};
+use std::ptr::{null, null_mut};
+
+fn refusal(number: u64) -> u64 {
+    number << 32
+}
+
+#[test]
+fn null_with_length_0() {
+    let r1 = r1_bytes();
+    let (recording, length) = (r1.as_ptr(), r1.len());
+    let (mut earlier, mut later) = (77u32, 78u32);
+    // SAFETY: each pointer lies before as many bytes as its length says; null goes with 0.
+    unsafe {
+        assert_eq!(mill_pair(null(), 0, 0, 40, &mut earlier, &mut later), refusal(4));
+        assert_eq!((earlier, later), (77, 78));
+        assert_eq!(mill_thin(null(), 0, null(), 0, null_mut(), 0), 0);
+        assert_eq!(mill_thin(null(), 0, [0u8; 3].as_ptr(), 3, null_mut(), 0), refusal(11));
+        assert_eq!(mill_thin(recording, length, null(), 0, null_mut(), 0), refusal(10));
+        let mut room = [0u8; 128];
+        assert_eq!(mill_thin(recording, length, null(), 0, room.as_mut_ptr(), 128), 96);
+        assert_eq!(room[..96].to_vec(), mill::thin(&r1, &[]).unwrap());
+    }
+}
+
+#[cfg(feature = "questions")]
+#[test]
+fn null_with_length_0_in_questions() {
+    let r1 = r1_bytes();
+    let (recording, length) = (r1.as_ptr(), r1.len());
+    let (mut whole, mut real, mut out) = (77u32, 7.5f64, [9u8; 64]);
+    // SAFETY: each pointer lies before as many bytes as its length says; null goes with 0.
+    unsafe {
+        assert_eq!(mill_question(null(), 0, b"high(A)".as_ptr(), 7, out.as_mut_ptr(), 64), refusal(4));
+        assert_eq!(mill_question(null(), 0, null(), 0, null_mut(), 0), refusal(4));
+        assert_eq!(mill_question(recording, length, null(), 0, out.as_mut_ptr(), 64), refusal(5));
+        assert_eq!(mill_question(recording, length, b"lag".as_ptr(), 3, null_mut(), 0), 0);
+        assert_eq!(mill_question(recording, length, b"cross".as_ptr(), 5, null_mut(), 0), refusal(10));
+        assert_eq!(mill_degree(null(), 0, null(), 0, i64::MIN, &mut whole, &mut real), refusal(4));
+        assert_eq!(mill_degree(recording, length, null(), 0, 0, &mut whole, &mut real), refusal(5));
+    }
+    assert_eq!((whole, real, out), (77, 7.5, [9; 64]));
+}
+
+#[test]
+fn inputs_may_overlap() {
+    let r1 = r1_bytes();
+    let mut out = [0u8; 128];
+    // SAFETY: the pointers lie within R1 and the output.
+    unsafe {
+        // The first record's time as the only mark, and all eight bytes before a slope as two.
+        assert_eq!(mill_thin(r1.as_ptr(), 128, r1.as_ptr(), 4, out.as_mut_ptr(), 128) >> 32, 0);
+        let expected = mill::thin(&r1, &[0]).unwrap();
+        assert_eq!(out[..expected.len()], expected);
+        let length = mill_thin(r1.as_ptr(), 128, r1.as_ptr().add(64), 8, out.as_mut_ptr(), 128);
+        let expected = mill::thin(&r1, &[40, 30]).unwrap();
+        assert_eq!(out[..length as usize], expected);
+    }
+}
+
+#[cfg(feature = "questions")]
+#[test]
+fn a_text_may_lie_in_the_recording() {
+    let r1 = r1_bytes();
+    let mut out = [0u8; 128];
+    // SAFETY: the pointers lie within R1 and the output.
+    unsafe {
+        // A recording is no text.
+        assert_eq!(mill_question(r1.as_ptr(), 128, r1.as_ptr(), 128, out.as_mut_ptr(), 128), refusal(6));
+    }
+    // A recording in whose values a text is written: 0x763D_3E41, the bytes of `A>=v`, is past the limit, `lag` is not.
+    let mut records = flat(3);
+    records[0].value[0] = i64::from(i32::from_le_bytes(*b"lag\0"));
+    let recording = bytes(&records);
+    let mut out = [7u8; 16];
+    // SAFETY: the text lies in the recording.
+    let returned = unsafe { mill_question(recording.as_ptr(), 48, recording.as_ptr().add(4), 3, out.as_mut_ptr(), 16) };
+    assert_eq!((returned, out), (0, [7; 16]));
+}
+
+#[test]
+fn lengths_past_32_bits() {
+    const WRAPPED: usize = 1 << 32;
+    let large = Guarded::output(WRAPPED + 4096);
+    let at = large.place(WRAPPED + 4096, Against::Front);
+    let r1 = r1_bytes();
+    let (mut earlier, mut later, mut out) = (77u32, 78u32, [9u8; 64]);
+    // SAFETY: the pages are there, of zeros; they are taken only when touched.
+    unsafe {
+        for (length, number) in [(WRAPPED, 2), (WRAPPED + 16, 2), (WRAPPED + 128, 2), (WRAPPED + 1, 1), (WRAPPED - 16, 2)] {
+            assert_eq!(mill_pair(at, length, 0, 1, &mut earlier, &mut later), refusal(number));
+            assert_eq!(mill_thin(at, length, null(), 0, out.as_mut_ptr(), 64), refusal(number));
+        }
+        for length in [WRAPPED, WRAPPED + 4, WRAPPED + 7, WRAPPED + 32] {
+            assert_eq!(mill_thin(r1.as_ptr(), 128, at, length, out.as_mut_ptr(), 64), refusal(11));
+        }
+        assert_eq!((earlier, later, out), (77, 78, [9; 64]));
+        // An output of over 4 GiB is room enough.
+        assert_eq!(mill_thin(r1.as_ptr(), 128, null(), 0, at, WRAPPED + 3), 96);
+        assert_eq!(std::slice::from_raw_parts(at, 96), mill::thin(&r1, &[]).unwrap());
+    }
+}
+
+#[cfg(feature = "questions")]
+#[test]
+fn lengths_past_32_bits_in_questions() {
+    const WRAPPED: usize = 1 << 32;
+    let large = Guarded::output(WRAPPED + 4096);
+    let at = large.place(WRAPPED + 4096, Against::Front);
+    let r1 = r1_bytes();
+    let (mut whole, mut real, mut out) = (77u32, 7.5f64, [9u8; 64]);
+    // SAFETY: the pages are there, of zeros; they are taken only when touched.
+    unsafe {
+        let text = b"high(A)";
+        for (length, number) in [(WRAPPED, 2), (WRAPPED + 16, 2), (WRAPPED + 128, 2), (WRAPPED + 1, 1), (WRAPPED - 16, 2)] {
+            assert_eq!(mill_question(at, length, text.as_ptr(), 7, out.as_mut_ptr(), 64), refusal(number));
+            assert_eq!(mill_degree(at, length, text.as_ptr(), 7, 0, &mut whole, &mut real), refusal(number));
+        }
+        for length in [WRAPPED, WRAPPED + 7, WRAPPED + 256] {
+            assert_eq!(mill_question(r1.as_ptr(), 128, at, length, out.as_mut_ptr(), 64), refusal(5));
+            assert_eq!(mill_degree(r1.as_ptr(), 128, at, length, 0, &mut whole, &mut real), refusal(5));
+        }
+        assert_eq!((whole, real, out), (77, 7.5, [9; 64]));
+        // An output of over 4 GiB is room enough.
+        assert_eq!(mill_question(r1.as_ptr(), 128, text.as_ptr(), 7, at, WRAPPED), 8);
+    }
+}
+
+#[test]
+fn targets_past_32_bits() {
+    let r1 = r1_bytes();
+    for target in [(1i64 << 32) + 30, -(1i64 << 32) + 30, 1 << 31, i64::MIN, i64::MAX, i64::MIN + 30] {
+        #[cfg(feature = "questions")]
+        assert_eq!(mill::degree(&r1, b"peaks(A)", target), Err(mill::Refusal::BadTarget), "{target}");
+        assert_eq!(mill::pair(&r1, mill::Curve::A, target), Err(mill::Refusal::BadTarget), "{target}");
+    }
+}
+
+/// The guards are real: a child process that touches a byte too many dies, and says at which case.
+#[test]
+fn guards_hold() {
+    const TOUCH: &str = "MILL_TOUCH";
+    if let Ok(what) = std::env::var(TOUCH) {
+        crate::support::cases::begin("a byte too many", 7);
+        let mut input = Guarded::input(16);
+        let output = Guarded::output(16);
+        // SAFETY: none; what is touched is shut, and this process ends here.
+        unsafe {
+            match what.as_str() {
+                "read behind" => drop(Box::new(input.put(&[1; 16], Against::Rear).add(16).read_volatile())),
+                "read before" => drop(Box::new(input.put(&[1; 16], Against::Front).sub(1).read_volatile())),
+                "write input" => input.put(&[1; 16], Against::Rear).cast_mut().write_volatile(1),
+                "write behind" => output.place(16, Against::Rear).add(16).write_volatile(1),
+                _ => output.place(16, Against::Front).sub(1).write_volatile(1),
+            }
+        }
+        return;
+    }
+    let this = std::env::current_exe().unwrap();
+    for what in ["read behind", "read before", "write input", "write behind", "write before"] {
+        let child = std::process::Command::new(&this)
+            .args(["boundary::guards_hold", "--exact", "--nocapture", "--test-threads=1"])
+            .env(TOUCH, what)
+            .output()
+            .unwrap();
+        let said = String::from_utf8_lossy(&child.stderr).into_owned();
+        assert_eq!(child.status.code(), Some(101), "{what}: {said}");
+        assert!(said.contains("in case 'a byte too many:7'"), "{what}: {said}");
+    }
+}

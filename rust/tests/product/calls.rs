@@ -1,0 +1,305 @@
+//! One call to the library in guarded memory, held to the independent implementation: return value, bytes written, and all
+//! other memory unchanged. Every test compares through these functions.
+
+use crate::guarded::{Against, Guarded};
+use crate::support::{cases, compared};
+#[cfg(feature = "questions")]
+use mill::reference::Degree;
+use mill::reference::{self, Refused};
+use mill::sys;
+use std::cell::RefCell;
+use std::collections::BTreeMap;
+use std::panic::Location;
+
+/// The memory of a thread's calls.
+struct Desk {
+    recording: Guarded,
+    second: Guarded,
+    out: Guarded,
+    numbers: [Guarded; 2],
+    /// What outputs hold before a call, from a place that changes with the turn.
+    filling: Vec<u8>,
+    turn: u64,
+}
+
+/// Bytes around an output that must stay as they are.
+const CANARY: usize = 64;
+const MOST_LENGTH: usize = 1 << 18;
+
+thread_local! {
+    static DESK: RefCell<Desk> = RefCell::new(Desk {
+        recording: Guarded::input(MOST_LENGTH),
+        second: Guarded::input(1 << 16),
+        out: Guarded::output(MOST_LENGTH),
+        numbers: [Guarded::output(8), Guarded::output(8)],
+        filling: (0..MOST_LENGTH + 256).map(|at| (at % 251) as u8).collect(),
+        turn: 0,
+    });
+}
+
+/// Counts a call, and notes where it is made.
+#[track_caller]
+fn count() {
+    cases::calling(Location::caller());
+    compared::count();
+}
+
+impl Desk {
+    /// Where things lie changes from call to call: the recording, the other input, the output.
+    fn turn(&mut self) -> [Against; 3] {
+        self.turn += 1;
+        [1, 3, 9].map(|each| [Against::Rear, Against::Front, Against::Neither][(self.turn / each % 3) as usize])
+    }
+
+    /// A call that writes bytes: its return value, and what it wrote.
+    fn writing(
+        &mut self,
+        recording: &[u8],
+        second: &[u8],
+        room: usize,
+        call: unsafe extern "C" fn(*const u8, usize, *const u8, usize, *mut u8, usize) -> u64,
+    ) -> (u64, Vec<u8>) {
+        let [first, other, output] = self.turn();
+        let recording_at = self.recording.put(recording, first);
+        let second_at = self.second.put(second, other);
+        let out_at = self.out.place(room, output);
+        let start = self.out.offset(room, output);
+        let (from, to) = (start.saturating_sub(CANARY), (start + room + CANARY).min(self.out.bytes().len()));
+        let filling = &self.filling[self.turn as usize % 251..][..to - from];
+        self.out.bytes()[from..to].copy_from_slice(filling);
+        // SAFETY: each pointer lies before as many bytes as its length says.
+        let returned = unsafe { call(recording_at, recording.len(), second_at, second.len(), out_at, room) };
+        let written = if returned >> 32 == 0 { returned as usize } else { 0 };
+        assert!(written <= room, "{written} bytes written into {room}; {}", place());
+        let result = self.out.bytes()[start..start + written].to_vec();
+        let (before, behind) = (start - from, start + written - from);
+        assert_eq!(self.out.bytes()[from..start], filling[..before], "bytes before the output were touched; {}", place());
+        let touched = self.out.bytes()[start + written..to].iter().zip(&filling[behind..]).position(|(now, then)| now != then);
+        assert_eq!(touched, None, "a byte so far behind the result was touched; {}", place());
+        (returned, result)
+    }
+
+    /// Places for a u32 and a u32 or f64, filled.
+    fn number_places(&mut self, against: Against, size: usize) -> (*mut u8, *mut u8) {
+        let turn = self.turn;
+        let against = aligned(against);
+        for number in &mut self.numbers {
+            let at = number.offset(16, against);
+            number.bytes()[at..at + 16].fill(filler(turn));
+        }
+        (self.numbers[0].place(4, against), self.numbers[1].place(size, against))
+    }
+
+    /// The bytes at the number places, and that the bytes beside them are untouched.
+    fn numbers_after(&mut self, against: Against, size: usize) -> (Vec<u8>, Vec<u8>) {
+        let turn = self.turn;
+        let against = aligned(against);
+        let mut read = |which: usize, size: usize| {
+            let number = &mut self.numbers[which];
+            let at = number.offset(16, against);
+            let around = number.bytes()[at..at + 16].to_vec();
+            let (own, beside) = match against {
+                Against::Rear => (&around[16 - size..], &around[..16 - size]),
+                _ => (&around[..size], &around[size..]),
+            };
+            assert!(beside.iter().all(|byte| *byte == filler(turn)), "bytes beside a number were touched; {}", place());
+            own.to_vec()
+        };
+        (read(0, 4), read(1, size))
+    }
+}
+
+/// Numbers lie at either end, where C has them aligned.
+fn aligned(against: Against) -> Against {
+    if against == Against::Rear {
+        Against::Rear
+    } else {
+        Against::Front
+    }
+}
+
+fn filler(turn: u64) -> u8 {
+    0xA5 ^ (turn as u8)
+}
+
+/// The case, as one reads it in a failure.
+fn place() -> String {
+    let (name, case) = cases::current();
+    let (file, line) = cases::called();
+    format!("case '{name}:{case}' at {file}:{line}")
+}
+
+/// How the outcomes of a test's calls are spread: 0 for a result, else the refusal's number.
+#[derive(Default)]
+pub struct Tally {
+    outcomes: BTreeMap<u32, u64>,
+}
+
+impl Tally {
+    pub fn add(&mut self, number: u32) {
+        *self.outcomes.entry(number).or_default() += 1;
+    }
+
+    /// Each of the outcomes came up at least so often: the test saw what it is for.
+    pub fn saw(&self, outcomes: &[u32], at_least: u64) {
+        for outcome in outcomes {
+            let seen = self.outcomes.get(outcome).copied().unwrap_or(0);
+            assert!(cases::one_alone() || seen >= at_least, "outcome {outcome} came up {seen} times: {:?}", self.outcomes);
+        }
+    }
+}
+
+fn number_of<T>(expected: &Result<T, Refused>) -> u32 {
+    expected.as_ref().err().map_or(0, |refused| refused.number)
+}
+
+/// Asks and compares; the outcome's number.
+#[cfg(feature = "questions")]
+#[track_caller]
+pub fn question(recording: &[u8], text: &[u8], room: usize) -> u32 {
+    count();
+    let expected = reference::question(recording, text, room);
+    let found = DESK.with_borrow_mut(|desk| desk.writing(recording, text, room, sys::mill_question));
+    same_bytes(&expected, found, || format!("mill_question, {room} bytes of output\n{}\n{}", shown(text), hex(recording)));
+    number_of(&expected)
+}
+
+/// Thins and compares; the outcome's number.
+#[track_caller]
+pub fn thin(recording: &[u8], marks: &[u8], room: usize) -> u32 {
+    let expected = reference::thin(recording, marks, room);
+    thin_as(recording, marks, room, &expected);
+    number_of(&expected)
+}
+
+/// Thins and compares with what is expected.
+#[track_caller]
+pub fn thin_as(recording: &[u8], marks: &[u8], room: usize, expected: &Result<Vec<u8>, Refused>) {
+    count();
+    let found = DESK.with_borrow_mut(|desk| desk.writing(recording, marks, room, sys::mill_thin));
+    same_bytes(expected, found, || format!("mill_thin, {room} bytes of output\nmarks {}\n{}", hex(marks), hex(recording)));
+}
+
+fn same_bytes(expected: &Result<Vec<u8>, Refused>, found: (u64, Vec<u8>), call: impl Fn() -> String) {
+    let expected = match expected {
+        Ok(bytes) => (bytes.len() as u64, bytes.clone()),
+        Err(refused) => (refused.returned(), Vec::new()),
+    };
+    if found != expected {
+        panic!(
+            "{}\nexpected {} {}\nfound    {} {}\nin {}",
+            place(),
+            outcome(expected.0),
+            hex(&expected.1),
+            outcome(found.0),
+            hex(&found.1),
+            call()
+        );
+    }
+}
+
+/// Asks for a degree and compares; the outcome's number.
+#[cfg(feature = "questions")]
+#[track_caller]
+pub fn degree(recording: &[u8], text: &[u8], target: i64) -> u32 {
+    count();
+    let expected = reference::degree(recording, text, target);
+    let (returned, distance, degree, filler) = DESK.with_borrow_mut(|desk| {
+        let [first, other, output] = desk.turn();
+        let recording_at = desk.recording.put(recording, first);
+        let text_at = desk.second.put(text, other);
+        let (distance, degree) = desk.number_places(output, 8);
+        // SAFETY: each pointer lies before as many bytes as its length says, or before its number.
+        let returned = unsafe {
+            sys::mill_degree(recording_at, recording.len(), text_at, text.len(), target, distance.cast(), degree.cast())
+        };
+        let (distance, degree) = desk.numbers_after(output, 8);
+        (returned, distance, degree, filler(desk.turn))
+    });
+    let untouched = (vec![filler; 4], vec![filler; 8]);
+    let (expected_return, (expected_distance, expected_degree)) = match expected {
+        Ok(Degree::Met) => (0, untouched),
+        Ok(Degree::Short { distance, degree }) => (1, (distance.to_le_bytes().to_vec(), degree.to_bits().to_le_bytes().to_vec())),
+        Ok(Degree::NoValue) => (2, untouched),
+        Err(refused) => (refused.returned(), untouched),
+    };
+    if (returned, &distance, &degree) != (expected_return, &expected_distance, &expected_degree) {
+        panic!(
+            "{}\nexpected {} {} {}\nfound    {} {} {}\nin mill_degree of target {target}\n{}\n{}",
+            place(),
+            outcome(expected_return),
+            hex(&expected_distance),
+            hex(&expected_degree),
+            outcome(returned),
+            hex(&distance),
+            hex(&degree),
+            shown(text),
+            hex(recording)
+        );
+    }
+    number_of(&expected)
+}
+
+/// Asks for a pair and holds it to its property; the outcome's number.
+#[track_caller]
+pub fn pair(recording: &[u8], curve: u32, target: i64) -> u32 {
+    count();
+    let expected = reference::pairs(recording, curve, target);
+    let (returned, earlier, later, filler) = DESK.with_borrow_mut(|desk| {
+        let [first, _, output] = desk.turn();
+        let recording_at = desk.recording.put(recording, first);
+        let (earlier, later) = desk.number_places(output, 4);
+        // SAFETY: the pointer lies before as many bytes as its length says, the others before their numbers.
+        let returned = unsafe { sys::mill_pair(recording_at, recording.len(), curve, target, earlier.cast(), later.cast()) };
+        let (earlier, later) = desk.numbers_after(output, 4);
+        (returned, earlier, later, filler(desk.turn))
+    });
+    let untouched = earlier == [filler; 4] && later == [filler; 4];
+    let time = |bytes: &[u8]| u32::from_le_bytes(bytes.try_into().unwrap());
+    let fits = match &expected {
+        Err(refused) => returned == refused.returned() && untouched,
+        Ok(fitting) if fitting.is_empty() => returned == 0 && untouched,
+        Ok(fitting) => returned == 1 && fitting.contains(&(time(&earlier), time(&later))),
+    };
+    if !fits {
+        panic!(
+            "{}\nexpected one of {expected:?}\nfound    {} {} {}\nin mill_pair of curve {curve}, target {target}\n{}",
+            place(),
+            outcome(returned),
+            hex(&earlier),
+            hex(&later),
+            hex(recording)
+        );
+    }
+    number_of(&expected)
+}
+
+/// The bytes that a call for which no expectation is at hand gives, in guarded memory.
+#[track_caller]
+pub fn bytes_of(
+    recording: &[u8],
+    second: &[u8],
+    room: usize,
+    call: unsafe extern "C" fn(*const u8, usize, *const u8, usize, *mut u8, usize) -> u64,
+) -> (u64, Vec<u8>) {
+    count();
+    DESK.with_borrow_mut(|desk| desk.writing(recording, second, room, call))
+}
+
+fn outcome(returned: u64) -> String {
+    match sys::mill_number(returned) {
+        0 => format!("result {}", sys::mill_place(returned)),
+        number => format!("refused {number} {}", sys::mill_place(returned)),
+    }
+}
+
+#[cfg(feature = "questions")]
+fn shown(text: &[u8]) -> String {
+    format!("text '{}'", text.escape_ascii())
+}
+
+/// Bytes in hexadecimal, whole; a recording of any length can be put together from them again.
+fn hex(bytes: &[u8]) -> String {
+    let digits: String = bytes.iter().map(|byte| format!("{byte:02x}")).collect();
+    format!("[{} bytes] {digits}", bytes.len())
+}

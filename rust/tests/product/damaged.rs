@@ -1,0 +1,128 @@
+//! Covers: damaged recordings under all calls: every bit of a recording flipped, every length cut, every value of every
+//! byte of a record, fields at and past their limits, and random damage.
+
+#[cfg(feature = "questions")]
+use crate::calls::{degree, question};
+use crate::calls::{pair, thin, Tally};
+use crate::support::cases::{begin, cases};
+use crate::support::recordings::{self, damaged, r1_bytes};
+use mill::reference::recording::{bytes, Record};
+
+/// All calls; the number of the pair call's outcome.
+fn all_calls(recording: &[u8]) -> u32 {
+    #[cfg(feature = "questions")]
+    question(recording, b"peaks(A)", 512);
+    #[cfg(feature = "questions")]
+    degree(recording, b"high(B)", 7);
+    thin(recording, &[40, 0, 0, 0], 65_536);
+    pair(recording, 0, 40)
+}
+
+#[test]
+fn every_bit_flipped() {
+    let r1 = r1_bytes();
+    let mut tally = Tally::default();
+    for bit in 0..8 * r1.len() {
+        begin("every bit flipped", bit as u64);
+        let mut recording = r1.clone();
+        recording[bit / 8] ^= 1 << (bit % 8);
+        tally.add(all_calls(&recording));
+    }
+    tally.saw(&[0, 3], 100);
+}
+
+#[test]
+fn every_length() {
+    let mut whole = r1_bytes();
+    whole.extend((0..40).map(|byte| byte as u8));
+    for length in 0..=whole.len() {
+        begin("every length", length as u64);
+        let number = all_calls(&whole[..length]);
+        let expected = match length {
+            0 => 4,
+            _ if length % 16 != 0 => 1,
+            _ if length > 128 => 3,
+            _ => 0,
+        };
+        assert_eq!(number, expected, "{length}");
+    }
+}
+
+#[test]
+fn every_byte_of_a_record() {
+    let r1 = r1_bytes();
+    for index in [0, 3, 7] {
+        for at in 0..16 {
+            for byte in 0..=255 {
+                begin("every byte of a record", byte.into());
+                let mut recording = r1.clone();
+                recording[16 * index + at] = byte;
+                #[cfg(feature = "questions")]
+                question(&recording, b"cross", 512);
+                pair(&recording, 0, 40);
+                thin(&recording, &[], 65_536);
+            }
+        }
+    }
+}
+
+#[test]
+fn fields_at_their_limits() {
+    let good = Record { time: 5, value: [0, 0], slope: [1, 1] };
+    let last = Record { time: 2_000_000_000, ..good };
+    let with = |change: &dyn Fn(&mut Record)| {
+        let mut middle = Record { time: 6, ..good };
+        change(&mut middle);
+        bytes(&[good, middle, last])
+    };
+    for (case, (number, recording)) in [
+        (0, with(&|record| record.value[0] = 1_000_000_000)),
+        (3, with(&|record| record.value[0] = 1_000_000_001)),
+        (0, with(&|record| record.value[0] = -1_000_000_000)),
+        (3, with(&|record| record.value[0] = -1_000_000_001)),
+        (0, with(&|record| record.value[1] = 1_000_000_000)),
+        (3, with(&|record| record.value[1] = 1_000_000_001)),
+        (0, with(&|record| record.value[1] = -1_000_000_000)),
+        (3, with(&|record| record.value[1] = -1_000_000_001)),
+        (3, with(&|record| record.value[1] = i64::from(i32::MIN))),
+        (0, with(&|record| record.time = 1_999_999_999)),
+        (3, with(&|record| record.time = 2_000_000_000)),
+        (3, with(&|record| record.time = 2_000_000_001)),
+        (3, with(&|record| record.time = i64::from(u32::MAX))),
+        (3, with(&|record| record.time = 1 << 31)),
+        (3, with(&|record| record.time = 5)),
+        (3, with(&|record| record.time = 4)),
+        (0, with(&|record| record.slope = [2, 0])),
+        (3, with(&|record| record.slope = [3, 0])),
+        (3, with(&|record| record.slope = [0, 3])),
+        (3, with(&|record| record.slope = [255, 0])),
+    ]
+    .into_iter()
+    .enumerate()
+    {
+        begin("fields at their limits", case as u64);
+        assert_eq!(all_calls(&recording), number, "{case}");
+    }
+    let alone = |time: i64| bytes(&[Record { time, ..good }]);
+    assert_eq!(all_calls(&alone(0)), 0);
+    assert_eq!(all_calls(&alone(2_000_000_000)), 0);
+    assert_eq!(all_calls(&alone(2_000_000_001)), 3);
+    // A later bad record does not hide an earlier one, and 1 and 2 come before 3.
+    let mut recording = bytes(&[good, good, good, last]);
+    recording[15] = 0;
+    assert_eq!(all_calls(&recording), 3);
+    recording.push(0);
+    assert_eq!(all_calls(&recording), 1);
+}
+
+#[test]
+fn random_damage() {
+    let mut tally = Tally::default();
+    cases("random damage", 15_000, |random| {
+        let records = recordings::any(random);
+        let recording = damaged(random, bytes(&records));
+        tally.add(all_calls(&recording));
+    });
+    tally.saw(&[0, 1, 3], 1_000);
+    tally.saw(&[4], 20);
+}

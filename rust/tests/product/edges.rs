@@ -1,0 +1,339 @@
+//! Covers: the cases of questions at the limits that the scope names to be run, and the traps: each with its outcome written here, so that
+//! a common error of both sides would show.
+
+use crate::calls::{degree, question, thin};
+use crate::support::cases::begin;
+use crate::support::recordings::{flat, r1_bytes, with_tops, with_tops_at, with_values};
+use mill::reference::recording::{bytes, Record, FALLING, FLAT, RISING};
+use mill::Run;
+
+const ROOM: usize = 512;
+
+/// The runs that the library answers, after the comparison.
+#[track_caller]
+fn runs(recording: &[u8], text: &str) -> Vec<(i32, i32)> {
+    begin("edges", 0);
+    assert_eq!(question(recording, text.as_bytes(), ROOM), 0, "{text}");
+    let runs = mill::question(recording, text.as_bytes()).expect(text);
+    runs.iter().map(|Run { low, high }| (*low, *high)).collect()
+}
+
+#[track_caller]
+fn refused(recording: &[u8], text: &str) -> u32 {
+    begin("edges", 0);
+    question(recording, text.as_bytes(), ROOM)
+}
+
+const LOW: i32 = -2_000_000_000;
+const HIGH: i32 = 2_000_000_000;
+
+#[test]
+fn what_only_x_sees_is_lost_on_kept_readings() {
+    let text = "F(A=60&X(A=v))";
+    assert_eq!(runs(&r1_bytes(), text), [(80, 80)]);
+    assert_eq!(thin(&r1_bytes(), &[], 96), 0);
+    assert_eq!(runs(&mill::thin(&r1_bytes(), &[]).unwrap(), text), []);
+}
+
+#[test]
+fn sixty_four_tops_and_sixty_five() {
+    for curve in ["A", "B"] {
+        let tops = |count: usize| bytes(&with_tops(4096, if curve == "A" { [count, 0] } else { [0, count] }));
+        assert_eq!(runs(&tops(64), &format!("peaks({curve})")).len(), 64);
+        assert_eq!(question(&tops(64), format!("peaks({curve})").as_bytes(), 512), 0);
+        assert_eq!(question(&tops(64), format!("peaks({curve})").as_bytes(), 511), 10);
+        assert_eq!(refused(&tops(65), &format!("peaks({curve})")), 8);
+        assert_eq!(question(&tops(65), format!("peaks({curve})").as_bytes(), 0), 8);
+        // The complement has one run more, and each `!` is a node.
+        assert_eq!(refused(&tops(64), &format!("!peaks({curve})")), 8);
+        assert_eq!(refused(&tops(64), &format!("!!peaks({curve})")), 8);
+        assert_eq!(runs(&tops(63), &format!("!peaks({curve})")).len(), 64);
+        assert_eq!(refused(&tops(64), &format!("F(!fall({curve})&X(fall({curve})&T=v))")), 0);
+        assert_eq!(refused(&tops(65), &format!("F(!fall({curve})&X(fall({curve})&T=v))")), 8);
+        assert_eq!(degree(&tops(64), format!("peaks({curve})").as_bytes(), 9), 0);
+        assert_eq!(degree(&tops(65), format!("peaks({curve})").as_bytes(), 9), 8);
+        // The other curve has none.
+        let other = if curve == "A" { "B" } else { "A" };
+        assert_eq!(runs(&tops(65), &format!("peaks({other})")), []);
+    }
+}
+
+#[test]
+fn two_hundred_and_fifty_six_tops_and_one_more() {
+    let tops = |a: usize, b: usize| bytes(&with_tops(4096, [a, b]));
+    for text in ["gaps(A)", "steps(A)", "lag", "gaps(A)|high(B)", "high(A)&!steps(A)"] {
+        assert_eq!(refused(&tops(257, 0), text), 9, "{text}");
+        assert_eq!(degree(&tops(257, 0), text.as_bytes(), 5), 9);
+        assert_ne!(refused(&tops(256, 0), text), 9, "{text}");
+    }
+    assert_eq!(refused(&tops(0, 257), "lag"), 9);
+    assert_eq!(refused(&tops(257, 0), "gaps(B)"), 0);
+    assert_eq!(refused(&tops(0, 257), "steps(A)|gaps(A)"), 0);
+    assert_eq!(runs(&tops(0, 256), "lag"), []);
+    // 4,095 / 256 apart: 15 or 16 records.
+    assert_eq!(runs(&tops(256, 256), "steps(A)"), [(15, 16)]);
+    assert_eq!(refused(&tops(256, 0), "gaps(A)"), 8);
+    assert_eq!(refused(&tops(256, 256), "lag"), 8);
+    // 9 comes before 8, wherever it stands, and after 12.
+    assert_eq!(refused(&tops(257, 0), "peaks(A)|gaps(A)"), 9);
+    assert_eq!(refused(&tops(257, 0), "!(peaks(A)&steps(A))"), 9);
+    assert_eq!(degree(&tops(257, 0), b"gaps(A)", 2_000_000_001), 12);
+    assert_eq!(degree(&tops(65, 0), b"peaks(A)", -2_000_000_001), 12);
+}
+
+#[test]
+fn four_thousand_and_ninety_six_records_and_one_more() {
+    let most = bytes(&flat(4096));
+    assert_eq!(runs(&most, "high(A)"), [(LOW, 0)]);
+    assert_eq!(runs(&most, "F(T=v)&T<=v"), [(0, 4095)]);
+    let more = bytes(&flat(4097));
+    assert_eq!(more.len(), 65_552);
+    for length in [65_552, 65_568, 131_072] {
+        let recording = [&more[..], &vec![9; 70_000]].concat()[..length].to_vec();
+        assert_eq!(refused(&recording, "high(A)"), 2);
+        assert_eq!(degree(&recording, b"high(A)", 0), 2);
+    }
+    let partial = [&more[..], &[0]].concat();
+    assert_eq!(refused(&partial, "high(A)"), 1);
+    assert_eq!(degree(&partial, b"high(A)", 0), 1);
+    // The last record counts.
+    let mut bad = most.clone();
+    bad[65_535] = 1;
+    assert_eq!(refused(&bad, ""), 3);
+    let mut top = flat(4096);
+    top[4095].slope = [FALLING, FLAT];
+    top[4095].value = [5, 0];
+    assert_eq!(runs(&bytes(&top), "peaks(A)|high(A)&A<v"), [(1, 5), (4095, 4095)]);
+}
+
+#[test]
+fn thirty_two_nodes_and_thirty_three() {
+    let r1 = r1_bytes();
+    let nots = |count: usize| format!("{}A=v", "!".repeat(count));
+    assert_eq!(runs(&r1, &nots(30)), [(40, 40)]);
+    assert_eq!(runs(&r1, &nots(31)), [(LOW, 39), (41, HIGH)]);
+    assert_eq!(refused(&r1, &nots(32)), 7);
+    assert_eq!(refused(&r1, &nots(253)), 7);
+    assert_eq!(refused(&r1, &nots(254)), 5);
+    for sign in ["|", "&"] {
+        let chain = |atoms: usize| vec!["A=v"; atoms].join(sign);
+        assert_eq!(runs(&r1, &chain(16)), [(40, 40)]);
+        assert_eq!(runs(&r1, &format!("!!{}", &chain(15))), [(40, 40)]);
+        assert_eq!(refused(&r1, &format!("!!!{}", &chain(15))), 0);
+        assert_eq!(refused(&r1, &format!("!!!!{}", &chain(15))), 7);
+        assert_eq!(refused(&r1, &chain(17)), 7);
+        assert_eq!(refused(&r1, &format!("!!{}", chain(16))), 7);
+    }
+    let listed = |names: usize| vec!["lag"; names].join("|");
+    assert_eq!(runs(&r1, &listed(16)), []);
+    assert_eq!(refused(&r1, &listed(17)), 7);
+    assert_eq!(refused(&r1, &format!("!{}", listed(16))), 0);
+    assert_eq!(refused(&r1, &format!("!!{}", listed(16))), 7);
+}
+
+#[test]
+fn sixteen_brackets_and_seventeen() {
+    let r1 = r1_bytes();
+    let wrapped = |count: usize, inner: &str| format!("{}{inner}{}", "(".repeat(count), ")".repeat(count));
+    assert_eq!(runs(&r1, &wrapped(16, "A>=v")), [(LOW, 40)]);
+    assert_eq!(refused(&r1, &wrapped(17, "A>=v")), 7);
+    assert_eq!(runs(&r1, &wrapped(15, "fall(A)")), []);
+    assert_eq!(refused(&r1, &wrapped(16, "fall(A)")), 7);
+    assert_eq!(runs(&r1, &wrapped(15, "peaks(A)")), [(30, 30), (70, 70)]);
+    assert_eq!(refused(&r1, &wrapped(16, "peaks(A)")), 7);
+    assert_eq!(refused(&r1, &wrapped(16, "lag")), 0);
+    assert_eq!(refused(&r1, &wrapped(126, "A>=v")), 7);
+    assert_eq!(refused(&r1, &wrapped(126, "A>=w")), 6);
+    assert_eq!(refused(&r1, &format!("{}A>=v", "(".repeat(252))), 6);
+    let nested = |count: usize| format!("{}A=v{}", "X(".repeat(count), ")".repeat(count));
+    assert_eq!(runs(&r1, &nested(16)), [(45, 45)]);
+    assert_eq!(refused(&r1, &nested(17)), 7);
+    // Brackets that are closed again do not count.
+    assert_eq!(runs(&r1, &vec!["(fall(A))"; 16].join("|")), []);
+    assert_eq!(runs(&r1, &format!("{}|{}", vec!["(A=v)"; 15].join("|"), wrapped(16, "A=v"))), [(40, 40)]);
+    assert_eq!(refused(&r1, &format!("{}|{}", vec!["(A=v)"; 15].join("|"), wrapped(17, "A=v"))), 7);
+    // 6 comes before 7.
+    assert_eq!(refused(&r1, &format!("F({})|lag", wrapped(30, "A=v"))), 6);
+    assert_eq!(refused(&r1, &format!("{}&{}", vec!["A=v"; 20].join("|"), "peaks(T)")), 6);
+}
+
+#[test]
+fn texts_of_256_bytes_and_257() {
+    let r1 = r1_bytes();
+    let chain = vec!["A>=-2000000000"; 16].join("&");
+    let text = format!("!{}{chain}{}", "(".repeat(8), ")".repeat(8));
+    assert_eq!(text.len(), 256);
+    assert_eq!(runs(&r1, &text), []);
+    assert_eq!(refused(&r1, &format!("{text}x")), 5);
+    assert_eq!(refused(&r1, &format!("{}x", &text[..255])), 6);
+    assert_eq!(refused(&r1, &format!("A>{}", "1".repeat(254))), 6);
+    assert_eq!(refused(&r1, &format!("A>{}", "1".repeat(255))), 5);
+    assert_eq!(question(&r1, &vec![b'('; 10_000], 8), 5);
+    assert_eq!(question(&r1, &[0; 256], 8), 6);
+    assert_eq!(question(&[], &[0; 257], 8), 4);
+    assert_eq!(question(&r1, b"", 8), 5);
+}
+
+#[test]
+fn only_nodes_count_and_not_what_is_inside_until() {
+    // 64 early records hold the ranges 0..6, 10..16, ..; 64 late ones 5..11, 15..21, ..
+    let mut values = vec![[0, 0]];
+    values.extend((0..64).map(|k| [10 * k, 10 * k + 6]));
+    values.extend((0..64).map(|k| [10 * k + 5, 10 * k + 11]));
+    let recording = with_values(&values);
+    let (late, early) = ("F(T>64&A<=v&B>=v)", "T>0&T<=64&A<=v&B>=v");
+    assert_eq!(runs(&recording, late).len(), 64);
+    assert_eq!(runs(&recording, &format!("F({early})")).len(), 64);
+    assert_eq!(runs(&recording, &format!("{late}|F({early})")), [(0, 641)]);
+    // The two meet in 127 runs: too many for a node.
+    assert_eq!(refused(&recording, &format!("{late}&F({early})")), 8);
+    assert_eq!(refused(&recording, &format!("U({late}|T>0,{early})")), 8);
+    // Here q swallows them at the first record, and no node has more than 64.
+    assert_eq!(runs(&recording, &format!("U({late}|T>0,T=0|{early})")), [(LOW, HIGH)]);
+    assert_eq!(runs(&recording, &format!("W({late}&T=0|T>0&T<=64,T=0|{early})")), [(LOW, HIGH)]);
+    assert_eq!(refused(&recording, &format!("W({late}&T=0|T>0&T<=64,{early})")), 8);
+}
+
+#[test]
+fn more_runs_at_a_later_record_than_at_the_first() {
+    let mut values: Vec<[i64; 2]> = (0..63).map(|k| [2 * k + 1, 0]).collect();
+    values.extend((0..64).map(|k| [2 * k, 0]));
+    let recording = with_values(&values);
+    assert_eq!(runs(&recording, "F(A=v)"), [(0, 126)]);
+    // At record 63 the set has 64 runs and its complement 65.
+    assert_eq!(refused(&recording, "!F(A=v)"), 8);
+    assert_eq!(refused(&recording, "A=1|!F(A=v)"), 8);
+    values.push([128, 0]);
+    let one_more = with_values(&values);
+    assert_eq!(refused(&one_more, "F(A=v)"), 8);
+    assert_eq!(refused(&one_more, "X(A=v)|F(A=v)&A=v"), 8);
+    assert_eq!(refused(&one_more, "A=v|T<0&F(A=v)"), 8);
+    // Without F, G, X, U and W only the first record counts.
+    assert_eq!(runs(&one_more, "A=v|low(A)"), [(0, HIGH)]);
+}
+
+#[test]
+fn grouping_from_the_left_is_visible() {
+    // 40 tops of either curve, 80 runs together.
+    let (of_a, of_b): (Vec<i64>, Vec<i64>) = (1..=40).map(|i| (100 * i, 100 * i + 50)).unzip();
+    let recording = with_tops_at([&of_a, &of_b]);
+    assert_eq!(refused(&recording, "peaks(A)|peaks(B)|high(A)|low(A)"), 8);
+    assert_eq!(runs(&recording, "peaks(A)|(peaks(B)|high(A)|low(A))"), [(LOW, HIGH)]);
+    assert_eq!(runs(&recording, "high(A)|low(A)|peaks(A)|peaks(B)"), [(LOW, HIGH)]);
+    assert_eq!(refused(&recording, "!peaks(A)&!peaks(B)&A<v&A>v"), 8);
+    assert_eq!(runs(&recording, "!peaks(A)&(!peaks(B)&A<v&A>v)"), []);
+    assert_eq!(refused(&recording, "!peaks(A)&!peaks(B)|high(A)|low(A)"), 8);
+}
+
+#[test]
+fn without_temporal_operators_only_the_first_record_counts() {
+    // 64 tops; the first reading of A is the time of one of them, the others lie apart.
+    let mut records = with_tops(4096, [64, 0]);
+    records.iter_mut().for_each(|record| record.value[0] = 100_000);
+    records[0].value[0] = 1;
+    let recording = bytes(&records);
+    assert_eq!(runs(&recording, "peaks(A)|A=v").len(), 64);
+    assert_eq!(refused(&recording, "peaks(A)|A=v&B=0|A=v"), 0);
+    records[0].value[0] = 100_000;
+    assert_eq!(refused(&bytes(&records), "peaks(A)|A=v"), 8);
+}
+
+#[test]
+fn neighbours_join_before_runs_are_counted() {
+    let recording = with_values(&(0..64).map(|k| [2 * k, 2 * k + 1]).collect::<Vec<_>>());
+    assert_eq!(runs(&recording, "F(A=v)|F(B=v)"), [(0, 127)]);
+    assert_eq!(runs(&recording, "F(A=v|B=v)"), [(0, 127)]);
+    assert_eq!(runs(&recording, "F(A=v)&F(B=v)"), []);
+    assert_eq!(runs(&recording, "F(A=v)").len(), 64);
+    assert_eq!(refused(&recording, "!F(A=v)"), 8);
+    // With a run that reaches the axis end a complement has no more runs than the set.
+    let capped = |count: i64| with_values(&(0..count).map(|k| [2 * k, 1_000_000]).collect::<Vec<_>>());
+    assert_eq!(runs(&capped(63), "!(F(A=v)|B<=v)").len(), 64);
+    assert_eq!(refused(&capped(64), "!(F(A=v)|B<=v)"), 8);
+}
+
+#[test]
+fn many_differences_that_join() {
+    let mut times: Vec<i64> = (1..=128).map(|i| 2 * i).collect();
+    times.extend((0..128).map(|j| 260 + 3 * j));
+    let recording = with_tops_at([&times, &[]]);
+    assert_eq!(runs(&recording, "gaps(A)"), [(2, 4), (6, 637), (639, 639)]);
+    assert_eq!(runs(&recording, "steps(A)"), [(2, 4)]);
+    assert_eq!(runs(&recording, "lag"), []);
+    let (of_a, of_b): (Vec<i64>, Vec<i64>) = ((1..=256).map(|i| 2 * i).collect(), (0..256).map(|j| 1_000 + 3 * j).collect());
+    assert_eq!(runs(&with_tops_at([&of_a, &of_b]), "lag"), [(488, 488), (490, 1_761), (1_763, 1_763)]);
+    assert_eq!(runs(&with_tops_at([&of_b, &of_a]), "lag"), [(-1_763, -1_763), (-1_761, -490), (-488, -488)]);
+    // Both curves alike: negative, zero and positive.
+    let few: Vec<i64> = (1..=33).map(|i| 100 * i).collect();
+    assert_eq!(refused(&with_tops_at([&few, &few]), "lag"), 8);
+    assert_eq!(runs(&with_tops_at([&few[..32], &few[..32]]), "lag").len(), 63);
+    assert_eq!(runs(&with_tops_at([&few[..32], &few]), "lag").len(), 64);
+    assert_eq!(runs(&with_tops_at([&few, &[]]), "gaps(A)").len(), 32);
+    let many: Vec<i64> = (1..=66).map(|i| 100 * i).collect();
+    assert_eq!(runs(&with_tops_at([&many[..65], &[]]), "gaps(A)").len(), 64);
+    assert_eq!(refused(&with_tops_at([&many, &[]]), "gaps(A)"), 8);
+    assert_eq!(runs(&with_tops_at([&many, &[]]), "steps(A)"), [(100, 100)]);
+}
+
+#[test]
+fn axis_ends() {
+    let ends = bytes(&[
+        Record { time: 0, value: [-1_000_000_000, 1_000_000_000], slope: [RISING, RISING] },
+        Record { time: 2_000_000_000, value: [1_000_000_000, -1_000_000_000], slope: [FALLING, FALLING] },
+    ]);
+    assert_eq!(runs(&ends, "ampl(A)"), [(LOW, HIGH)]);
+    assert_eq!(runs(&ends, "ampl(B)"), [(LOW, HIGH)]);
+    assert_eq!(runs(&ends, "peaks(A)"), [(HIGH, HIGH)]);
+    assert_eq!(runs(&ends, "X(T<v)"), []);
+    assert_eq!(runs(&ends, "X(T<=v)"), [(HIGH, HIGH)]);
+    assert_eq!(runs(&ends, "X(T>v)"), [(LOW, HIGH - 1)]);
+    assert_eq!(runs(&ends, "!X(T=v)"), [(LOW, HIGH - 1)]);
+    assert_eq!(runs(&ends, "!(A=v|X(T=v))"), [(LOW, -1_000_000_001), (-999_999_999, HIGH - 1)]);
+    assert_eq!(runs(&ends, "A>=-2000000000"), [(LOW, HIGH)]);
+    assert_eq!(runs(&ends, "T=2000000000"), []);
+    assert_eq!(runs(&ends, "lowafter(A,2000000000)"), []);
+    assert_eq!(runs(&ends, "capafter(A,2000000000)"), [(LOW, HIGH)]);
+    assert_eq!(runs(&ends, "lowafter(A,-2000000000)"), [(-1_000_000_000, HIGH)]);
+    assert_eq!(runs(&ends, "lowafter(A,-1)"), [(-1_000_000_000, HIGH)]);
+    assert_eq!(runs(&ends, "lowafter(A,0)"), [(1_000_000_000, HIGH)]);
+    assert_eq!(runs(&ends, "capafter(B,-1)"), [(1_000_000_000, HIGH)]);
+    assert_eq!(runs(&ends, "capafter(B,0)"), [(-1_000_000_000, HIGH)]);
+    assert_eq!(question(&ends, b"X(T<v)", 0), 0);
+    assert_eq!(question(&ends, b"X(T<=v)", 7), 10);
+    assert_eq!(question(&ends, b"X(T<=v)", 8), 0);
+    assert_eq!(degree(&ends, b"X(T<=v)", -2_000_000_000), 0);
+    assert_eq!(refused(&ends, "A=2000000001"), 6);
+    assert_eq!(refused(&ends, "A=-2000000001"), 6);
+    assert_eq!(refused(&ends, "lowafter(A,2000000001)"), 6);
+    let apart = with_tops_at([&[1, 2_000_000_000], &[2, 1_999_999_999]]);
+    assert_eq!(runs(&apart, "gaps(A)"), [(1_999_999_999, 1_999_999_999)]);
+    assert_eq!(runs(&apart, "lag"), [(-1_999_999_998, -1_999_999_998), (-1, -1), (1, 1), (1_999_999_998, 1_999_999_998)]);
+}
+
+#[test]
+fn the_last_record_repeats() {
+    let r1 = r1_bytes();
+    assert_eq!(runs(&r1[112..], "X(A=v)"), [(45, 45)]);
+    assert_eq!(runs(&r1[112..], "F(A=v)"), [(45, 45)]);
+    assert_eq!(runs(&r1[112..], "G(A=v)"), [(45, 45)]);
+    assert_eq!(runs(&r1[112..], "U(A=7,A=v)"), [(45, 45)]);
+    assert_eq!(runs(&r1[112..], "U(A=v,A=7)"), []);
+    assert_eq!(runs(&r1[112..], "W(A=v,A=7)"), [(45, 45)]);
+    assert_eq!(runs(&r1[112..], "W(A=7,A=v)"), [(45, 45)]);
+    assert_eq!(runs(&r1, "F(G(A=v))"), [(45, 45)]);
+    assert_eq!(runs(&r1, "G(F(A=v))"), [(45, 45)]);
+    assert_eq!(runs(&r1, "F(fall(A)&!X(!fall(A))&T=v)"), [(30, 30), (70, 70)]);
+}
+
+#[test]
+fn tops_by_the_recorded_slopes() {
+    let slopes = |slopes: &[u8]| {
+        let record = |(time, slope): (usize, &u8)| Record { time: time as i64, value: [time as i64, 0], slope: [*slope, FLAT] };
+        bytes(&slopes.iter().enumerate().map(record).collect::<Vec<_>>())
+    };
+    assert_eq!(runs(&slopes(&[FALLING, FALLING]), "peaks(A)"), []);
+    assert_eq!(runs(&slopes(&[FALLING, FLAT, FALLING]), "peaks(A)"), [(2, 2)]);
+    assert_eq!(runs(&slopes(&[FLAT, FALLING]), "peaks(A)"), [(1, 1)]);
+    assert_eq!(runs(&slopes(&[RISING, FALLING, RISING, FALLING]), "peaks(A)"), [(1, 1), (3, 3)]);
+    assert_eq!(runs(&slopes(&[RISING, FLAT, RISING]), "peaks(A)"), []);
+}

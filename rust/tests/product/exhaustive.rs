@@ -1,0 +1,90 @@
+//! Covers: every recording of up to three records over a small field set with all slopes.
+
+#[cfg(feature = "questions")]
+use crate::calls::question;
+use crate::calls::{pair, thin};
+use crate::support::cases::begin;
+use mill::reference::recording::{bytes, Record};
+
+/// Every record with A and B out of these, and all slopes.
+fn every_record(values: &[[i64; 2]]) -> Vec<Record> {
+    let mut found = Vec::new();
+    for value in values {
+        for slope_a in 0..3 {
+            for slope_b in 0..3 {
+                found.push(Record { time: 0, value: *value, slope: [slope_a, slope_b] });
+            }
+        }
+    }
+    found
+}
+
+fn at_times(records: &[Record], times: &[i64]) -> Vec<u8> {
+    let timed: Vec<Record> = records.iter().zip(times).map(|(record, time)| Record { time: *time, ..*record }).collect();
+    bytes(&timed)
+}
+
+#[cfg(feature = "questions")]
+const TEXTS: [&str; 9] = [
+    "peaks(A)|peaks(B)",
+    "cross",
+    "lag|gaps(A)|steps(B)",
+    "U(A>=v,B=v)",
+    "W(A<=v,T=v)",
+    "F(A=v&X(B=v|fall(A)))",
+    "G(X(rise(A)|A>B|T>=v))",
+    "ampl(A)&high(B)|lowafter(B,1)&capafter(A,0)",
+    "X(X(X(T=v)))",
+];
+
+fn all_calls(recording: &[u8]) {
+    #[cfg(feature = "questions")]
+    for text in TEXTS {
+        question(recording, text.as_bytes(), 64);
+    }
+    for marks in [&[][..], &[0, 0, 0, 0], &[1, 0, 0, 0, 0, 0, 0, 0]] {
+        thin(recording, marks, recording.len());
+    }
+    pair(recording, 0, 2);
+    pair(recording, 1, 1);
+}
+
+#[test]
+fn every_recording_of_one_and_two_records() {
+    let records = every_record(&[[0, 0], [1, 0], [0, 1], [1, 1], [2, 0]]);
+    for (case, one) in records.iter().enumerate() {
+        begin("every recording of one and two records", case as u64);
+        all_calls(&at_times(&[*one], &[1]));
+        for two in &records {
+            all_calls(&at_times(&[*one, *two], &[0, 1]));
+        }
+    }
+}
+
+#[test]
+fn every_recording_of_three_records() {
+    let records = every_record(&[[0, 0], [1, 0]]);
+    for (case, one) in records.iter().enumerate() {
+        begin("every recording of three records", case as u64);
+        for two in &records {
+            for three in &records {
+                all_calls(&at_times(&[*one, *two, *three], &[0, 1, 3]));
+            }
+        }
+    }
+}
+
+#[test]
+fn every_thinning_of_four_flat_records() {
+    let values: Vec<[i64; 2]> = (0..9).map(|value| [value / 3, value % 3]).collect();
+    for code in 0..9usize.pow(4) {
+        begin("every thinning of four flat records", code as u64);
+        let record = |index: u32| Record { time: 0, value: values[code / 9usize.pow(index) % 9], slope: [1, 1] };
+        let recording = at_times(&[record(0), record(1), record(2), record(3)], &[0, 2, 3, 5]);
+        for mark in 0..=5 {
+            thin(&recording, &[mark, 0, 0, 0], 64);
+        }
+        thin(&recording, &[], 64);
+        thin(&recording, &[3, 0, 0, 0, 0, 0, 0, 0], 64);
+    }
+}

@@ -1,0 +1,80 @@
+//! Covers: the cases of thinning and of pairs at the limits that the scope names to be run, and the traps: each with its outcome
+//! written here, so that a common error of both sides would show.
+
+use crate::calls::{pair, thin};
+use crate::support::cases::begin;
+use crate::support::recordings::{flat, with_tops, with_tops_at, with_values};
+use mill::reference::recording::bytes;
+
+#[test]
+fn two_hundred_and_fifty_six_tops_and_one_more() {
+    begin("two hundred and fifty-six tops and one more", 0);
+    let tops = |a: usize, b: usize| bytes(&with_tops(4096, [a, b]));
+    assert_eq!(pair(&tops(256, 0), 0, 16), 0);
+    assert_eq!(pair(&tops(257, 0), 0, 16), 9);
+    assert_eq!(pair(&tops(257, 0), 0, -16), 9);
+    assert_eq!(pair(&tops(257, 0), 0, 2_000_000_001), 12);
+    assert_eq!(pair(&tops(257, 0), 2, 16), 12);
+    assert_eq!(pair(&tops(257, 0), 1, 16), 0);
+    assert_eq!(pair(&tops(0, 257), 1, 16), 9);
+    assert_eq!(thin(&tops(257, 257), &[], 65_536), 0);
+}
+
+#[test]
+fn four_thousand_and_ninety_six_records_and_one_more() {
+    begin("four thousand and ninety-six records and one more", 0);
+    let most = bytes(&flat(4096));
+    assert_eq!(thin(&most, &[], 32), 0);
+    assert_eq!(thin(&most, &[], 31), 10);
+    assert_eq!(pair(&most, 0, 1), 0);
+    let more = bytes(&flat(4097));
+    assert_eq!(more.len(), 65_552);
+    for length in [65_552, 65_568, 131_072] {
+        let recording = [&more[..], &vec![9; 70_000]].concat()[..length].to_vec();
+        assert_eq!(pair(&recording, 0, 1), 2);
+        assert_eq!(thin(&recording, &[0; 3], 0), 2);
+    }
+    let partial = [&more[..], &[0]].concat();
+    assert_eq!(pair(&partial, 7, 1), 1);
+    assert_eq!(thin(&partial, &[0; 3], 0), 1);
+    // The last record counts.
+    let mut bad = most;
+    bad[65_535] = 1;
+    assert_eq!(thin(&bad, &[], 0), 3);
+    assert_eq!(mill::thin(&bad, &[]), Err(mill::Refusal::BadRecord { index: 4095 }));
+    assert_eq!(pair(&bad, 0, 1), 3);
+}
+
+#[test]
+fn pairs_at_the_axis_ends() {
+    begin("pairs at the axis ends", 0);
+    let apart = with_tops_at([&[1, 2_000_000_000], &[2, 1_999_999_999]]);
+    assert_eq!(mill::pair(&apart, mill::Curve::A, 1_999_999_999), Ok(Some(mill::Pair { earlier: 1, later: 2_000_000_000 })));
+    for target in [1_999_999_999, 2_000_000_000, -2_000_000_000, -1_999_999_999, 0] {
+        assert_eq!(pair(&apart, 0, target), 0);
+    }
+    assert_eq!(pair(&apart, 0, 2_000_000_001), 12);
+    assert_eq!(pair(&apart, 0, -2_000_000_001), 12);
+    assert_eq!(mill::pair(&apart, mill::Curve::A, -1_999_999_999), Ok(None));
+}
+
+#[test]
+fn first_of_equals_is_kept() {
+    // Greatest at 1 and 3, least at 2 and 4, then a middle value.
+    let recording = with_values(&[[5, 0], [9, 0], [1, 0], [9, 0], [1, 0], [5, 0]]);
+    let kept_times = |marks: &[u32]| -> Vec<u8> {
+        let bytes: Vec<u8> = marks.iter().flat_map(|mark| mark.to_le_bytes()).collect();
+        begin("edges", 0);
+        assert_eq!(thin(&recording, &bytes, 96), 0);
+        mill::thin(&recording, marks).unwrap().chunks(16).map(|record| record[0]).collect()
+    };
+    assert_eq!(kept_times(&[]), [0, 1, 2, 5]);
+    // T > 1 leaves 2, 3, 4, 5; B is flat, so its first reading there is kept too.
+    assert_eq!(kept_times(&[1]), [0, 1, 2, 3, 5]);
+    assert_eq!(kept_times(&[2]), [0, 1, 2, 3, 4, 5]);
+    assert_eq!(kept_times(&[0]), [0, 1, 2, 5]);
+    assert_eq!(kept_times(&[4]), [0, 1, 2, 5]);
+    assert_eq!(kept_times(&[5, 2_000_000_000]), [0, 1, 2, 5]);
+    assert_eq!(kept_times(&[2, 2, 2, 2, 2, 2, 2, 2]), [0, 1, 2, 3, 4, 5]);
+    assert_eq!(thin(&recording, &[2, 0, 0, 0].repeat(9), 96), 11);
+}

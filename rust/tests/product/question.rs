@@ -1,0 +1,147 @@
+//! Covers: the question call on random recordings and texts, read and unread, with outputs of any length; sets near the limit
+//! of 64 runs; many tops; long recordings.
+
+use crate::calls::{question, Tally};
+use crate::support::cases::cases;
+use crate::support::random::Random;
+use crate::support::recordings::{self, put_top, with_many_tops};
+use crate::support::texts::{self, Kind};
+use mill::reference::recording::{bytes, Record, FLAT};
+
+/// An output's length: room for all, or some few bytes.
+pub fn room(random: &mut Random) -> usize {
+    match random.below(4) {
+        0 => 8 * random.below(8),
+        1 => random.below(70),
+        _ => 512 + random.below(40),
+    }
+}
+
+fn random_questions(name: &'static str, count: u64) {
+    let mut tally = Tally::default();
+    cases(name, count, |random| {
+        let records = recordings::any(random);
+        let most = random.pick(&[9, 9, 9, 9, 9, 34]);
+        let size = 1 + random.below(most);
+        let mut text = texts::made(random, Kind::Mixed, size, &records).into_bytes();
+        if random.once_in(6) {
+            text = texts::changed(random, &String::from_utf8(text).unwrap());
+        }
+        let room = room(random);
+        tally.add(question(&bytes(&records), &text, room));
+    });
+    tally.saw(&[0], count / 5);
+    tally.saw(&[5, 6, 7, 10], count / 1000);
+}
+
+#[test]
+fn random_questions_one() {
+    random_questions("random questions one", 30_000);
+}
+
+#[test]
+fn random_questions_two() {
+    random_questions("random questions two", 30_000);
+}
+
+/// Values that lie apart, so that each makes a run of its own, on about as many records as a set may have runs.
+fn spread(random: &mut Random) -> Vec<Record> {
+    let distinct = 50 + random.below(30) as i64;
+    let apart = random.pick(&[1, 2, 2, 3, 1000]);
+    let count = 60 + random.below(110);
+    let mut records = recordings::accepted(random, count);
+    let ordered = random.once_in(2);
+    for (index, record) in records.iter_mut().enumerate() {
+        let chosen = if ordered { index as i64 % distinct } else { random.between(0, distinct) };
+        record.value[0] = apart * chosen;
+        record.value[1] = record.value[0] + random.pick(&[0, 0, 1, 5]);
+    }
+    records
+}
+
+/// Texts whose sets have many runs.
+fn wide_text(random: &mut Random, records: &[Record]) -> String {
+    let size = 1 + random.below(3);
+    let inner = random.pick(&["A=v", "A=v|B=v", "A<=v&B>=v", "A=v&!fall(A)", "T=v&A>B", "A=v|T=v", "X(A=v)"]);
+    let other = texts::made(random, Kind::Temporal, size, records);
+    match random.below(9) {
+        0 => format!("F({inner})"),
+        1 => format!("!F({inner})"),
+        2 => format!("G(!({inner}))"),
+        3 => format!("U({other},{inner})"),
+        4 => format!("U(!({inner}),{other})"),
+        5 => format!("W({other},{inner})"),
+        6 => format!("F({inner})&{other}|F({inner})"),
+        7 => format!("U(F({inner}),F({other}))"),
+        _ => format!("X(F({inner}))|{other}"),
+    }
+}
+
+#[test]
+fn sets_near_the_limit() {
+    let mut tally = Tally::default();
+    cases("sets near the limit", 3_000, |random| {
+        let records = spread(random);
+        let text = wide_text(random, &records);
+        let room = room(random);
+        tally.add(question(&bytes(&records), text.as_bytes(), room));
+    });
+    tally.saw(&[0, 8], 300);
+    tally.saw(&[10], 100);
+}
+
+#[test]
+fn many_tops() {
+    let mut tally = Tally::default();
+    cases("many tops", 6_000, |random| {
+        let records = with_many_tops(random);
+        let size = random.pick(&[1, 1, 1, 3, 5]);
+        let text = texts::made(random, Kind::Listed, size, &records);
+        let room = room(random);
+        tally.add(question(&bytes(&records), text.as_bytes(), room));
+    });
+    tally.saw(&[0, 8, 9, 10], 100);
+}
+
+/// Chains of `|` and `&` over sets of about 40 runs: which two are put together first decides whether 8 is due.
+#[test]
+fn chains_near_the_limit() {
+    let mut tally = Tally::default();
+    cases("chains near the limit", 6_000, |random| {
+        let mut records = recordings::accepted(random, 200);
+        for curve in 0..2 {
+            records.iter_mut().for_each(|record| record.slope[curve] = FLAT);
+            for top in 0..25 + random.below(40) {
+                put_top(&mut records, curve, 1 + curve + 3 * top);
+            }
+        }
+        let parts = ["peaks(A)", "peaks(B)", "!peaks(A)", "!peaks(B)", "cross", "high(A)", "low(B)", "A<v", "A>v", "T<v", "lag"];
+        let mut text = random.pick(&parts).to_string();
+        for _ in 0..2 + random.below(4) {
+            let sign = random.pick(&["|", "&"]);
+            text = match random.below(5) {
+                0 => format!("({text}){sign}{}", random.pick(&parts)),
+                1 => format!("{}{sign}({text})", random.pick(&parts)),
+                2 => format!("{}{sign}{text}", random.pick(&parts)),
+                _ => format!("{text}{sign}{}", random.pick(&parts)),
+            };
+        }
+        tally.add(question(&bytes(&records), text.as_bytes(), 512));
+    });
+    tally.saw(&[0, 8], 1_000);
+}
+
+#[test]
+fn long_recordings() {
+    let mut tally = Tally::default();
+    cases("long recordings", 160, |random| {
+        let count = random.pick(&[4096, 4096, 4095, 3000]);
+        let mut records = recordings::accepted(random, count);
+        let few = random.between(1, 40);
+        records.iter_mut().for_each(|record| record.value = record.value.map(|value| value.rem_euclid(few) * 2));
+        let size = 1 + random.below(6);
+        let text = texts::made(random, Kind::Mixed, size, &records);
+        tally.add(question(&bytes(&records), text.as_bytes(), 512));
+    });
+    tally.saw(&[0, 8], 10);
+}

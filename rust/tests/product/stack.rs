@@ -1,0 +1,179 @@
+//! Covers: the stack that the calls need: each on the deepest and widest inputs in a thread with a small stack, and the peak of
+//! each measured on a painted one (`cargo test --release stack -- --nocapture` prints it).
+
+use crate::support::cases::begin;
+use crate::support::painted;
+use crate::support::recordings::{flat, put_top, with_tops};
+use mill::reference::recording::bytes;
+#[cfg(feature = "questions")]
+use mill::sys::{mill_degree, mill_question};
+use mill::sys::{mill_pair, mill_thin};
+use std::collections::BTreeMap;
+
+/// The stack with which every call must do.
+const SMALL_STACK: usize = 256 * 1024;
+
+/// A recording of 4,096 readings under which sets grow to about 60 runs.
+fn wide() -> Vec<u8> {
+    let mut records = flat(4096);
+    for (index, record) in records.iter_mut().enumerate() {
+        record.value = [index as i64 * 37 % 60 * 2, index as i64 * 41 % 60 * 2 + 1_000];
+    }
+    for top in 0..50 {
+        put_top(&mut records, 0, 10 + 80 * top);
+        put_top(&mut records, 1, 30 + 80 * top);
+    }
+    bytes(&records)
+}
+
+/// The deepest texts: read whole before they are refused, or evaluated.
+#[cfg(feature = "questions")]
+fn texts() -> Vec<String> {
+    let nested =
+        |open: &str, inner: &str, close: &str, count: usize| format!("{}{inner}{}", open.repeat(count), close.repeat(count));
+    vec![
+        "A=v".into(),
+        nested("(", "A>=v", ")", 126),
+        nested("(", "A>=v", ")", 16),
+        nested("!", "A=v", "", 253),
+        nested("!", "A=v", "", 31),
+        nested("!(", "A=v", ")", 84),
+        nested("F(", "A=v", ")", 84),
+        nested("F(", "A=v", ")", 16),
+        nested("G(", "!A=v", ")", 15),
+        nested("U(A=v,", "A=v", ")", 31),
+        nested("U(A=v,", "A=v", ")", 15),
+        nested("W(", "A=v", ",A=v)", 15),
+        nested("U(", "F(A=v)", ",F(B=v))", 9),
+        nested("(A=v|", "A=v", ")", 15),
+        nested("A=v|(A=v&", "A=v", ")", 7),
+        nested("(A=v|", "A=v", ")", 41),
+        format!("{}A=v", "A=v|".repeat(15)),
+        format!("{}A=v", "A=v|".repeat(63)),
+        format!("F(A=v)|F(B=v)&{}F(A=v)", "F(B=v)|".repeat(9)),
+        "A=v|!(B=v&!(T=v|!(A=v&!(B=v|!(T=v)))))".into(),
+        "peaks(A)|gaps(A)|steps(B)|lag".into(),
+        "lag".into(),
+        "gaps(A)".into(),
+        format!("{}lag", "peaks(A)|".repeat(15)),
+        format!("A>{}", "1".repeat(254)),
+        "x".into(),
+    ]
+}
+
+fn recordings() -> Vec<Vec<u8>> {
+    vec![wide(), bytes(&with_tops(4096, [256, 256])), bytes(&with_tops(600, [60, 3])), bytes(&flat(1))]
+}
+
+const MARKS: [u8; 32] = [1, 0, 0, 0, 0, 1, 0, 0, 0, 2, 0, 0, 0, 3, 0, 0, 0, 4, 0, 0, 0, 5, 0, 0, 0, 6, 0, 0, 0, 15, 0, 0];
+
+/// A call with what it is called on.
+enum Job {
+    #[cfg(feature = "questions")]
+    Question(Vec<u8>, String),
+    #[cfg(feature = "questions")]
+    Degree(Vec<u8>, String),
+    Pair(Vec<u8>, i64),
+    Thin(Vec<u8>),
+}
+
+fn jobs() -> Vec<Job> {
+    let mut jobs = Vec::new();
+    for recording in recordings() {
+        #[cfg(feature = "questions")]
+        for text in texts() {
+            jobs.push(Job::Question(recording.clone(), text.clone()));
+            jobs.push(Job::Degree(recording.clone(), text));
+        }
+        jobs.push(Job::Pair(recording.clone(), 16));
+        jobs.push(Job::Pair(recording.clone(), 5));
+        jobs.push(Job::Thin(recording));
+    }
+    jobs
+}
+
+/// Calls the library and nothing else.
+fn run(job: &Job, out: &mut [u8]) -> u64 {
+    let (mut one, mut two) = (0u32, 0u32);
+    // SAFETY: each pointer lies before as many bytes as its length says, or before its number.
+    unsafe {
+        match job {
+            #[cfg(feature = "questions")]
+            Job::Question(recording, text) => {
+                mill_question(recording.as_ptr(), recording.len(), text.as_ptr(), text.len(), out.as_mut_ptr(), out.len())
+            }
+            #[cfg(feature = "questions")]
+            Job::Degree(recording, text) => {
+                let mut real = 0f64;
+                mill_degree(recording.as_ptr(), recording.len(), text.as_ptr(), text.len(), 7, &mut one, &mut real)
+            }
+            Job::Pair(recording, target) => mill_pair(recording.as_ptr(), recording.len(), 0, *target, &mut one, &mut two),
+            Job::Thin(recording) => {
+                mill_thin(recording.as_ptr(), recording.len(), MARKS.as_ptr(), MARKS.len(), out.as_mut_ptr(), out.len())
+            }
+        }
+    }
+}
+
+#[test]
+fn every_call_with_a_small_stack() {
+    crate::guarded::say_the_case_on_faults();
+    let jobs = jobs();
+    let expected: Vec<u64> = jobs.iter().map(|job| run(job, &mut vec![0; 65_536])).collect();
+    let small = std::thread::Builder::new().stack_size(SMALL_STACK);
+    let in_small = small
+        .spawn(move || {
+            let mut out = vec![0; 65_536];
+            let each = jobs.iter().enumerate().map(|(case, job)| {
+                begin("every call with a small stack", case as u64);
+                run(job, &mut out)
+            });
+            each.collect::<Vec<u64>>()
+        })
+        .unwrap();
+    assert_eq!(in_small.join().unwrap(), expected);
+    assert!(expected.iter().any(|returned| *returned == 1) && expected.iter().any(|returned| *returned > 1_000));
+    #[cfg(feature = "questions")]
+    let refused = |number: u64| expected.iter().filter(|returned| **returned >> 32 == number).count();
+    #[cfg(feature = "questions")]
+    assert!(refused(0) > 40 && refused(7) > 20 && refused(8) > 4, "the jobs reach results and refusals 7 and 8");
+}
+
+#[test]
+fn peak_of_every_call() {
+    let mut peaks = BTreeMap::new();
+    let mut out = vec![0; 65_536];
+    for (case, job) in jobs().iter().enumerate() {
+        begin("peak of every call", case as u64);
+        let peak = painted::peak(&mut || {
+            run(job, &mut out);
+        });
+        let call = match job {
+            #[cfg(feature = "questions")]
+            Job::Question(..) => "mill_question",
+            #[cfg(feature = "questions")]
+            Job::Degree(..) => "mill_degree",
+            Job::Pair(..) => "mill_pair",
+            Job::Thin(_) => "mill_thin",
+        };
+        let most = peaks.entry(call).or_insert(0);
+        *most = peak.max(*most);
+    }
+    for (call, peak) in peaks {
+        println!("{call}: {peak} bytes of stack at most");
+        assert!(peak > 0 && peak < SMALL_STACK, "{call} needs {peak} bytes of stack");
+    }
+}
+
+#[test]
+fn the_painted_stack_sees_what_is_used() {
+    #[inline(never)]
+    fn use_some(bytes: usize) -> u8 {
+        let mut space = [0u8; 50_000];
+        std::hint::black_box(&mut space[..bytes]).fill(1);
+        std::hint::black_box(&space)[bytes - 1]
+    }
+    let peak = painted::peak(&mut || assert_eq!(use_some(50_000), 1));
+    assert!((50_000..60_000).contains(&peak), "{peak}");
+    assert!(painted::peak(&mut || ()) < 1_000);
+}

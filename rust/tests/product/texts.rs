@@ -1,0 +1,107 @@
+//! Covers: every text up to some length over small alphabets of bytes and of words; every text one byte away from a list of
+//! good ones, for all 256 bytes.
+
+use crate::calls::{question, Tally};
+use crate::support::cases::begin;
+use crate::support::recordings::r1_bytes;
+
+/// Asks every text of `least` to `most` words on R1; how many have a reading.
+fn every_text(name: &'static str, words: &[&str], most: usize) -> u64 {
+    let recording = r1_bytes();
+    let (mut case, mut read) = (0, 0);
+    for length in 1..=most {
+        let mut chosen = vec![0; length];
+        loop {
+            let text: String = chosen.iter().map(|word| words[*word]).collect();
+            begin(name, case);
+            case += 1;
+            read += u64::from(question(&recording, text.as_bytes(), 512) != 6);
+            let Some(place) = chosen.iter().rposition(|word| word + 1 < words.len()) else { break };
+            chosen[place] += 1;
+            chosen[place + 1..].fill(0);
+        }
+    }
+    read
+}
+
+#[test]
+fn every_short_text_of_bytes() {
+    let bytes = ["A", "B", "T", "v", "<", ">", "=", "-", "0", "1", "9", "!", "|", "(", ")", "X", ","];
+    // 3 bytes: A, B or T; < > or =; v or a digit; and A with B. 4 bytes: >= and <= so; numbers of two bytes; and !.
+    let three = 3 * 3 * 4 + 3;
+    let four = 3 * 2 * 4 + 2 + 3 * 3 * (2 * 3 + 2) + three;
+    assert_eq!(every_text("every short text of bytes", &bytes, 4), three + four);
+}
+
+#[test]
+fn every_short_text_of_words() {
+    let words = ["A=v", "|", "&", "!", "(", ")", "F(", "U(", ","];
+    assert_eq!(every_text("every short text of words", &words, 5), 1 + 1 + 5 + 9 + 34);
+    let words = ["B<=60", "|", "&", "!", "(", ")"];
+    assert_eq!(every_text("every short text of words, no temporal one", &words, 6), 1 + 1 + 4 + 7 + 21 + 46);
+    let words = ["lag", "low(", "lowafter(", "A", ",", "5", ")", "|", "X("];
+    assert_eq!(every_text("every short text of words, listed", &words, 5), 1 + 2 + 4);
+}
+
+#[test]
+fn every_short_number() {
+    // 0 alone; else 1 to 4 digits of which the first is not 0, with a minus 1 to 3.
+    let numbers = 1 + 2 * (1 + 3 + 9 + 27) + 2 * (1 + 3 + 9);
+    assert_eq!(every_text("every short number", &["A>", "0", "1", "7", "-"], 5), numbers);
+}
+
+#[test]
+fn every_text_one_byte_away() {
+    let recording = r1_bytes();
+    let texts = [
+        "A>=v",
+        "B<=v",
+        "T>v",
+        "A<v",
+        "B=v",
+        "T>=30",
+        "A<=-7",
+        "A>B",
+        "A<=B",
+        "fall(A)",
+        "rise(B)",
+        "high(A)",
+        "low(B)",
+        "lowafter(A,40)",
+        "capafter(B,0)",
+        "peaks(A)",
+        "cross",
+        "ampl(A)",
+        "gaps(B)",
+        "steps(A)",
+        "lag",
+        "!A=v",
+        "(A=v)",
+        "F(A=v)",
+        "G(B<v)",
+        "X(T=v)",
+        "U(A=v,B=v)",
+        "W(A>v,T=v)",
+        "A=v|B=v&T=v",
+        "A=2000000000",
+        "A=-2000000000",
+    ];
+    let mut tally = Tally::default();
+    for (case, text) in texts.iter().enumerate() {
+        begin("every text one byte away", case as u64);
+        let text = text.as_bytes();
+        assert_ne!(question(&recording, text, 512), 6);
+        for at in 0..=text.len() {
+            if at < text.len() {
+                tally.add(question(&recording, &[&text[..at], &text[at + 1..]].concat(), 512));
+            }
+            for byte in 0..=255 {
+                tally.add(question(&recording, &[&text[..at], &[byte], &text[at..]].concat(), 512));
+                if at < text.len() {
+                    tally.add(question(&recording, &[&text[..at], &[byte], &text[at + 1..]].concat(), 512));
+                }
+            }
+        }
+    }
+    tally.saw(&[0, 6], 500);
+}

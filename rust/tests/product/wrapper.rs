@@ -1,0 +1,133 @@
+//! Covers: the safe wrapper: R1's lines through it, every refusal by its name, number and place.
+
+use crate::support::recordings::{flat, r1_bytes, with_tops};
+use mill::reference::recording::bytes;
+use mill::{Curve, Pair, Reading, Refusal, Slope};
+#[cfg(feature = "questions")]
+use mill::{Degree, Run};
+
+#[cfg(feature = "questions")]
+const LOW: i32 = -2_000_000_000;
+#[cfg(feature = "questions")]
+const HIGH: i32 = 2_000_000_000;
+
+fn r1() -> Vec<u8> {
+    use Slope::{Falling, Flat, Rising};
+    let readings =
+        [(40, Rising), (60, Rising), (80, Rising), (70, Falling), (30, Falling), (55, Rising), (90, Rising), (45, Falling)];
+    let reading = |(index, (a, slope_a)): (usize, &(i32, Slope))| Reading {
+        time: 10 * index as u32,
+        a: *a,
+        b: 50,
+        slope_a: *slope_a,
+        slope_b: Flat,
+    };
+    readings.iter().enumerate().map(reading).flat_map(Reading::to_bytes).collect()
+}
+
+#[test]
+fn r1_lines() {
+    let recording = r1();
+    assert_eq!(recording, r1_bytes());
+    let kept = |marks: &[u32]| -> Vec<u8> { mill::thin(&recording, marks).unwrap().chunks(16).map(|record| record[0]).collect() };
+    assert_eq!(kept(&[]), [0, 20, 30, 40, 60, 70]);
+    assert_eq!(kept(&[40]), [0, 20, 30, 40, 50, 60, 70]);
+    assert_eq!(mill::pair(&recording, Curve::A, 40), Ok(Some(Pair { earlier: 30, later: 70 })));
+    assert_eq!(mill::pair(&recording, Curve::A, 41), Ok(None));
+    assert_eq!(mill::pair(&recording, Curve::B, 40), Ok(None));
+}
+
+#[cfg(feature = "questions")]
+#[test]
+fn r1_answers() {
+    let recording = r1();
+    let runs = |text: &str| -> Vec<(i32, i32)> {
+        let runs = mill::question(&recording, text.as_bytes()).expect(text);
+        runs.iter().map(|Run { low, high }| (*low, *high)).collect()
+    };
+    assert_eq!(runs("high(A)"), [(LOW, 90)]);
+    assert_eq!(runs("low(A)"), [(30, HIGH)]);
+    assert_eq!(runs("ampl(A)"), [(LOW, 60)]);
+    assert_eq!(runs("peaks(A)"), [(30, 30), (70, 70)]);
+    assert_eq!(runs("gaps(A)"), [(40, 40)]);
+    assert_eq!(runs("cross"), [(40, 40), (70, 70)]);
+    assert_eq!(runs("lag"), []);
+    assert_eq!(runs("lowafter(A,40)"), [(45, HIGH)]);
+    assert_eq!(runs("lowafter(A,70)"), []);
+    assert_eq!(runs("capafter(A,70)"), [(LOW, HIGH)]);
+    assert_eq!(runs("U(A>=40,A=v)"), [(30, 30), (40, 40), (60, 60), (70, 70), (80, 80)]);
+    assert_eq!(mill::degree(&recording, b"peaks(A)", 30), Ok(Degree::Met));
+    assert_eq!(mill::degree(&recording, b"peaks(A)", 51), Ok(Degree::Short { distance: 19, degree: 0.05 }));
+    assert_eq!(mill::degree(&recording, b"lag", 30), Ok(Degree::NoValue));
+}
+
+#[test]
+fn every_refusal() {
+    let recording = r1();
+    let mut bad = recording.clone();
+    bad[5 * 16 + 13] = 3;
+    let tops = bytes(&with_tops(4096, [257, 0]));
+    let found = [
+        (1, mill::thin(&recording[1..], &[]).unwrap_err()),
+        (1, mill::pair(&recording[1..], Curve::A, 40).unwrap_err()),
+        (2, mill::thin(&bytes(&flat(4097)), &[]).unwrap_err()),
+        (3, mill::thin(&bad, &[]).unwrap_err()),
+        (3, mill::pair(&bad, Curve::A, 40).unwrap_err()),
+        (4, mill::pair(&[], Curve::A, 40).unwrap_err()),
+        (9, mill::pair(&tops, Curve::A, 40).unwrap_err()),
+        (10, mill::thin_into(&recording, &[], &mut [0; 95]).unwrap_err()),
+        (11, mill::thin(&recording, &[0; 9]).unwrap_err()),
+        (12, mill::pair(&recording, Curve::B, 2_000_000_001).unwrap_err()),
+    ];
+    for (number, refusal) in found {
+        assert_eq!(refusal.number(), number);
+        assert_eq!(refusal.place(), if number == 3 { 5 } else { 0 });
+    }
+    assert_eq!(found[3].1, Refusal::BadRecord { index: 5 });
+    assert_eq!(found[3].1.to_string(), "refused 3 5");
+    assert_eq!(found[7].1, Refusal::ShortOutput);
+}
+
+#[cfg(feature = "questions")]
+#[test]
+fn every_refusal_of_questions() {
+    let recording = r1();
+    let mut bad = recording.clone();
+    bad[5 * 16 + 13] = 3;
+    let tops = |count: usize| bytes(&with_tops(4096, [count, 0]));
+    let found = [
+        mill::question(&recording[1..], b"lag").unwrap_err(),
+        mill::question(&bytes(&flat(4097)), b"lag").unwrap_err(),
+        mill::question(&bad, b"lag").unwrap_err(),
+        mill::question(&[], b"lag").unwrap_err(),
+        mill::question(&recording, b"").unwrap_err(),
+        mill::question(&recording, b"F(A>v").unwrap_err(),
+        mill::question(&recording, b"(((((((((((((((((A>=v)))))))))))))))))").unwrap_err(),
+        mill::question(&tops(65), b"peaks(A)").unwrap_err(),
+        mill::question(&tops(257), b"gaps(A)").unwrap_err(),
+        mill::question_into(&recording, b"peaks(A)", &mut [0; 15]).unwrap_err(),
+        mill::thin(&recording, &[0; 9]).unwrap_err(),
+        mill::degree(&recording, b"lag", 2_000_000_001).unwrap_err(),
+    ];
+    for (index, refusal) in found.iter().enumerate() {
+        assert_eq!(refusal.number() as usize, index + 1);
+        assert_eq!(refusal.place(), if index == 2 { 5 } else { 0 });
+    }
+    assert_eq!(found[2], Refusal::BadRecord { index: 5 });
+    assert_eq!(found[2].to_string(), "refused 3 5");
+    assert_eq!(found[9], Refusal::ShortOutput);
+}
+
+#[test]
+fn outputs_stay_behind_the_result() {
+    #[cfg(feature = "questions")]
+    {
+        let mut out = [7; 40];
+        assert_eq!(mill::question_into(&r1(), b"peaks(A)", &mut out), Ok(16));
+        assert_eq!(out[16..], [7; 24]);
+    }
+    let mut out = [7; 130];
+    assert_eq!(mill::thin_into(&r1(), &[], &mut out), Ok(96));
+    assert_eq!(out[96..], [7; 34]);
+    assert_eq!(mill::thin_into(&r1(), &[1], &mut out), Err(Refusal::BadMarks));
+}

@@ -1,0 +1,11 @@
+//! The independent implementation, held to the scope's own words: these tests need no library.
+
+#[path = "../support/mod.rs"]
+mod support;
+
+mod grammar;
+mod kept;
+mod plain;
+mod r1;
+mod sets;
+mod truth;

@@ -1,0 +1,49 @@
+//! Covers: the plain Rust of the benchmarks against the independent implementation.
+
+use crate::support::cases::cases;
+use crate::support::{recordings, texts};
+use mill::reference::recording::bytes;
+use mill::reference::{self, Degree};
+
+#[test]
+fn plain_rust_answers_alike() {
+    cases("plain Rust answers alike", 20_000, |random| {
+        let records = recordings::any(random);
+        let mut recording = bytes(&records);
+        if random.once_in(8) {
+            recording = recordings::damaged(random, recording);
+        }
+        let size = 1 + random.below(12);
+        let mut text = texts::made(random, texts::Kind::Mixed, size, &records).into_bytes();
+        if random.once_in(6) {
+            text = texts::changed(random, &String::from_utf8(text).unwrap());
+        }
+        let pair = |refused: reference::Refused| (refused.number, refused.place);
+        let room = random.pick(&[1024, 1024, 16, 7]);
+        let mut out = vec![0; room];
+        let plain = mill::plain::question(&recording, &text, &mut out).map(|length| out[..length].to_vec());
+        assert_eq!(plain, reference::question(&recording, &text, room).map_err(pair));
+
+        let target = texts::number(random, &records) * random.pick(&[1, 1, 1, 3]);
+        let plain = mill::plain::degree(&recording, &text, target);
+        let degree = reference::degree(&recording, &text, target).map(|degree| match degree {
+            Degree::Met => Some((0, 1.0)),
+            Degree::Short { distance, degree } => Some((distance, degree)),
+            Degree::NoValue => None,
+        });
+        assert_eq!(plain, degree.map_err(pair));
+
+        let marks = reference::kept::mark_bytes(&recordings::marks(random, &records));
+        let mut out = vec![0; recording.len()];
+        let plain = mill::plain::thin(&recording, &marks, &mut out).map(|length| out[..length].to_vec());
+        assert_eq!(plain, reference::thin(&recording, &marks, recording.len()).map_err(pair));
+
+        let curve = random.below(3) as u32;
+        let gap = random.between(0, 30);
+        match (mill::plain::pair(&recording, curve, gap), reference::pairs(&recording, curve, gap)) {
+            (Ok(None), Ok(fitting)) => assert_eq!(fitting, []),
+            (Ok(Some(found)), Ok(fitting)) => assert!(fitting.contains(&found)),
+            (plain, reference) => assert_eq!(plain.err(), reference.err().map(pair)),
+        }
+    });
+}

@@ -1,0 +1,118 @@
+//! Covers: recording R1's lines, the table's examples and its orders, on the independent implementation.
+
+use crate::support::recordings::{flat, r1, r1_bytes, with_tops};
+use mill::reference::set::{HIGH, LOW};
+use mill::reference::{degree, kept, pairs, question, recording, thin, Degree, Refused};
+
+const ROOM: usize = 1 << 20;
+
+/// The runs that the text answers on R1.
+fn runs(text: &str) -> Vec<(i64, i64)> {
+    runs_of(&r1_bytes(), text)
+}
+
+fn runs_of(recording: &[u8], text: &str) -> Vec<(i64, i64)> {
+    let bytes = question(recording, text.as_bytes(), ROOM).expect(text);
+    let number = |at: usize| i64::from(i32::from_le_bytes(bytes[at..at + 4].try_into().unwrap()));
+    (0..bytes.len()).step_by(8).map(|at| (number(at), number(at + 4))).collect()
+}
+
+fn refused(number: u32) -> Refused {
+    Refused::plain(number)
+}
+
+fn times(bytes: &[u8]) -> Vec<i64> {
+    recording::in_rules(bytes).unwrap().iter().map(|record| record.time).collect()
+}
+
+#[test]
+fn marked_lines() {
+    assert_eq!(runs("high(A)"), [(LOW, 90)]);
+    assert_eq!(runs("low(A)"), [(30, HIGH)]);
+    assert_eq!(runs("ampl(A)"), [(LOW, 60)]);
+    assert_eq!(runs("peaks(A)"), [(30, 30), (70, 70)]);
+    assert_eq!(runs("gaps(A)"), [(40, 40)]);
+    assert_eq!(runs("cross"), [(40, 40), (70, 70)]);
+    assert_eq!(runs("lag"), []);
+    assert_eq!(runs("lowafter(A,40)"), [(45, HIGH)]);
+    assert_eq!(runs("lowafter(A,70)"), []);
+    assert_eq!(runs("capafter(A,70)"), [(LOW, HIGH)]);
+    assert_eq!(runs("U(A>=40,A=v)"), [(30, 30), (40, 40), (60, 60), (70, 70), (80, 80)]);
+    assert_eq!(times(&thin(&r1_bytes(), &[], ROOM).unwrap()), [0, 20, 30, 40, 60, 70]);
+    assert_eq!(times(&thin(&r1_bytes(), &kept::mark_bytes(&[40]), ROOM).unwrap()), [0, 20, 30, 40, 50, 60, 70]);
+}
+
+#[test]
+fn kept_readings_lose_what_only_x_sees() {
+    let text = "F(A=60&X(A=v))";
+    assert_eq!(runs(text), [(80, 80)]);
+    assert_eq!(runs_of(&thin(&r1_bytes(), &[], ROOM).unwrap(), text), []);
+}
+
+#[test]
+fn table_examples() {
+    let r1 = r1_bytes();
+    assert_eq!(question(&[0; 17], b"high(A)", ROOM), Err(refused(1)));
+    assert_eq!(question(&vec![0; 65_552], b"high(A)", ROOM), Err(refused(2)));
+    let mut bad = r1.clone();
+    bad[5 * 16 + 12] = 3;
+    assert_eq!(question(&bad, b"high(A)", ROOM), Err(Refused { number: 3, place: 5 }));
+    assert_eq!(question(&[], b"high(A)", ROOM), Err(refused(4)));
+    assert_eq!(thin(&[], &[], 0), Ok(vec![]));
+    assert_eq!(question(&r1, b"", ROOM), Err(refused(5)));
+    assert_eq!(question(&r1, b"F(A>v", ROOM), Err(refused(6)));
+    let brackets = |count: usize| format!("{}A>=v{}", "(".repeat(count), ")".repeat(count));
+    assert_eq!(question(&r1, brackets(17).as_bytes(), ROOM), Err(refused(7)));
+    assert_eq!(runs(&brackets(16)), [(LOW, 40)]);
+    let tops = |count: usize| recording::bytes(&with_tops(4096, [count, 0]));
+    assert_eq!(question(&tops(65), b"peaks(A)", ROOM), Err(refused(8)));
+    assert_eq!(runs_of(&tops(64), "peaks(A)").len(), 64);
+    assert_eq!(question(&tops(257), b"gaps(A)", ROOM), Err(refused(9)));
+    assert_eq!(question(&tops(256), b"gaps(A)", ROOM), Err(refused(8)));
+    assert_eq!(pairs(&tops(257), 0, 1), Err(refused(9)));
+    assert_eq!(question(&r1, b"peaks(A)", 15), Err(refused(10)));
+    assert_eq!(question(&r1, b"peaks(A)", 16).map(|bytes| bytes.len()), Ok(16));
+    assert_eq!(thin(&r1, &[0; 3], ROOM), Err(refused(11)));
+    assert_eq!(degree(&r1, b"high(A)", 2_000_000_001), Err(refused(12)));
+    assert_eq!(pairs(&r1, 2, 40), Err(refused(12)));
+}
+
+#[test]
+fn degrees_and_pairs() {
+    let r1 = r1_bytes();
+    assert_eq!(degree(&r1, b"peaks(A)", 30), Ok(Degree::Met));
+    assert_eq!(degree(&r1, b"peaks(A)", 51), Ok(Degree::Short { distance: 19, degree: 0.05 }));
+    assert_eq!(degree(&r1, b"lag", 0), Ok(Degree::NoValue));
+    assert_eq!(degree(&r1, b"high(A)", HIGH), Ok(Degree::Short { distance: 1_999_999_910, degree: 1.0 / 1_999_999_911.0 }));
+    assert_eq!(pairs(&r1, 0, 40), Ok(vec![(30, 70)]));
+    assert_eq!(pairs(&r1, 0, 39), Ok(vec![]));
+    assert_eq!(pairs(&r1, 0, 0), Ok(vec![]));
+    assert_eq!(pairs(&r1, 1, 40), Ok(vec![]));
+}
+
+#[test]
+fn orders() {
+    let empty_text = b"";
+    assert_eq!(question(&[0; 65_553], empty_text, 0), Err(refused(1)));
+    assert_eq!(question(&vec![9; 65_552], empty_text, 0), Err(refused(2)));
+    assert_eq!(question(&[9; 16], empty_text, 0), Err(refused(3)));
+    assert_eq!(question(&[], empty_text, 0), Err(refused(4)));
+    // 12 stands before 9 and 8 in a degree, and 9 before 8.
+    let many = recording::bytes(&with_tops(4096, [257, 257]));
+    assert_eq!(degree(&many, b"gaps(A)|peaks(A)", i64::MIN), Err(refused(12)));
+    assert_eq!(degree(&many, b"peaks(A)|gaps(A)", 0), Err(refused(9)));
+    assert_eq!(question(&many, b"peaks(A)|lag", 0), Err(refused(9)));
+    assert_eq!(question(&many, b"peaks(A)", 0), Err(refused(8)));
+    assert_eq!(pairs(&many, 0, i64::MAX), Err(refused(12)));
+    assert_eq!(pairs(&many, 0, -1), Err(refused(9)));
+    assert_eq!(thin(&[9; 16], &[0; 3], 0), Err(refused(3)));
+    assert_eq!(thin(&recording::bytes(&flat(1)), &[0; 3], 0), Err(refused(11)));
+    assert_eq!(thin(&recording::bytes(&flat(1)), &[0; 4], 15), Err(refused(10)));
+}
+
+#[test]
+fn r1_is_as_printed() {
+    let times: Vec<i64> = r1().iter().map(|record| record.time).collect();
+    assert_eq!(times, [0, 10, 20, 30, 40, 50, 60, 70]);
+    assert_eq!(recording::accepted(&r1_bytes()), Ok(r1()));
+}

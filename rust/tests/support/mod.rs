@@ -1,0 +1,9 @@
+//! What the tests share: numbered cases with seeds of their own, and what is made at random.
+#![allow(dead_code)]
+
+pub mod cases;
+pub mod compared;
+pub mod painted;
+pub mod random;
+pub mod recordings;
+pub mod texts;

@@ -1,0 +1,245 @@
+//! Recordings of many shapes, R1, marks, and damage.
+
+use super::random::Random;
+use mill::reference::recording::{self, Record, FALLING, FLAT, MOST_TIME, MOST_VALUE, RISING};
+use std::cmp::Ordering;
+
+/// Recording R1.
+pub fn r1() -> Vec<Record> {
+    let a = [40, 60, 80, 70, 30, 55, 90, 45];
+    let slopes = [2, 2, 2, 0, 0, 2, 2, 0];
+    (0..8).map(|i| Record { time: 10 * i as i64, value: [a[i], 50], slope: [slopes[i], FLAT] }).collect()
+}
+
+pub fn r1_bytes() -> Vec<u8> {
+    recording::bytes(&r1())
+}
+
+/// `count` flat records at times 0, 1, .., all values 0.
+pub fn flat(count: usize) -> Vec<Record> {
+    (0..count).map(|i| Record { time: i as i64, value: [0, 0], slope: [FLAT, FLAT] }).collect()
+}
+
+/// Makes record `index` a top of the curve and not the one before; both lie after the first.
+pub fn put_top(records: &mut [Record], curve: usize, index: usize) {
+    records[index - 1].slope[curve] = RISING;
+    records[index].slope[curve] = FALLING;
+}
+
+/// A recording of `count` records with `tops` tops of either curve, evenly spaced.
+pub fn with_tops(count: usize, tops: [usize; 2]) -> Vec<Record> {
+    let mut records = flat(count);
+    for (curve, tops) in tops.into_iter().enumerate() {
+        for top in 0..tops {
+            put_top(&mut records, curve, 1 + top * (count - 1) / tops);
+        }
+    }
+    records
+}
+
+/// How many records a random recording has: few, mostly.
+pub fn length(random: &mut Random) -> usize {
+    match random.below(10) {
+        0 => 1,
+        1 => 2,
+        2..=5 => 3 + random.below(6),
+        6..=8 => 9 + random.below(24),
+        _ => 33 + random.below(40),
+    }
+}
+
+/// An accepted recording of `count` records.
+pub fn accepted(random: &mut Random, count: usize) -> Vec<Record> {
+    let times = times(random, count);
+    let (a, b) = (values(random, &times), values(random, &times));
+    let (slopes_a, slopes_b) = (slopes(random, &a), slopes(random, &b));
+    (0..count).map(|i| Record { time: times[i], value: [a[i], b[i]], slope: [slopes_a[i], slopes_b[i]] }).collect()
+}
+
+/// An accepted recording of a random length.
+pub fn any(random: &mut Random) -> Vec<Record> {
+    let count = length(random);
+    accepted(random, count)
+}
+
+/// Strictly ascending times.
+fn times(random: &mut Random, count: usize) -> Vec<i64> {
+    let most_step = match random.below(6) {
+        0 => 1,
+        1 | 2 => 3,
+        3 => 20,
+        4 => 1_000,
+        _ => MOST_TIME / count as i64,
+    };
+    let mut steps: Vec<i64> = (0..count).map(|_| random.between(1, most_step)).collect();
+    let slack = MOST_TIME - steps.iter().sum::<i64>();
+    steps[0] = match random.below(4) {
+        0 => 0,
+        1 => random.between(0, slack.min(5)),
+        2 => random.between(0, slack),
+        // The last time is the greatest there is.
+        _ => slack + steps[0],
+    };
+    steps
+        .iter()
+        .scan(0, |time, step| {
+            *time += step;
+            Some(*time)
+        })
+        .collect()
+}
+
+/// Values of one curve, out of one of several palettes.
+fn values(random: &mut Random, times: &[i64]) -> Vec<i64> {
+    let palette: Vec<i64> = match random.below(8) {
+        0 => vec![random.between(-MOST_VALUE, MOST_VALUE)],
+        1 => vec![0, 1],
+        2 | 3 => (-3..=3).collect(),
+        4 => (0..20).map(|i| 2 * i).collect(),
+        5 => vec![-MOST_VALUE, -MOST_VALUE + 1, -1, 0, 1, MOST_VALUE - 1, MOST_VALUE],
+        6 => times.iter().map(|time| (*time).min(MOST_VALUE)).collect(),
+        _ => (0..6).map(|_| random.between(-MOST_VALUE, MOST_VALUE)).collect(),
+    };
+    times.iter().map(|_| random.pick(&palette)).collect()
+}
+
+/// Slopes that fit the values, that alternate, that seldom change, or any.
+fn slopes(random: &mut Random, values: &[i64]) -> Vec<u8> {
+    let from: &[u8] = match random.below(5) {
+        0 => return fitting_slopes(values),
+        1 => return (0..values.len()).map(|i| if i % 2 == 0 { RISING } else { FALLING }).collect(),
+        2 => &[FLAT, FLAT, FLAT, FLAT, FALLING],
+        3 => &[FALLING, FALLING, FLAT],
+        _ => &[FALLING, FLAT, RISING],
+    };
+    values.iter().map(|_| random.pick(from)).collect()
+}
+
+fn fitting_slopes(values: &[i64]) -> Vec<u8> {
+    let slope = |i: usize| match values[i].cmp(&values[i.saturating_sub(1)]) {
+        Ordering::Less => FALLING,
+        Ordering::Equal => FLAT,
+        Ordering::Greater => RISING,
+    };
+    (0..values.len()).map(slope).collect()
+}
+
+/// Accepted marks: 0 to 8, near the recording's times or anywhere, with repeats.
+pub fn marks(random: &mut Random, records: &[Record]) -> Vec<i64> {
+    let count = random.pick(&[0, 0, 1, 1, 2, 3, 8]);
+    (0..count).map(|_| mark(random, records)).collect()
+}
+
+pub fn mark(random: &mut Random, records: &[Record]) -> i64 {
+    match random.below(8) {
+        0 => random.pick(&[0, 1, MOST_TIME - 1, MOST_TIME]),
+        1 => random.between(0, MOST_TIME),
+        _ if records.is_empty() => 0,
+        n => (records[random.below(records.len())].time + n as i64 % 3 - 1).clamp(0, MOST_TIME),
+    }
+}
+
+/// Bytes with some damage: flipped bits, a byte set, a cut, junk behind, records swapped, or a field out of its range.
+pub fn damaged(random: &mut Random, mut bytes: Vec<u8>) -> Vec<u8> {
+    for _ in 0..1 + random.below(2) {
+        let length = bytes.len();
+        match random.below(9) {
+            0 | 1 if length > 0 => bytes[random.below(length)] ^= 1 << random.below(8),
+            2 if length > 0 => bytes[random.below(length)] = random.pick(&[0, 1, 2, 3, 127, 128, 255]),
+            3 => bytes.truncate(random.below(length + 1)),
+            4 => bytes.extend((0..1 + random.below(20)).map(|i| i as u8)),
+            5 if length >= 32 => {
+                let at = 16 * random.below(length / 16 - 1);
+                bytes[at..at + 32].rotate_left(16);
+            }
+            6 if length >= 16 => {
+                let at = 16 * random.below(length / 16) + random.pick(&[0, 4, 8]);
+                let number = random.pick(&[
+                    2_000_000_000,
+                    2_000_000_001,
+                    1_000_000_000,
+                    1_000_000_001,
+                    -1_000_000_000,
+                    -1_000_000_001,
+                    i64::from(i32::MIN),
+                    i64::from(i32::MAX),
+                    -1,
+                    0,
+                ]);
+                bytes[at..at + 4].copy_from_slice(&(number as u32).to_le_bytes());
+            }
+            7 if length >= 16 => {
+                let at = 16 * random.below(length / 16) + 12 + random.below(4);
+                bytes[at] = random.pick(&[0, 1, 2, 3, 255]);
+            }
+            8 if length >= 32 => {
+                // A time again.
+                let at = 16 * (1 + random.below(length / 16 - 1));
+                bytes.copy_within(at - 16..at - 12, at);
+            }
+            _ => {}
+        }
+    }
+    bytes
+}
+
+/// Marks that 11 may refuse.
+pub fn odd_marks(random: &mut Random) -> Vec<u8> {
+    let mut bytes: Vec<u8> = Vec::new();
+    for _ in 0..random.pick(&[0, 1, 2, 7, 8, 9, 10, 64]) {
+        let mark = random.pick(&[0, 5, 1_999_999_999, 2_000_000_000, 2_000_000_001, u32::MAX]);
+        bytes.extend(if random.once_in(3) { mark } else { mark.min(2_000_000_000) }.to_le_bytes());
+    }
+    bytes.truncate(bytes.len() - random.pick(&[0, 0, 0, 1, 2, 3]).min(bytes.len()));
+    bytes
+}
+
+/// A recording with up to 300 tops of either curve, at times that make many or few runs.
+pub fn with_many_tops(random: &mut Random) -> Vec<Record> {
+    let most = random.pick(&[3, 12, 66, 257, 300]);
+    let count = 2 * most + 10;
+    let mut records = accepted(random, count);
+    records.iter_mut().for_each(|record| record.slope = [FLAT, FLAT]);
+    for curve in 0..2 {
+        let tops = if random.once_in(3) { most } else { random.below(most) };
+        let gap = random.pick(&[0, 0, 1, 2]);
+        let mut index = 1;
+        for _ in 0..tops {
+            index += random.below(gap + 1);
+            if index >= count {
+                break;
+            }
+            put_top(&mut records, curve, index);
+            index += 2;
+        }
+    }
+    if random.once_in(2) {
+        // Times so close that differences meet.
+        let mut time = 0;
+        for record in &mut records {
+            time += random.pick(&[1, 1, 1, 2]);
+            record.time = time;
+        }
+    }
+    records
+}
+
+/// Flat records at times 0, 1, .. with these values.
+pub fn with_values(values: &[[i64; 2]]) -> Vec<u8> {
+    let record = |(time, value): (usize, &[i64; 2])| Record { time: time as i64, value: *value, slope: [FLAT, FLAT] };
+    recording::bytes(&values.iter().enumerate().map(record).collect::<Vec<_>>())
+}
+
+/// A recording whose tops are at just these times, at least 2 apart on each curve.
+pub fn with_tops_at(tops: [&[i64]; 2]) -> Vec<u8> {
+    let mut times: Vec<i64> = tops.iter().flat_map(|times| times.iter().flat_map(|time| [time - 1, *time])).collect();
+    times.sort_unstable();
+    times.dedup();
+    let slope = |curve: usize, time: i64| if tops[curve].contains(&time) { FALLING } else { RISING };
+    recording::bytes(
+        &times
+            .iter()
+            .map(|time| Record { time: *time, value: [0, 0], slope: [slope(0, *time), slope(1, *time)] })
+            .collect::<Vec<_>>(),
+    )
+}

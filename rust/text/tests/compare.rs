@@ -1,0 +1,253 @@
+//! Covers: the reader against the independent one and, on short texts, against the recogniser that tries all splits: every short
+//! text over several alphabets, every text one byte away from a good one, random and changed texts, the limits, the stack.
+
+#[path = "../../tests/support/mod.rs"]
+mod support;
+
+use mill::reference::splits::readings;
+use mill::reference::text::{accepted, most_open_brackets, Node, MOST_BRACKETS, MOST_NODES};
+use support::cases::{begin, cases, one_alone};
+use support::{compared, painted, recordings, texts};
+use text_compare::{read, SHORT_TABLE, TABLE_SIZE};
+
+/// The number of nodes, or refusal 5, 6 or 7, held to the independent reader.
+#[track_caller]
+fn agree(text: &[u8]) -> Result<usize, u32> {
+    compared::count();
+    let mut table = [0xA5A5_A5A5; TABLE_SIZE + 2];
+    let found = read(text, &mut table[1..=TABLE_SIZE]);
+    let expected = accepted(text).map(|node| node.parts().len()).map_err(|refused| refused.number);
+    assert_eq!(found, expected, "'{}' in case {:?}", text.escape_ascii(), support::cases::current());
+    assert_eq!((table[0], table[TABLE_SIZE + 1]), (0xA5A5_A5A5, 0xA5A5_A5A5), "numbers beside the table were touched");
+    found
+}
+
+/// The same, held to the recogniser too: it takes exponential time, so the text is short.
+#[track_caller]
+fn agree_by_splits(text: &str) -> Result<usize, u32> {
+    let found = agree(text.as_bytes());
+    let all = readings(text);
+    assert!(all.len() <= 1, "{text} has {} readings", all.len());
+    let nodes = all.first().map_or(0, |node: &Node| node.parts().len());
+    let expected = match nodes {
+        0 if text.is_empty() => Err(5),
+        0 => Err(6),
+        _ if nodes > MOST_NODES || most_open_brackets(text.as_bytes()) > MOST_BRACKETS => Err(7),
+        _ => Ok(nodes),
+    };
+    assert_eq!(found, expected, "{text}");
+    found
+}
+
+/// Every text of at most `most` tokens; how many of them have a reading.
+fn every(tokens: &[&str], most: usize) -> usize {
+    let mut layer = vec![String::new()];
+    let mut read = 0;
+    for _ in 0..most {
+        layer = layer.iter().flat_map(|text| tokens.iter().map(move |token| format!("{text}{token}"))).collect();
+        read += layer.iter().filter(|text| agree_by_splits(text).is_ok()).count();
+    }
+    read
+}
+
+#[test]
+fn every_short_text_of_bytes() {
+    assert_eq!(agree(b""), Err(5));
+    // 9 atoms of 3 bytes and 6 of 4; then with `!`, `!!` or brackets.
+    assert_eq!(every(&["A", "B", "v", "=", "<", ">", "!", "(", ")"], 5), 9 + (6 + 9) + (6 + 9 + 9));
+    // Two curves; `v`, 0, numbers of up to 4 digits, negative ones of up to 3.
+    assert_eq!(every(&["A", "T", "=", "-", "0", "1", "v"], 6), 2 * (1 + 1 + 15 + 7));
+    for first in 0..=255 {
+        for second in 0..=255 {
+            assert_eq!(agree(&[first, second]), Err(6));
+        }
+    }
+}
+
+#[test]
+fn every_short_text_of_tokens() {
+    // Counted by length, from the grammar.
+    assert_eq!(every(&["A=v", "|", "&", "!", "(", ")", "F(", "U(", ","], 5), 1 + 1 + 5 + 9 + 34);
+    assert_eq!(every(&["A=v", "|", "&", "!", "(", ")"], 6), 1 + 1 + 4 + 7 + 21 + 46);
+    // `X(` beside a listed name has no reading.
+    assert_eq!(every(&["lag", "low(", "lowafter(", "A", ",", "5", ")", "|", "X("], 5), 1 + 2 + 4);
+    // `A=0` takes no digit; behind the minus 1 to 4 digits, the first not 0.
+    assert_eq!(every(&["A=0", "A=-", "0", "1", "2", "9", "-"], 5), 1 + 3 * (1 + 4 + 16 + 64));
+}
+
+const GOOD: [&str; 31] = [
+    "A>=v",
+    "B<=v",
+    "T>v",
+    "A<v",
+    "B=v",
+    "T>=30",
+    "A<=-7",
+    "A>B",
+    "A<=B",
+    "fall(A)",
+    "rise(B)",
+    "high(A)",
+    "low(B)",
+    "lowafter(A,40)",
+    "capafter(B,0)",
+    "peaks(A)",
+    "cross",
+    "ampl(A)",
+    "gaps(B)",
+    "steps(A)",
+    "lag",
+    "!A=v",
+    "(A=v)",
+    "F(A=v)",
+    "G(B<v)",
+    "X(T=v)",
+    "U(A=v,B=v)",
+    "W(A>v,T=v)",
+    "A=v|B=v&T=v",
+    "A=2000000000",
+    "A=-2000000000",
+];
+
+#[test]
+fn every_text_one_byte_away() {
+    let mut read = 0;
+    for (case, text) in GOOD.iter().enumerate() {
+        begin("every text one byte away", case as u64);
+        let text = text.as_bytes();
+        assert!(agree(text).is_ok());
+        for at in 0..=text.len() {
+            if at < text.len() {
+                read += usize::from(agree(&[&text[..at], &text[at + 1..]].concat()).is_ok());
+            }
+            for byte in 0..=255 {
+                read += usize::from(agree(&[&text[..at], &[byte], &text[at..]].concat()).is_ok());
+                if at < text.len() {
+                    read += usize::from(agree(&[&text[..at], &[byte], &text[at + 1..]].concat()).is_ok());
+                }
+            }
+        }
+    }
+    assert!(read > 500, "{read}");
+}
+
+#[test]
+fn made_and_changed_texts() {
+    let mut outcomes = std::collections::BTreeMap::<u32, u64>::new();
+    cases("made and changed texts", 150_000, |random| {
+        let records = if random.once_in(3) { recordings::r1() } else { Vec::new() };
+        let most = random.pick(&[4, 9, 9, 20, 45]);
+        let size = 1 + random.below(most);
+        let text = texts::made(random, texts::Kind::Mixed, size, &records);
+        let changed = texts::changed(random, &text);
+        for text in [text.as_bytes(), &changed] {
+            *outcomes.entry(agree(text).err().unwrap_or(0)).or_default() += 1;
+        }
+        if size < 4 {
+            let _ = agree_by_splits(&text);
+            if let Ok(changed) = std::str::from_utf8(&changed) {
+                let _ = agree_by_splits(changed);
+            }
+        }
+    });
+    for outcome in [0, 5, 6, 7] {
+        let seen = outcomes.get(&outcome).copied().unwrap_or(0);
+        assert!(one_alone() || seen >= 200, "outcome {outcome} came up {seen} times: {outcomes:?}");
+    }
+}
+
+#[test]
+fn random_bytes() {
+    const BYTES: &[u8] = b"ABTv|&!(),<>=-019FGXUW";
+    cases("random bytes", 300_000, |random| {
+        let length = random.pick(&[3, 4, 5, 8, 13, 40, 256, 257]);
+        let text: Vec<u8> =
+            (0..length).map(|_| if random.once_in(50) { random.next() as u8 } else { random.pick(BYTES) }).collect();
+        let _ = agree(&text);
+    });
+}
+
+fn nested(open: &str, inner: &str, close: &str, count: usize) -> String {
+    format!("{}{inner}{}", open.repeat(count), close.repeat(count))
+}
+
+#[test]
+fn limits() {
+    assert_eq!(agree(nested("!", "A=v", "", 31).as_bytes()), Ok(32));
+    assert_eq!(agree(nested("!", "A=v", "", 32).as_bytes()), Err(7));
+    assert_eq!(agree(nested("!", "A=v", "", 253).as_bytes()), Err(7));
+    assert_eq!(agree(nested("!", "A=v", "", 254).as_bytes()), Err(5));
+    assert_eq!(agree(nested("(", "A>=v", ")", 16).as_bytes()), Ok(1));
+    assert_eq!(agree(nested("(", "A>=v", ")", 17).as_bytes()), Err(7));
+    assert_eq!(agree(nested("(", "fall(A)", ")", 15).as_bytes()), Ok(1));
+    assert_eq!(agree(nested("(", "fall(A)", ")", 16).as_bytes()), Err(7));
+    assert_eq!(agree(nested("(", "A>=v", ")", 126).as_bytes()), Err(7));
+    // 6 stands before 7.
+    assert_eq!(agree(nested("(", "A>=w", ")", 126).as_bytes()), Err(6));
+    assert_eq!(agree(format!("{}|F(lag)", nested("!", "A=v", "", 40)).as_bytes()), Err(6));
+    assert_eq!(agree(&[b'('; 256]), Err(6));
+    assert_eq!(agree(&[b'('; 257]), Err(5));
+    assert_eq!(agree(&vec![b'('; 100_000]), Err(5));
+}
+
+#[test]
+fn short_tables_are_refused_and_stay() {
+    for size in [0, 1, 4, TABLE_SIZE - 4, TABLE_SIZE - 1] {
+        let mut table = vec![7; size];
+        assert_eq!(read(b"A=v", &mut table), Err(SHORT_TABLE));
+        assert_eq!(table, vec![7; size]);
+    }
+    for size in [TABLE_SIZE, TABLE_SIZE + 1] {
+        assert_eq!(read(b"A=v|B=v", &mut vec![7; size]), Ok(3));
+    }
+}
+
+/// The deepest texts: read whole before they are refused.
+fn deepest() -> Vec<String> {
+    vec![
+        "A=v".into(),
+        nested("(", "A>=v", ")", 126),
+        nested("!", "A=v", "", 253),
+        nested("!(", "A=v", ")", 84),
+        nested("F(", "A=v", ")", 84),
+        nested("U(A=v,", "A=v", ")", 36),
+        nested("W(", "A=v", ",A=v)", 36),
+        nested("(A=v|", "A=v", ")", 42),
+        nested("(A=v|A=v&!", "A=v", ")", 23),
+        "(".repeat(256),
+        "F(".repeat(128),
+        "!".repeat(256),
+        format!("{}A=v", "A=v|".repeat(63)),
+    ]
+}
+
+/// The stack with which every reading must do.
+const SMALL_STACK: usize = 128 * 1024;
+
+#[test]
+fn deepest_texts_with_a_small_stack() {
+    let (texts, again) = (deepest(), deepest());
+    let expected: Vec<_> = texts.iter().map(|text| read(text.as_bytes(), &mut vec![0; TABLE_SIZE])).collect();
+    let small = std::thread::Builder::new().stack_size(SMALL_STACK);
+    let in_small = small
+        .spawn(move || again.iter().map(|text| read(text.as_bytes(), &mut vec![0; TABLE_SIZE])).collect::<Vec<_>>())
+        .unwrap();
+    assert_eq!(in_small.join().unwrap(), expected);
+    assert!(expected.contains(&Err(7)) && expected.contains(&Err(6)) && expected.contains(&Ok(1)));
+}
+
+#[test]
+fn peak_of_the_deepest_texts() {
+    let mut most = 0;
+    for text in deepest() {
+        let mut table = vec![0; TABLE_SIZE];
+        let peak = painted::peak(&mut || {
+            let _ = read(text.as_bytes(), &mut table);
+        });
+        let shown = if text.len() > 12 { format!("{}..", &text[..12]) } else { text.clone() };
+        println!("text_read of {shown} ({} bytes): {peak} bytes of stack", text.len());
+        most = most.max(peak);
+    }
+    println!("text_read: {most} bytes of stack at most");
+    assert!(most > 0 && most < SMALL_STACK, "{most} bytes of stack");
+}

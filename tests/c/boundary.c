@@ -1,0 +1,293 @@
+/*
+** Covers: mill.h as a C99 program uses it. R1's lines, every refusal, null with length 0, memory that stays as it was, and
+** thinning piece by piece. Exits with 1 and says why if anything differs. MILL_QUESTIONS adds the calls that answer questions.
+*/
+#include "mill.h"
+
+#include <stdio.h>
+#include <string.h>
+
+static int failures = 0;
+
+static void expect(int holds, const char *what, int line)
+{
+    if (!holds) {
+        printf("boundary.c:%d: %s\n", line, what);
+        failures += 1;
+    }
+}
+
+#define EXPECT(condition) expect((condition) != 0, #condition, __LINE__)
+
+enum { R1_RECORDS = 8, R1_BYTES = R1_RECORDS * MILL_RECORD_BYTES };
+
+static uint8_t r1[R1_BYTES];
+
+static void put32(uint8_t *at, uint32_t number)
+{
+    int byte;
+    for (byte = 0; byte < 4; byte++)
+        at[byte] = (uint8_t)(number >> (8 * byte));
+}
+
+static int64_t get32(const uint8_t *at)
+{
+    uint32_t number = (uint32_t)at[0] | (uint32_t)at[1] << 8 | (uint32_t)at[2] << 16 | (uint32_t)at[3] << 24;
+    return number < 0x80000000u ? (int64_t)number : (int64_t)number - 0x100000000LL;
+}
+
+static void put_record(uint8_t *at, uint32_t time, int32_t a, int32_t b, uint8_t slope_a, uint8_t slope_b)
+{
+    put32(at, time);
+    put32(at + 4, (uint32_t)a);
+    put32(at + 8, (uint32_t)b);
+    at[12] = slope_a;
+    at[13] = slope_b;
+    at[14] = 0;
+    at[15] = 0;
+}
+
+static void make_r1(void)
+{
+    static const int32_t a[R1_RECORDS] = {40, 60, 80, 70, 30, 55, 90, 45};
+    static const uint8_t slope[R1_RECORDS] = {MILL_RISING,  MILL_RISING, MILL_RISING, MILL_FALLING,
+                                              MILL_FALLING, MILL_RISING, MILL_RISING, MILL_FALLING};
+    int i;
+    for (i = 0; i < R1_RECORDS; i++)
+        put_record(r1 + MILL_RECORD_BYTES * i, 10 * (uint32_t)i, a[i], 50, slope[i], MILL_FLAT);
+}
+
+#ifdef MILL_QUESTIONS
+static uint64_t ask(const char *text, uint8_t *out, size_t out_len)
+{
+    return mill_question(r1, R1_BYTES, (const uint8_t *)text, strlen(text), out, out_len);
+}
+
+/* The text answers these runs on R1, low and high of each, and leaves what is behind them. */
+static int answers(const char *text, size_t count, const int64_t *numbers)
+{
+    uint8_t out[MILL_MAX_RUNS * MILL_RUN_BYTES + 1];
+    size_t i;
+    memset(out, 0xA5, sizeof out);
+    if (ask(text, out, sizeof out) != count * MILL_RUN_BYTES)
+        return 0;
+    for (i = 0; i < 2 * count; i++)
+        if (get32(out + 4 * i) != numbers[i])
+            return 0;
+    for (i = count * MILL_RUN_BYTES; i < sizeof out; i++)
+        if (out[i] != 0xA5)
+            return 0;
+    return 1;
+}
+
+static void questions(void)
+{
+    const int64_t low = MILL_AXIS_LOW, high = MILL_AXIS_HIGH;
+    const int64_t high_a[] = {low, 90}, low_a[] = {30, high}, ampl_a[] = {low, 60}, peaks_a[] = {30, 30, 70, 70};
+    const int64_t gaps_a[] = {40, 40}, cross[] = {40, 40, 70, 70}, lowafter[] = {45, high}, capafter[] = {low, high};
+    const int64_t until[] = {30, 30, 40, 40, 60, 60, 70, 70, 80, 80}, next[] = {80, 80};
+    EXPECT(answers("high(A)", 1, high_a));
+    EXPECT(answers("low(A)", 1, low_a));
+    EXPECT(answers("ampl(A)", 1, ampl_a));
+    EXPECT(answers("peaks(A)", 2, peaks_a));
+    EXPECT(answers("gaps(A)", 1, gaps_a));
+    EXPECT(answers("cross", 2, cross));
+    EXPECT(answers("lag", 0, NULL));
+    EXPECT(answers("lowafter(A,40)", 1, lowafter));
+    EXPECT(answers("lowafter(A,70)", 0, NULL));
+    EXPECT(answers("capafter(A,70)", 1, capafter));
+    EXPECT(answers("U(A>=40,A=v)", 5, until));
+    EXPECT(answers("F(A=60&X(A=v))", 1, next));
+}
+
+static void degrees(void)
+{
+    static const uint8_t peaks[] = {'p', 'e', 'a', 'k', 's', '(', 'A', ')'}, lag[] = {'l', 'a', 'g'};
+    uint32_t distance = 77;
+    double degree = 7.5;
+    EXPECT(mill_degree(r1, R1_BYTES, peaks, 8, 30, &distance, &degree) == MILL_MET);
+    EXPECT(mill_degree(r1, R1_BYTES, lag, 3, 30, &distance, &degree) == MILL_NO_VALUE);
+    EXPECT(MILL_NUMBER(mill_degree(r1, R1_BYTES, lag, 3, INT64_MIN, &distance, &degree)) == MILL_BAD_TARGET);
+    EXPECT(MILL_NUMBER(mill_degree(r1, R1_BYTES, lag, 3, MILL_AXIS_HIGH + INT64_C(1), &distance, &degree)) == MILL_BAD_TARGET);
+    EXPECT(distance == 77 && memcmp(&degree, &(double){7.5}, sizeof degree) == 0);
+    EXPECT(mill_degree(r1, R1_BYTES, peaks, 8, 51, &distance, &degree) == MILL_SHORT);
+    EXPECT(distance == 19 && memcmp(&degree, &(double){0.05}, sizeof degree) == 0);
+}
+#endif
+
+static void pairs(void)
+{
+    uint32_t earlier = 77, later = 78;
+    EXPECT(mill_pair(r1, R1_BYTES, MILL_CURVE_A, 41, &earlier, &later) == MILL_NO_PAIR);
+    EXPECT(mill_pair(r1, R1_BYTES, MILL_CURVE_B, 40, &earlier, &later) == MILL_NO_PAIR);
+    EXPECT(mill_pair(r1, R1_BYTES, MILL_CURVE_A, -40, &earlier, &later) == MILL_NO_PAIR);
+    EXPECT(MILL_NUMBER(mill_pair(r1, R1_BYTES, 2, 40, &earlier, &later)) == MILL_BAD_TARGET);
+    EXPECT(MILL_NUMBER(mill_pair(r1, R1_BYTES, UINT32_MAX, 40, &earlier, &later)) == MILL_BAD_TARGET);
+    EXPECT(earlier == 77 && later == 78);
+    EXPECT(mill_pair(r1, R1_BYTES, MILL_CURVE_A, 40, &earlier, &later) == MILL_PAIR);
+    EXPECT(earlier == 30 && later == 70);
+}
+
+static uint8_t large[(MILL_MAX_RECORDS + 1) * MILL_RECORD_BYTES];
+
+/* MILL_MAX_RECORDS records with so many tops of A. */
+static void make_tops(uint32_t tops)
+{
+    uint32_t i;
+    for (i = 0; i < MILL_MAX_RECORDS; i++)
+        put_record(large + MILL_RECORD_BYTES * i, i, 0, 0, i % 2 == 1 && i / 2 < tops ? MILL_FALLING : MILL_RISING, MILL_FLAT);
+}
+
+#ifdef MILL_QUESTIONS
+static uint32_t refused(const uint8_t *recording, size_t length, const char *text)
+{
+    uint8_t out[MILL_MAX_RUNS * MILL_RUN_BYTES], before[sizeof out];
+    uint64_t returned;
+    memset(out, 0x5A, sizeof out);
+    memcpy(before, out, sizeof out);
+    returned = mill_question(recording, length, (const uint8_t *)text, strlen(text), out, sizeof out);
+    EXPECT(MILL_NUMBER(returned) == 0 || memcmp(out, before, sizeof out) == 0);
+    EXPECT(MILL_NUMBER(returned) == 0 || MILL_NUMBER(returned) == MILL_BAD_RECORD || MILL_PLACE(returned) == 0);
+    return MILL_NUMBER(returned);
+}
+
+static void refused_questions(void)
+{
+    uint8_t bad[R1_BYTES], out[15];
+    uint64_t returned;
+    char text[258];
+    memcpy(bad, r1, sizeof bad);
+    bad[5 * MILL_RECORD_BYTES + 12] = 3;
+    make_tops(0);
+    EXPECT(refused(r1, 17, "high(A)") == MILL_PARTIAL_RECORD);
+    EXPECT(refused(large, sizeof large - MILL_RECORD_BYTES, "high(A)") == 0);
+    EXPECT(refused(large, sizeof large, "high(A)") == MILL_TOO_MANY_RECORDS);
+    returned = mill_question(bad, sizeof bad, (const uint8_t *)"lag", 3, out, sizeof out);
+    EXPECT(MILL_NUMBER(returned) == MILL_BAD_RECORD && MILL_PLACE(returned) == 5);
+    EXPECT(refused(r1, 0, "high(A)") == MILL_NO_RECORD);
+    EXPECT(refused(r1, R1_BYTES, "") == MILL_TEXT_LENGTH);
+    memset(text, '!', sizeof text);
+    text[257] = 0;
+    EXPECT(refused(r1, R1_BYTES, text) == MILL_TEXT_LENGTH);
+    EXPECT(refused(r1, R1_BYTES, text + 1) == MILL_NO_READING);
+    EXPECT(refused(r1, R1_BYTES, "F(A>v") == MILL_NO_READING);
+    EXPECT(refused(r1, R1_BYTES, "((((((((((((((((A>=v))))))))))))))))") == 0);
+    EXPECT(refused(r1, R1_BYTES, "(((((((((((((((((A>=v)))))))))))))))))") == MILL_TEXT_TOO_LARGE);
+    make_tops(MILL_MAX_RUNS);
+    EXPECT(refused(large, sizeof large - MILL_RECORD_BYTES, "peaks(A)") == 0);
+    make_tops(MILL_MAX_RUNS + 1);
+    EXPECT(refused(large, sizeof large - MILL_RECORD_BYTES, "peaks(A)") == MILL_TOO_MANY_RUNS);
+    make_tops(MILL_MAX_TOPS);
+    EXPECT(refused(large, sizeof large - MILL_RECORD_BYTES, "steps(A)") == 0);
+    make_tops(MILL_MAX_TOPS + 1);
+    EXPECT(refused(large, sizeof large - MILL_RECORD_BYTES, "steps(A)") == MILL_TOO_MANY_TOPS);
+    EXPECT(MILL_NUMBER(ask("peaks(A)", out, sizeof out)) == MILL_SHORT_OUTPUT);
+}
+#endif
+
+static void refusals(void)
+{
+    uint8_t bad[R1_BYTES], out[15];
+    uint32_t earlier = 77, later = 78;
+    uint64_t returned;
+    memcpy(bad, r1, sizeof bad);
+    bad[5 * MILL_RECORD_BYTES + 12] = 3;
+    memset(out, 0x5A, sizeof out);
+    EXPECT(MILL_NUMBER(mill_thin(r1, 17, NULL, 0, out, sizeof out)) == MILL_PARTIAL_RECORD);
+    EXPECT(MILL_NUMBER(mill_pair(r1, 17, MILL_CURVE_A, 40, &earlier, &later)) == MILL_PARTIAL_RECORD);
+    returned = mill_thin(bad, sizeof bad, NULL, 0, out, sizeof out);
+    EXPECT(MILL_NUMBER(returned) == MILL_BAD_RECORD && MILL_PLACE(returned) == 5);
+    returned = mill_pair(bad, sizeof bad, MILL_CURVE_A, 40, &earlier, &later);
+    EXPECT(MILL_NUMBER(returned) == MILL_BAD_RECORD && MILL_PLACE(returned) == 5);
+    make_tops(MILL_MAX_TOPS);
+    EXPECT(mill_pair(large, sizeof large - MILL_RECORD_BYTES, MILL_CURVE_A, 1, &earlier, &later) == MILL_NO_PAIR);
+    make_tops(MILL_MAX_TOPS + 1);
+    EXPECT(MILL_NUMBER(mill_pair(large, sizeof large - MILL_RECORD_BYTES, MILL_CURVE_A, 2, &earlier, &later)) == MILL_TOO_MANY_TOPS);
+    EXPECT(MILL_NUMBER(mill_pair(large, sizeof large, MILL_CURVE_A, 2, &earlier, &later)) == MILL_TOO_MANY_RECORDS);
+    EXPECT(MILL_NUMBER(mill_thin(large, sizeof large, NULL, 0, out, sizeof out)) == MILL_TOO_MANY_RECORDS);
+    EXPECT(MILL_NUMBER(mill_thin(r1, R1_BYTES, r1, 3, out, sizeof out)) == MILL_BAD_MARKS);
+    EXPECT(MILL_NUMBER(mill_thin(r1, R1_BYTES, r1, 4, out, sizeof out)) == MILL_SHORT_OUTPUT);
+    EXPECT(earlier == 77 && later == 78 && out[0] == 0x5A && out[14] == 0x5A);
+}
+
+static void nothing_at_all(void)
+{
+    uint32_t one = 77, two = 78;
+#ifdef MILL_QUESTIONS
+    double real = 7.5;
+    EXPECT(MILL_NUMBER(mill_question(NULL, 0, NULL, 0, NULL, 0)) == MILL_NO_RECORD);
+    EXPECT(MILL_NUMBER(mill_question(r1, R1_BYTES, NULL, 0, NULL, 0)) == MILL_TEXT_LENGTH);
+    EXPECT(ask("lag", NULL, 0) == 0);
+    EXPECT(MILL_NUMBER(ask("cross", NULL, 0)) == MILL_SHORT_OUTPUT);
+    EXPECT(MILL_NUMBER(mill_degree(NULL, 0, NULL, 0, 0, &one, &real)) == MILL_NO_RECORD);
+#endif
+    EXPECT(MILL_NUMBER(mill_pair(NULL, 0, 0, 40, &one, &two)) == MILL_NO_RECORD);
+    EXPECT(mill_thin(NULL, 0, NULL, 0, NULL, 0) == 0);
+    EXPECT(MILL_NUMBER(mill_thin(r1, R1_BYTES, NULL, 0, NULL, 0)) == MILL_SHORT_OUTPUT);
+    EXPECT(one == 77 && two == 78);
+}
+
+/* The times of kept readings. */
+static int times(const uint8_t *kept, size_t length, const uint32_t *expected, size_t count)
+{
+    size_t i;
+    if (length != count * MILL_RECORD_BYTES)
+        return 0;
+    for (i = 0; i < count; i++)
+        if (get32(kept + MILL_RECORD_BYTES * i) != (int64_t)expected[i])
+            return 0;
+    return 1;
+}
+
+/* Thins R1 in pieces of some readings; the length of what is held in the end. */
+static size_t thin_in_pieces(size_t readings, const uint8_t *marks, size_t marks_len, uint8_t *held)
+{
+    uint8_t out[R1_BYTES];
+    size_t held_len = 0, at = 0;
+    while (at < R1_BYTES) {
+        size_t piece = readings * MILL_RECORD_BYTES < R1_BYTES - at ? readings * MILL_RECORD_BYTES : R1_BYTES - at;
+        uint64_t returned;
+        memcpy(held + held_len, r1 + at, piece);
+        /* A call that is refused takes no piece. */
+        EXPECT(MILL_NUMBER(mill_thin(held, held_len + piece - 1, marks, marks_len, out, sizeof out)) == MILL_PARTIAL_RECORD);
+        EXPECT(MILL_NUMBER(mill_thin(held, held_len + piece, marks, marks_len, out, 15)) == MILL_SHORT_OUTPUT);
+        returned = mill_thin(held, held_len + piece, marks, marks_len, out, sizeof out);
+        EXPECT(MILL_NUMBER(returned) == 0);
+        held_len = (size_t)returned;
+        memcpy(held, out, held_len);
+        at += piece;
+    }
+    return held_len;
+}
+
+static void thinning(void)
+{
+    static const uint32_t plain[] = {0, 20, 30, 40, 60, 70}, marked[] = {0, 20, 30, 40, 50, 60, 70};
+    uint8_t mark[MILL_MARK_BYTES], out[R1_BYTES], held[2 * R1_BYTES];
+    size_t readings;
+    put32(mark, 40);
+    memset(out, 0xA5, sizeof out);
+    EXPECT(times(out, (size_t)mill_thin(r1, R1_BYTES, NULL, 0, out, sizeof out), plain, 6));
+    EXPECT(out[96] == 0xA5 && out[127] == 0xA5);
+    EXPECT(times(out, (size_t)mill_thin(r1, R1_BYTES, mark, sizeof mark, out, sizeof out), marked, 7));
+    for (readings = 1; readings <= R1_RECORDS; readings++) {
+        EXPECT(times(held, thin_in_pieces(readings, NULL, 0, held), plain, 6));
+        EXPECT(times(held, thin_in_pieces(readings, mark, sizeof mark, held), marked, 7));
+    }
+}
+
+int main(void)
+{
+    make_r1();
+#ifdef MILL_QUESTIONS
+    questions();
+    degrees();
+    refused_questions();
+#endif
+    pairs();
+    refusals();
+    nothing_at_all();
+    thinning();
+    printf("boundary.c: %d failures\n", failures);
+    return failures == 0 ? 0 : 1;
+}

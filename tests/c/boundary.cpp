@@ -1,0 +1,128 @@
+// Covers: mill.h as a C++ program uses it: its linkage, R1's lines, refusals, null with length 0, and thinning piece by piece.
+// Exits with 1 and says why if anything differs. MILL_QUESTIONS adds the calls that answer questions.
+#include "mill.h"
+
+#include <cstdio>
+#include <cstring>
+
+namespace {
+
+int failures = 0;
+
+void expect(bool holds, const char *what, int line)
+{
+    if (!holds) {
+        std::printf("boundary.cpp:%d: %s\n", line, what);
+        failures += 1;
+    }
+}
+
+#define EXPECT(condition) expect((condition), #condition, __LINE__)
+
+const std::size_t records = 8;
+const std::size_t length = records * MILL_RECORD_BYTES;
+uint8_t r1[length];
+
+void put32(uint8_t *at, uint32_t number)
+{
+    for (int byte = 0; byte < 4; byte++)
+        at[byte] = static_cast<uint8_t>(number >> (8 * byte));
+}
+
+void make_r1()
+{
+    const uint32_t a[records] = {40, 60, 80, 70, 30, 55, 90, 45};
+    const uint8_t slope[records] = {2, 2, 2, 0, 0, 2, 2, 0};
+    for (std::size_t i = 0; i < records; i++) {
+        uint8_t *at = r1 + MILL_RECORD_BYTES * i;
+        put32(at, static_cast<uint32_t>(10 * i));
+        put32(at + 4, a[i]);
+        put32(at + 8, 50);
+        at[12] = slope[i];
+        at[13] = MILL_FLAT;
+    }
+}
+
+#ifdef MILL_QUESTIONS
+// The number of a refusal of the text on R1, 0 for an answer of so many runs.
+uint32_t ask(const char *text, std::size_t runs)
+{
+    uint8_t out[MILL_MAX_RUNS * MILL_RUN_BYTES];
+    const uint64_t returned =
+        mill_question(r1, length, reinterpret_cast<const uint8_t *>(text), std::strlen(text), out, sizeof out);
+    EXPECT(MILL_NUMBER(returned) != 0 || MILL_PLACE(returned) == runs * MILL_RUN_BYTES);
+    return MILL_NUMBER(returned);
+}
+
+void questions()
+{
+    EXPECT(ask("high(A)", 1) == 0);
+    EXPECT(ask("low(A)", 1) == 0);
+    EXPECT(ask("ampl(A)", 1) == 0);
+    EXPECT(ask("peaks(A)", 2) == 0);
+    EXPECT(ask("gaps(A)", 1) == 0);
+    EXPECT(ask("cross", 2) == 0);
+    EXPECT(ask("lag", 0) == 0);
+    EXPECT(ask("lowafter(A,40)", 1) == 0);
+    EXPECT(ask("lowafter(A,70)", 0) == 0);
+    EXPECT(ask("capafter(A,70)", 1) == 0);
+    EXPECT(ask("U(A>=40,A=v)", 5) == 0);
+    EXPECT(ask("", 0) == MILL_TEXT_LENGTH);
+    EXPECT(ask("F(A>v", 0) == MILL_NO_READING);
+    EXPECT(ask("F(lag)", 0) == MILL_NO_READING);
+    EXPECT(MILL_NUMBER(mill_question(NULL, 0, NULL, 0, NULL, 0)) == MILL_NO_RECORD);
+}
+
+void degrees()
+{
+    const uint8_t text[] = {'g', 'a', 'p', 's', '(', 'A', ')'};
+    uint32_t distance = 77;
+    double degree = 7.5;
+    EXPECT(mill_degree(r1, length, text, sizeof text, 40, &distance, &degree) == MILL_MET && distance == 77);
+    EXPECT(mill_degree(r1, length, text, sizeof text, 43, &distance, &degree) == MILL_SHORT && distance == 3);
+    const double quarter = 0.25;
+    EXPECT(std::memcmp(&degree, &quarter, sizeof degree) == 0);
+}
+#endif
+
+void pairs()
+{
+    uint32_t earlier = 77, later = 77;
+    EXPECT(mill_pair(r1, length, MILL_CURVE_B, 40, &earlier, &later) == MILL_NO_PAIR && earlier == 77 && later == 77);
+    EXPECT(mill_pair(r1, length, MILL_CURVE_A, 40, &earlier, &later) == MILL_PAIR && earlier == 30 && later == 70);
+    EXPECT(MILL_NUMBER(mill_pair(r1, length, 2, 40, &earlier, &later)) == MILL_BAD_TARGET);
+}
+
+void thinning()
+{
+    uint8_t mark[MILL_MARK_BYTES], whole[length], held[length], out[length];
+    put32(mark, 40);
+    const uint64_t whole_len = mill_thin(r1, length, mark, sizeof mark, whole, sizeof whole);
+    EXPECT(whole_len == 7 * MILL_RECORD_BYTES);
+    std::size_t held_len = 0;
+    for (std::size_t i = 0; i < records; i++) {
+        std::memcpy(held + held_len, r1 + MILL_RECORD_BYTES * i, MILL_RECORD_BYTES);
+        const uint64_t returned = mill_thin(held, held_len + MILL_RECORD_BYTES, mark, sizeof mark, out, sizeof out);
+        EXPECT(MILL_NUMBER(returned) == 0);
+        held_len = static_cast<std::size_t>(returned);
+        std::memcpy(held, out, held_len);
+    }
+    EXPECT(held_len == whole_len && std::memcmp(held, whole, held_len) == 0);
+    EXPECT(mill_thin(NULL, 0, NULL, 0, NULL, 0) == 0);
+    EXPECT(MILL_NUMBER(mill_thin(r1, length, mark, 3, out, sizeof out)) == MILL_BAD_MARKS);
+}
+
+}  // namespace
+
+int main()
+{
+    make_r1();
+#ifdef MILL_QUESTIONS
+    questions();
+    degrees();
+#endif
+    pairs();
+    thinning();
+    std::printf("boundary.cpp: %d failures\n", failures);
+    return failures == 0 ? 0 : 1;
+}
