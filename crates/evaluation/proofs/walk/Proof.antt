@@ -1,0 +1,180 @@
+-- Record by record from the last to the first, each table written in turn.
+use Prim.Native.Nat.{ℕ, _-_, _*_}
+use mathlib.Core.Path.{_≡_, refl, sym, ap, subst, _∙_}
+use mathlib.Core.Bool.{Bool, true, false}
+use mathlib.Core.List.{List}
+use native.Mathlib.Omega.{arith}
+use lib.ListN.{length}
+use Rattle.runset.specs.Runs.{mostRuns}
+use Rattle.runset.specs.Set.{inside}
+use Rattle.runset.specs.Lent.{Lent, Fills}
+use Rattle.evaluation.specs.Slots.{slot}
+use Rattle.evaluation.specs.Evaluation.{Evaluates}
+use Rattle.evaluation.specs.EvaluateLaws.{coded-length}
+use Rattle.evaluation.specs.WalkLaws.{Walked, walk-start, fit-into-a, fit-into-b, walked-a, walked-b, walk-over, walk-done, right-a, right-b, root-lent, fills-same}
+use borrow.Author.Needs.{needs}
+use Rattle.evaluation.proofs.walk.Statement.{statement}
+use Rattle.evaluation.proofs.walk.Tie as tie
+
+abbrev Inv-loop : tie.InvT-loop
+Inv-loop table count rec out₀ a₀ b₀ shared₀ root flip₀ i₀ out a b shared flip i =
+    Walked table count rec i a b flip × (length shared ≡ 4 * mostRuns) × (length out ≡ length out₀)
+
+abbrev μ-loop : tie.MeasureT-loop
+μ-loop table count rec out₀ a₀ b₀ shared₀ root flip₀ i₀ out a b shared flip i = i
+
+sub-root : tie.Need-sub-root Inv-loop μ-loop
+sub-root c =
+    let s = c .before .before .before in
+    let a = s .args in
+    omega (arith, s .pre .0 .some)
+
+loop-holds : tie.Need-loop-holds Inv-loop μ-loop
+loop-holds c =
+    let s = c .before .before .before in
+    let a = s .args in
+    (walk-start (a .table .now) (a .count) (a .rec .now) (s .pre .0) _ _ _ (sym (coded-length (a .rec .now))) refl refl, refl, refl)
+
+sub-i : tie.Need-sub-i Inv-loop μ-loop
+sub-i c = search needs
+
+slice-aggregate-eval : tie.Need-slice-aggregate-eval Inv-loop μ-loop
+slice-aggregate-eval c = search needs
+
+slice-aggregate-eval-2 : tie.Need-slice-aggregate-eval-2 Inv-loop μ-loop
+slice-aggregate-eval-2 c = search needs
+
+slice-aggregate-eval-3 : tie.Need-slice-aggregate-eval-3 Inv-loop μ-loop
+slice-aggregate-eval-3 c = search needs
+
+eval-requires : tie.Need-eval-requires Inv-loop μ-loop
+eval-requires c κs =
+    let s = c .before .before .before .before .before .before .before .before .before .before in
+    let a = s .args in
+    let l = c .before .before .before .before .before .before .loop in
+    (fit-into-b (a .table .now) (a .count) (a .rec .now) (s .pre .0) (l .i) (l .a) (l .b) (l .flip) (l .inv .0) (c .before .before .before .before .before .loop-test .taken) (c .before .before .before .before .if1 .taken), s .pre .0 .askable, l .inv .1, l .inv .2 ∙ s .pre .2)
+
+too-many-requires : tie.Need-too-many-requires Inv-loop μ-loop
+too-many-requires c κs = search needs
+
+same-length : tie.Need-same-length Inv-loop μ-loop
+same-length c = search needs
+
+returns : tie.Need-returns Inv-loop μ-loop
+returns c =
+    let s = c .before .before .before .before .before .before .before .before .before .before .before .before .before .before .before .before .before in
+    let a = s .args in
+    let l = c .before .before .before .before .before .before .before .before .before .before .before .before .before .loop in
+    subst (Evaluates _ _ _) (sym (c .too-many .ensures)) (walk-over (a .table .now) (a .count) (a .rec .now) (s .pre .0) (l .i) (l .a) (l .b) (l .flip) (l .inv .0) (c .before .before .before .before .before .before .before .before .before .before .before .before .loop-test .taken) (s .pre .1) _ _ _ _ (c .before .if2 .taken) (c .before .before .before .before .before .before .eval .ensures))
+
+loop-less : tie.Need-loop-less Inv-loop μ-loop
+loop-less c = search needs
+
+loop-again : tie.Need-loop-again Inv-loop μ-loop
+loop-again c =
+    let s = c .before .before .before .before .before .before .before .before .before .before .before .before .before .before .before .before in
+    let a = s .args in
+    let l = c .before .before .before .before .before .before .before .before .before .before .before .before .loop in
+    (walked-b (a .table .now) (a .count) (a .rec .now) (s .pre .0) (l .i) (l .a) (l .b) (l .flip) (l .inv .0) (c .before .before .before .before .before .before .before .before .before .before .before .loop-test .taken) _ _ (c .before .before .before .before .before .eval .kept .1 .1 .1 .1 .1 .1 .0) (c .if2 .left) (c .before .before .before .before .before .eval .ensures), c .before .before .before .before .before .eval .kept .1 .1 .1 .1 .1 .1 .1 .0 ∙ l .inv .1, c .before .before .before .before .before .eval .kept .1 .1 .1 .1 .1 .1 .1 .1 .0 ∙ l .inv .2)
+
+slice-aggregate-eval-4 : tie.Need-slice-aggregate-eval-4 Inv-loop μ-loop
+slice-aggregate-eval-4 c = search needs
+
+slice-aggregate-eval-5 : tie.Need-slice-aggregate-eval-5 Inv-loop μ-loop
+slice-aggregate-eval-5 c = search needs
+
+slice-aggregate-eval-6 : tie.Need-slice-aggregate-eval-6 Inv-loop μ-loop
+slice-aggregate-eval-6 c = search needs
+
+eval-requires-2 : tie.Need-eval-requires-2 Inv-loop μ-loop
+eval-requires-2 c κs =
+    let s = c .before .before .before .before .before .before .before .before .before .before in
+    let a = s .args in
+    let l = c .before .before .before .before .before .before .loop in
+    (fit-into-a (a .table .now) (a .count) (a .rec .now) (s .pre .0) (l .i) (l .a) (l .b) (l .flip) (l .inv .0) (c .before .before .before .before .before .loop-test .taken) (c .before .before .before .before .if1 .left), s .pre .0 .askable, l .inv .1, l .inv .2 ∙ s .pre .2)
+
+too-many-requires-2 : tie.Need-too-many-requires-2 Inv-loop μ-loop
+too-many-requires-2 c κs = search needs
+
+same-length-2 : tie.Need-same-length-2 Inv-loop μ-loop
+same-length-2 c = search needs
+
+returns-2 : tie.Need-returns-2 Inv-loop μ-loop
+returns-2 c =
+    let s = c .before .before .before .before .before .before .before .before .before .before .before .before .before .before .before .before .before in
+    let a = s .args in
+    let l = c .before .before .before .before .before .before .before .before .before .before .before .before .before .loop in
+    subst (Evaluates _ _ _) (sym (c .too-many2 .ensures)) (walk-over (a .table .now) (a .count) (a .rec .now) (s .pre .0) (l .i) (l .a) (l .b) (l .flip) (l .inv .0) (c .before .before .before .before .before .before .before .before .before .before .before .before .loop-test .taken) (s .pre .1) _ _ _ _ (c .before .if3 .taken) (c .before .before .before .before .before .before .eval2 .ensures))
+
+loop-less-2 : tie.Need-loop-less-2 Inv-loop μ-loop
+loop-less-2 c = search needs
+
+loop-again-2 : tie.Need-loop-again-2 Inv-loop μ-loop
+loop-again-2 c =
+    let s = c .before .before .before .before .before .before .before .before .before .before .before .before .before .before .before .before in
+    let a = s .args in
+    let l = c .before .before .before .before .before .before .before .before .before .before .before .before .loop in
+    (walked-a (a .table .now) (a .count) (a .rec .now) (s .pre .0) (l .i) (l .a) (l .b) (l .flip) (l .inv .0) (c .before .before .before .before .before .before .before .before .before .before .before .loop-test .taken) _ _ (c .before .before .before .before .before .eval2 .kept .1 .1 .1 .1 .1 .1 .0) (c .if3 .left) (c .before .before .before .before .before .eval2 .ensures), c .before .before .before .before .before .eval2 .kept .1 .1 .1 .1 .1 .1 .1 .0 ∙ l .inv .1, c .before .before .before .before .before .eval2 .kept .1 .1 .1 .1 .1 .1 .1 .1 .0 ∙ l .inv .2)
+
+slice-aggregate-cuts-in : tie.Need-slice-aggregate-cuts-in Inv-loop μ-loop
+slice-aggregate-cuts-in c = search needs
+
+cuts-in-requires : tie.Need-cuts-in-requires Inv-loop μ-loop
+cuts-in-requires c κs =
+    let s = c .before .before .before .before .before .before .before in
+    let a = s .args in
+    (c .before .before .before .loop .inv .0 .size-a, omega (arith, s .pre .0 .some, s .pre .0 .few))
+
+same-requires : tie.Need-same-requires Inv-loop μ-loop
+same-requires c κs =
+    let s = c .before .before .before .before .before .before .before .before .before in
+    let a = s .args in
+    let l = c .before .before .before .before .before .loop in
+    let e : l .i ≡ 0 = omega (arith, c .before .before .before .before .loop-test .left) in
+    let w = subst (λ (i : ℕ). Walked (a .table .now) (a .count) (a .rec .now) i (l .a) (l .b) (l .flip)) e (l .inv .0) in
+    (subst Lent (sym (c .before .cuts-in .ensures)) (root-lent (a .table .now) (a .count) (a .rec .now) (s .pre .0) 0 _ (right-a (a .table .now) (a .count) (a .rec .now) (s .pre .0) (l .a) (l .b) (l .flip) w (c .before .before .before .if4 .taken))), l .inv .2 ∙ s .pre .2)
+
+same-length-3 : tie.Need-same-length-3 Inv-loop μ-loop
+same-length-3 c = search needs
+
+returns-3 : tie.Need-returns-3 Inv-loop μ-loop
+returns-3 c =
+    let s = c .before .before .before .before .before .before .before .before .before .before .before .before in
+    let a = s .args in
+    let l = c .before .before .before .before .before .before .before .before .loop in
+    let e : l .i ≡ 0 = omega (arith, c .before .before .before .before .before .before .before .loop-test .left) in
+    let w = subst (λ (i : ℕ). Walked (a .table .now) (a .count) (a .rec .now) i (l .a) (l .b) (l .flip)) e (l .inv .0) in
+    walk-done (a .table .now) (a .count) (a .rec .now) (s .pre .0) (l .a) (l .b) (l .flip) w (s .pre .1) _ _ _ (right-a (a .table .now) (a .count) (a .rec .now) (s .pre .0) (l .a) (l .b) (l .flip) w (c .before .before .before .before .before .before .if4 .taken)) (fills-same _ _ (c .before .before .before .before .cuts-in .ensures) (c .before .before .same .ensures))
+
+slice-aggregate-cuts-in-2 : tie.Need-slice-aggregate-cuts-in-2 Inv-loop μ-loop
+slice-aggregate-cuts-in-2 c = search needs
+
+cuts-in-requires-2 : tie.Need-cuts-in-requires-2 Inv-loop μ-loop
+cuts-in-requires-2 c κs =
+    let s = c .before .before .before .before .before .before .before in
+    let a = s .args in
+    (c .before .before .before .loop .inv .0 .size-b, omega (arith, s .pre .0 .some, s .pre .0 .few))
+
+same-requires-2 : tie.Need-same-requires-2 Inv-loop μ-loop
+same-requires-2 c κs =
+    let s = c .before .before .before .before .before .before .before .before .before in
+    let a = s .args in
+    let l = c .before .before .before .before .before .loop in
+    let e : l .i ≡ 0 = omega (arith, c .before .before .before .before .loop-test .left) in
+    let w = subst (λ (i : ℕ). Walked (a .table .now) (a .count) (a .rec .now) i (l .a) (l .b) (l .flip)) e (l .inv .0) in
+    (subst Lent (sym (c .before .cuts-in2 .ensures)) (root-lent (a .table .now) (a .count) (a .rec .now) (s .pre .0) 0 _ (right-b (a .table .now) (a .count) (a .rec .now) (s .pre .0) (l .a) (l .b) (l .flip) w (c .before .before .before .if4 .left))), l .inv .2 ∙ s .pre .2)
+
+same-length-4 : tie.Need-same-length-4 Inv-loop μ-loop
+same-length-4 c = search needs
+
+returns-4 : tie.Need-returns-4 Inv-loop μ-loop
+returns-4 c =
+    let s = c .before .before .before .before .before .before .before .before .before .before .before .before in
+    let a = s .args in
+    let l = c .before .before .before .before .before .before .before .before .loop in
+    let e : l .i ≡ 0 = omega (arith, c .before .before .before .before .before .before .before .loop-test .left) in
+    let w = subst (λ (i : ℕ). Walked (a .table .now) (a .count) (a .rec .now) i (l .a) (l .b) (l .flip)) e (l .inv .0) in
+    walk-done (a .table .now) (a .count) (a .rec .now) (s .pre .0) (l .a) (l .b) (l .flip) w (s .pre .1) _ _ _ (right-b (a .table .now) (a .count) (a .rec .now) (s .pre .0) (l .a) (l .b) (l .flip) w (c .before .before .before .before .before .before .if4 .left)) (fills-same _ _ (c .before .before .before .before .cuts-in2 .ensures) (c .before .before .same2 .ensures))
+
+pub walk-spec : {M : Type 1} → statement M
+walk-spec = tie.close (tie.spec Inv-loop μ-loop sub-root loop-holds sub-i slice-aggregate-eval slice-aggregate-eval-2 slice-aggregate-eval-3 eval-requires too-many-requires same-length returns loop-less loop-again slice-aggregate-eval-4 slice-aggregate-eval-5 slice-aggregate-eval-6 eval-requires-2 too-many-requires-2 same-length-2 returns-2 loop-less-2 loop-again-2 slice-aggregate-cuts-in cuts-in-requires same-requires same-length-3 returns-3 slice-aggregate-cuts-in-2 cuts-in-requires-2 same-requires-2 same-length-4 returns-4)

@@ -1,0 +1,133 @@
+// Evaluation of a text over a recording, from the last record to the first.
+
+mod node;
+pub mod rows;
+pub mod slots;
+mod step;
+
+ghost use mathlib.Core.Path.{_≡_};
+ghost use mathlib.Core.Bool.{Bool, true, false};
+ghost use Prim.Native.Nat.{ℕ, _+_, _*_, _/_, _≤_, _<_};
+ghost use lib.ListN.{length};
+ghost use Rattle.runset.specs.Runs.{mostRuns};
+ghost use Rattle.meaning.specs.Coded.{coded};
+ghost use Rattle.evaluation.specs.Askable.{Askable};
+ghost use Rattle.text.specs.Size.{temporal};
+ghost use Rattle.evaluation.specs.Evaluate.{Fit, Outcome};
+ghost use Rattle.evaluation.specs.Evaluation.{textOf, Asking, Evaluates};
+use runset::merge::Filled;
+use slots::TABLE;
+
+// Room for what two sets share.
+const SHARED: usize = 2 * runset::CUTS;
+
+// Evaluates node n of a text at record i, and the nodes under it: their sets go to their slots in `cur`. Says whether one has too many runs.
+fn eval(
+    table: &[u32],
+    count: usize,
+    rec: &[u8],
+    i: usize,
+    n: usize,
+    later: &[u32],
+    cur: &mut [u32],
+    shared: &mut [u32],
+    out: &mut [u32],
+) -> bool
+    requires { ⌜ Fit (now table) count (coded (now rec)) i n (now later) (now cur) × Askable (now table) n (now rec)
+        × (length (now shared) ≡ 4 * mostRuns) × (length (now out) ≡ 2 * mostRuns) ⌝ }
+    ensures { λ r. ⌜ Outcome (now (table .entry)) (coded (now (rec .entry))) i n (now (cur .entry)) (now (cur .exit)) r ⌝ }
+{
+    let row = rows::row_at(table, n);
+    let kind = row.kind;
+    if kind < 15 {
+        let made = leaves::leaf(rec, i, row, out);
+        return slots::put(made, out, cur, n);
+    }
+    let first = slots::size(row.first);
+    if eval(table, count, rec, i, first, later, cur, shared, out) {
+        return true;
+    }
+    let last = i + 1 == rec.len() / 16;
+    if kind < 19 {
+        return node::one_at(kind, last, n, first, later, cur, out);
+    }
+    let second = slots::size(row.second);
+    if eval(table, count, rec, i, second, later, cur, shared, out) {
+        return true;
+    }
+    node::two_at(kind, last, n, first, second, later, cur, shared, out)
+}
+
+// What is told where a set has too many runs.
+fn too_many() -> Filled
+    ensures { λ r. ⌜ r ≡ record { over = true; n = 0 } ⌝ }
+{
+    Filled { over: true, n: 0 }
+}
+
+// The set of a text without F, G, X, U and W: the first record is enough.
+fn at_first(table: &[u32], count: usize, rec: &[u8], out: &mut [u32]) -> Filled
+    requires { ⌜ Asking (now table) count (now rec) × (temporal (textOf (now table) count) ≡ false) × (length (now out) ≡ 2 * mostRuns) ⌝ }
+    ensures { λ r. ⌜ Evaluates (coded (now (rec .entry))) (textOf (now (table .entry)) count) (now (out .exit)) r ⌝ }
+{
+    let later = [0u32; TABLE];
+    let mut cur = [0u32; TABLE];
+    let mut shared = [0u32; SHARED];
+    let root = count - 1;
+    if eval(
+        table,
+        count,
+        rec,
+        0,
+        root,
+        &later,
+        &mut cur,
+        &mut shared,
+        out,
+    ) {
+        return too_many();
+    }
+    runset::lent::same(slots::cuts_in(&cur, root), out)
+}
+
+// The set of a text with F, G, X, U or W: all records, from the last to the first. The table written last is `a` where `flip` is set.
+fn walk(table: &[u32], count: usize, rec: &[u8], out: &mut [u32]) -> Filled
+    requires { ⌜ Asking (now table) count (now rec) × (temporal (textOf (now table) count) ≡ true) × (length (now out) ≡ 2 * mostRuns) ⌝ }
+    ensures { λ r. ⌜ Evaluates (coded (now (rec .entry))) (textOf (now (table .entry)) count) (now (out .exit)) r ⌝ }
+{
+    let mut a = [0u32; TABLE];
+    let mut b = [0u32; TABLE];
+    let mut shared = [0u32; SHARED];
+    let root = count - 1;
+    let mut flip = false;
+    let mut i = rec.len() / 16;
+    while 0 < i {
+        i -= 1;
+        if flip {
+            if eval(table, count, rec, i, root, &a, &mut b, &mut shared, out) {
+                return too_many();
+            }
+            flip = false;
+        } else {
+            if eval(table, count, rec, i, root, &b, &mut a, &mut shared, out) {
+                return too_many();
+            }
+            flip = true;
+        }
+    }
+    if flip {
+        return runset::lent::same(slots::cuts_in(&a, root), out);
+    }
+    runset::lent::same(slots::cuts_in(&b, root), out)
+}
+
+// The set of a text at the first record, or that some node's set has too many runs.
+pub fn evaluate(table: &[u32], count: usize, deep: bool, rec: &[u8], out: &mut [u32]) -> Filled
+    requires { ⌜ Asking (now table) count (now rec) × (temporal (textOf (now table) count) ≡ deep) × (length (now out) ≡ 2 * mostRuns) ⌝ }
+    ensures { λ r. ⌜ Evaluates (coded (now (rec .entry))) (textOf (now (table .entry)) count) (now (out .exit)) r ⌝ }
+{
+    if deep {
+        return walk(table, count, rec, out);
+    }
+    at_first(table, count, rec, out)
+}

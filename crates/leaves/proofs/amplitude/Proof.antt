@@ -1,0 +1,29 @@
+-- By the kind of the row.
+use mathlib.Core.Path.{subst}
+use native.Mathlib.Omega.{arith}
+use Rattle.recording.specs.Reading.{Curve}
+use Rattle.text.specs.Syntax as asks
+use Rattle.text.specs.Syntax.{Text}
+use Rattle.meaning.specs.Truth.{val, truth}
+use Rattle.meaning.specs.Coded.{coded}
+use Rattle.leaves.specs.Span.{Spans}
+use Rattle.leaves.specs.LeafLaws.{by-kind}
+use borrow.Author.Needs.{needs}
+use Rattle.leaves.proofs.amplitude.Statement.{statement}
+use Rattle.leaves.proofs.amplitude.Tie as tie
+
+curve-requires : tie.Need-curve-requires
+curve-requires c κs = search needs
+
+ampl-requires : tie.Need-ampl-requires
+ampl-requires c κs = let s = c .before .before in (s .pre .0 .accepted, omega (arith, s .pre .0 .index), c .curve .ensures .0)
+
+returns : tie.Need-returns
+unfolding val
+returns c =
+    let s = c .before .before .before in
+    by-kind (λ (p : Text). Spans (λ v. val (coded (s .args .rec .now)) v p (s .args .i)) (c .ampl .result)) (s .args .row) 11 (s .pre .1)
+    (subst (λ (k : Curve). Spans (λ v. truth (asks.ampl k) (coded (s .args .rec .now)) v) (c .ampl .result)) (c .before .curve .ensures .1) (c .ampl .ensures))
+
+pub amplitude-spec : {M : Type 1} → statement M
+amplitude-spec = tie.close (tie.spec curve-requires ampl-requires returns)

@@ -1,0 +1,33 @@
+-- The times of the crossings themselves.
+use mathlib.Core.Path.{refl, sym, subst}
+use Prim.Native.Nat.{ℕ}
+use mathlib.Core.List.{List}
+use lib.Seq.{length-take-le}
+use Rattle.meaning.specs.Truth.{truth}
+use Rattle.differences.specs.Cuts.{Collects}
+use Rattle.differences.specs.Times.{Times, momentsOf}
+use Rattle.leaves.specs.StampLaws.{crossing-times, crossings-few}
+use Rattle.leaves.proofs.times.cross.Statement.{statement}
+use Rattle.leaves.proofs.times.cross.Tie as tie
+
+slice-aggregate-crossing-stamps : tie.Need-slice-aggregate-crossing-stamps
+slice-aggregate-crossing-stamps c = refl
+
+crossing-stamps-requires : tie.Need-crossing-stamps-requires
+crossing-stamps-requires c κs = let s = c .before .before in (s .pre, crossings-few (s .args .rec .now) (s .pre))
+
+array-share-prefix-times : tie.Need-array-share-prefix-times
+array-share-prefix-times c = c .before .crossing-stamps .ensures .room
+
+slice-aggregate-moments : tie.Need-slice-aggregate-moments
+slice-aggregate-moments c = let t = c .before .before .crossing-stamps in sym (length-take-le (t .result) (t .last .1 .0) (t .ensures .room))
+
+moments-requires : tie.Need-moments-requires
+moments-requires c κs = let s = c .before .before .before .before .before in subst Times (sym (c .before .before .crossing-stamps .ensures .stamps)) (crossing-times (s .args .rec .now) (s .pre))
+
+returns : tie.Need-returns
+unfolding truth
+returns c = subst (λ (l : List ℕ). Collects (momentsOf l) (c .moments .result)) (c .before .before .before .crossing-stamps .ensures .stamps) (c .moments .ensures)
+
+pub cross-spec : {M : Type 1} → statement M
+cross-spec = tie.close (tie.spec slice-aggregate-crossing-stamps crossing-stamps-requires array-share-prefix-times slice-aggregate-moments moments-requires returns)

@@ -1,0 +1,10 @@
+pub mod Leaf
+pub mod Span
+pub mod Extreme
+pub mod Stamps
+pub mod CodingLaws
+pub mod CodeLaws
+pub mod SpanLaws
+pub mod ExtremeLaws
+pub mod StampLaws
+pub mod LeafLaws

@@ -1,0 +1,115 @@
+// The set of a leaf at one record: of an atom, or of a listed question.
+mod atoms;
+mod extremes;
+mod fields;
+mod span;
+mod times;
+
+ghost use mathlib.Core.Path.{_≡_};
+ghost use Prim.Native.Nat.{_*_, _≤_, _<_};
+ghost use lib.ListN.{length, take};
+ghost use Rattle.runset.specs.Runs.{mostRuns};
+ghost use Rattle.runset.specs.Set.{inside};
+ghost use Rattle.runset.specs.Lent.{Lent, Fills};
+ghost use Rattle.meaning.specs.Truth.{val};
+ghost use Rattle.differences.specs.Cuts.{Collects};
+ghost use Rattle.meaning.specs.Coded.{coded};
+ghost use Rattle.leaves.specs.Leaf.{leafOf, Asked};
+ghost use Rattle.leaves.specs.Span.{Spans};
+use differences::Cuts;
+use runset::merge::Filled;
+use span::Span;
+use text::Row;
+
+// Leaves with at most one run: kinds 0 to 4, the atoms, and 5 to 8, `high`, `low`, `lowafter` and `capafter`.
+fn spanned(rec: &[u8], i: usize, row: Row) -> Span
+    requires { ⌜ Asked (now rec) i row × (row .kind < 9) ⌝ }
+    ensures { λ r. ⌜ Spans (λ v. val (coded (now (rec .entry))) v (leafOf row) i) r ⌝ }
+{
+    let kind = row.kind;
+    if kind == 0 {
+        return atoms::against_v(rec, i, row.first, row.second);
+    }
+    if kind == 1 {
+        return atoms::against_number(rec, i, row.first, row.second, row.number);
+    }
+    if kind == 2 {
+        return atoms::a_to_b(rec, i, row.second);
+    }
+    if kind == 3 {
+        return atoms::sloped(rec, i, row.first, fields::FALLING);
+    }
+    if kind == 4 {
+        return atoms::sloped(rec, i, row.first, fields::RISING);
+    }
+    let curve = fields::curve(row.first);
+    if kind == 5 {
+        return extremes::high(rec, curve);
+    }
+    if kind == 6 {
+        return extremes::low(rec, curve);
+    }
+    if kind == 7 {
+        return extremes::lowafter(rec, curve, row.number);
+    }
+    extremes::capafter(rec, curve, row.number)
+}
+
+// Kind 11, `ampl`, which has one run too.
+fn amplitude(rec: &[u8], i: usize, row: Row) -> Span
+    requires { ⌜ Asked (now rec) i row × (row .kind ≡ 11) ⌝ }
+    ensures { λ r. ⌜ Spans (λ v. val (coded (now (rec .entry))) v (leafOf row) i) r ⌝ }
+{
+    extremes::ampl(rec, fields::curve(row.first))
+}
+
+// Leaves on times: kinds 9 `peaks`, 10 `cross`, 12 `gaps`, 13 `steps` and 14 `lag`.
+fn timed(rec: &[u8], i: usize, row: Row) -> Cuts
+    requires { ⌜ Asked (now rec) i row × (9 ≤ row .kind) × (row .kind ≡ 11 → ⊥) ⌝ }
+    ensures { λ r. ⌜ Collects (λ v. val (coded (now (rec .entry))) v (leafOf row) i) r ⌝ }
+{
+    let kind = row.kind;
+    if kind == 10 {
+        return times::cross(rec);
+    }
+    if kind == 14 {
+        return times::lag(rec);
+    }
+    let curve = fields::curve(row.first);
+    if kind == 9 {
+        return times::peaks(rec, curve);
+    }
+    if kind == 12 {
+        return times::gaps(rec, curve);
+    }
+    times::steps(rec, curve)
+}
+
+// The set whose cuts are the first n.
+fn first(cuts: &[u32], n: usize, out: &mut [u32]) -> Filled
+    requires { ⌜ (n ≤ length (now cuts)) × Lent (take n (now cuts)) × (length (now out) ≡ 2 * mostRuns) ⌝ }
+    ensures { λ r. ⌜ Fills (inside (take n (now (cuts .entry)))) (now (out .exit)) r ⌝ }
+{
+    runset::lent::same(&cuts[..n], out)
+}
+
+// THE SET OF A LEAF at record i: its cuts go to the front of the output.
+pub fn leaf(rec: &[u8], i: usize, row: Row, out: &mut [u32]) -> Filled
+    requires { ⌜ Asked (now rec) i row × (length (now out) ≡ 2 * mostRuns) ⌝ }
+    ensures { λ r. ⌜ Fills (λ v. val (coded (now (rec .entry))) v (leafOf row) i) (now (out .exit)) r ⌝ }
+{
+    let kind = row.kind;
+    if kind < 9 {
+        let s = spanned(rec, i, row);
+        return runset::lent::span(s.low, s.high, out);
+    }
+    if kind == 11 {
+        let s = amplitude(rec, i, row);
+        return runset::lent::span(s.low, s.high, out);
+    }
+    let t = timed(rec, i, row);
+    if t.over {
+        return Filled { over: true, n: 0 };
+    }
+    first(&t.cuts, t.n, out)
+}

@@ -1,0 +1,56 @@
+// Sets of at most one run.
+ghost use Prim.Native.Nat.{_<_};
+ghost use lib.Dec.{leb, ltb};
+ghost use Rattle.number.specs.Axis.{axis};
+ghost use Rattle.leaves.specs.Span.{Spans};
+
+// The numbers from low to high; none where high < low.
+pub struct Span {
+    pub low: u32,
+    pub high: u32,
+}
+
+// The whole axis, or nothing.
+pub fn all_if(b: bool) -> Span
+    ensures { λ r. ⌜ Spans (λ v. b) r ⌝ }
+{
+    if b {
+        return Span {
+            low: 0,
+            high: runset::RunSet::HIGH,
+        };
+    }
+    Span { low: 1, high: 0 }
+}
+
+// From low to the end of the axis.
+pub fn from(low: u32) -> Span
+    ensures { λ r. ⌜ Spans (λ v. leb low v) r ⌝ }
+{
+    Span {
+        low,
+        high: runset::RunSet::HIGH,
+    }
+}
+
+// Up to high.
+pub fn upto(high: u32) -> Span
+    requires { ⌜ high < axis ⌝ }
+    ensures { λ r. ⌜ Spans (λ v. leb v high) r ⌝ }
+{
+    Span { low: 0, high }
+}
+
+// What is below x.
+pub fn below(x: u32) -> Span
+    requires { ⌜ x < axis ⌝ }
+    ensures { λ r. ⌜ Spans (λ v. ltb v x) r ⌝ }
+{
+    if x == 0 {
+        return Span { low: 1, high: 0 };
+    }
+    Span {
+        low: 0,
+        high: x - 1,
+    }
+}

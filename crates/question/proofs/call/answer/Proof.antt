@@ -1,0 +1,37 @@
+-- Refused by 9 or 8, or the set is written.
+use Rattle.evaluation.specs.Evaluation.{textOf}
+use Rattle.question.specs.CallLaws.{answer-refused, answer-fine}
+use borrow.Author.Needs.{needs}
+use Rattle.question.proofs.call.answer.Statement.{statement}
+use Rattle.question.proofs.call.answer.Tie as tie
+
+set-of-requires : tie.Need-set-of-requires
+set-of-requires c κs =
+    c .before .before .before .pre
+
+enum-known-verdict : tie.Need-enum-known-verdict
+enum-known-verdict c = search needs
+
+enum-told : tie.Need-enum-told
+enum-told c = search needs
+
+write-set-requires : tie.Need-write-set-requires
+write-set-requires c κs =
+    c .before .before .before .before .set-of .ensures .set (c .before .before .enum-told .given .1) .valid
+
+returns : tie.Need-returns
+returns c =
+    let s = c .before .before .before .before .before .before .before in
+    let a = s .args in
+    answer-refused (a .rec .now) (textOf (a .table .now) (a .count)) _ (c .before .before .before .set-of .ensures) (a .out .now) _ (c .before .verdict .given .1)
+
+same-length : tie.Need-same-length
+same-length c = search needs
+
+returns-2 : tie.Need-returns-2
+returns-2 c =
+    let a = c .before .before .before .before .before .before .before .before .before .before .before .args in
+    answer-fine (a .rec .now) (textOf (a .table .now) (a .count)) _ (c .before .before .before .before .before .before .before .set-of .ensures) (a .out .now) (c .before .before .before .before .before .enum-told .given .1) _ _ (c .before .before .write-set .ensures)
+
+pub answer-spec : {M : Type 1} → statement M
+answer-spec = tie.close (tie.spec set-of-requires enum-known-verdict enum-told write-set-requires returns same-length returns-2)

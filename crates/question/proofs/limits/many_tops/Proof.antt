@@ -1,0 +1,25 @@
+-- The tops are counted by a scan.
+use mathlib.Core.Path.{ap, sym, _∙_}
+use native.Mathlib.Omega.{arith}
+use lib.Dec.{ltb}
+use Rattle.tops.specs.Tops.{curveOf}
+use Rattle.question.specs.LimitLaws.{tops-count}
+use borrow.Author.Needs.{needs}
+use Rattle.question.proofs.limits.many_tops.Statement.{statement}
+use Rattle.question.proofs.limits.many_tops.Tie as tie
+
+slice-aggregate-top-times : tie.Need-slice-aggregate-top-times
+slice-aggregate-top-times c = search needs
+
+top-times-requires : tie.Need-top-times-requires
+top-times-requires c κs =
+    let s = c .before .before in
+    (omega arith, s .pre .1)
+
+returns : tie.Need-returns
+returns c =
+    let s = c .before .before .before .before in
+    ap (ltb 256) (c .before .top-times .ensures .counted ∙ sym (tops-count (s .args .rec .now) (s .pre .0) (curveOf (s .args .curve))))
+
+pub many-tops-spec : {M : Type 1} → statement M
+many-tops-spec = tie.close (tie.spec slice-aggregate-top-times top-times-requires returns)

@@ -1,0 +1,43 @@
+-- Document 01: the question call, from bytes to its outcome.
+use Prim.Native.Nat.{ℕ}
+use mathlib.Core.Bool.{Bool}
+use mathlib.Core.List.{List, [], _∷_, _++_}
+use Rattle.refusal.specs.Outcome.{Outcome, Line, line, judged}
+use Rattle.recording.specs.Recording.{recordingLines, noRecord}
+use Rattle.recording.specs.Output.{outputLine}
+use Rattle.runset.specs.Runs.{setBytes}
+use Rattle.text.specs.Syntax.{Text, listed, lag}
+use Rattle.text.specs.Parse.{Reading, one, none, reading}
+use Rattle.text.specs.Told.{textLines}
+use Rattle.meaning.specs.Truth.{val, refused8, refused9}
+use Rattle.meaning.specs.Coded.{coded}
+
+-- the text that was read; what stands for a text without a reading is never asked
+abbrev pub theText : Reading → Text
+theText (one t) = t
+theText none = listed lag
+
+-- the one reading of a text
+abbrev pub read : List ℕ → Text
+read text = theText (reading text)
+
+-- THE ANSWERED SET: the numbers, by their indices, with which the text is true at the first record
+abbrev pub answer : List ℕ → List ℕ → ℕ → Bool
+answer bytes text n = val (coded bytes) n (read text) 0
+
+-- REFUSALS 1 to 7, in order
+abbrev pub askingLines : List ℕ → List ℕ → List Line
+askingLines bytes text = recordingLines bytes ++ (noRecord bytes ∷ textLines text)
+
+-- REFUSALS 9 and 8 of a text that was read, in that order
+abbrev pub setLines : List ℕ → Text → List Line
+setLines bytes p = line 9 (refused9 (coded bytes) p) ∷ line 8 (refused8 (coded bytes) p) ∷ []
+
+-- REFUSAL 10; else the bytes of the set with the members f
+abbrev pub writtenOf : (ℕ → Bool) → ℕ → Outcome (List ℕ)
+writtenOf f room = judged (outputLine room (setBytes f) ∷ []) (setBytes f)
+
+-- THE QUESTION CALL: its refusals in the order 1 to 7, 9, 8, 10; else the bytes of the answered set
+unfoldable pub questionOf : List ℕ → List ℕ → ℕ → Outcome (List ℕ)
+questionOf bytes text room =
+    judged (askingLines bytes text ++ (setLines bytes (read text) ++ (outputLine room (setBytes (answer bytes text)) ∷ []))) (setBytes (answer bytes text))

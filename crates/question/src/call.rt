@@ -1,0 +1,55 @@
+// THE QUESTION CALL.
+ghost use Prim.Native.Nat.{ℕ, _*_, _≤_};
+ghost use lib.ListN.{length};
+ghost use Rattle.recording.specs.Output.{Answers};
+ghost use Rattle.evaluation.specs.Evaluation.{textOf};
+ghost use Rattle.question.specs.Question.{questionOf, writtenOf};
+ghost use Rattle.question.specs.Answered.{Ready};
+ghost use Rattle.question.specs.CallLaws.{answerOf};
+ghost use Rattle.runset.specs.Set.{member, Valid};
+use crate::answered::Verdict;
+use crate::prepare::Prepared;
+use recording::Written;
+use refusal::Refusal;
+use runset::RunSet;
+
+// Writes a set, if the output is long enough.
+fn write_set(set: RunSet, out: &mut [u8]) -> Written
+    requires { ⌜ Valid set ⌝ }
+    ensures { λ r. ⌜ Answers (writtenOf (member set) (length (now (out .entry)))) (now (out .entry)) r (now (out .exit)) ⌝ }
+{
+    let size = 8 * set.count();
+    if out.len() < size {
+        return Written::Refused(Refusal::ShortOutput);
+    }
+    set.write(out);
+    Written::Bytes(size)
+}
+
+// Answers a text that was read.
+fn answer(rec: &[u8], table: &[u32], count: usize, out: &mut [u8]) -> Written
+    requires { ⌜ Ready (now table) count (now rec) ⌝ }
+    ensures { λ r. ⌜ Answers (answerOf (now (rec .entry)) (textOf (now (table .entry)) count) (length (now (out .entry)))) (now (out .entry)) r (now (out .exit)) ⌝ }
+{
+    let a = crate::answered::set_of(rec, table, count);
+    let verdict = a.verdict;
+    match verdict {
+        Verdict::Refused(x) => Written::Refused(x),
+        Verdict::Fine => {
+            let set = a.set;
+            write_set(set, out)
+        }
+    }
+}
+
+// The bytes of the set of numbers with which the text is true of the recording, or the refusal.
+pub fn question(rec: &[u8], text: &[u8], out: &mut [u8]) -> Written
+    ensures { λ r. ⌜ Answers (questionOf (now (rec .entry)) (now (text .entry)) (length (now (out .entry)))) (now (out .entry)) r (now (out .exit)) ⌝ }
+{
+    let mut table = [0u32; text::TABLE_SIZE];
+    let prepared = crate::prepare::prepare(rec, text, &mut table);
+    match prepared {
+        Prepared::Refused(x) => Written::Refused(x),
+        Prepared::Nodes(n) => answer(rec, &table, n, out),
+    }
+}

@@ -1,0 +1,64 @@
+// Refusal 9: differences between too many tops.
+ghost use mathlib.Core.Path.{_≡_};
+ghost use Prim.Native.Nat.{ℕ, _*_, _≤_, _<_};
+ghost use lib.ListN.{length};
+ghost use Rattle.recording.specs.Recording.{Accepted};
+ghost use Rattle.tops.specs.Tops as tops;
+ghost use Rattle.text.specs.Table as nodes;
+ghost use Rattle.meaning.specs.Coded.{coded};
+ghost use Rattle.meaning.specs.Truth.{manyTops, asksTooMany, ofListed, refused9};
+ghost use Rattle.leaves.specs.Leaf.{leafOf};
+use text::Row;
+
+// Whether the curve has too many tops for differences.
+fn many_tops(rec: &[u8], curve: usize) -> bool
+    requires { ⌜ Accepted (now rec) × (curve < 2) ⌝ }
+    ensures { λ r. ⌜ r ≡ manyTops (tops.curveOf curve) (coded (now (rec .entry))) ⌝ }
+{
+    let mut none = [0u32; 1];
+    tops::MOST_TOPS < tops::top_times(rec, rec.len() / 16, curve, &mut none)
+}
+
+// The number of a curve from its code in a row.
+fn curve(code: u32) -> usize
+    ensures { λ r. ⌜ (r < 2) × (tops.curveOf r ≡ nodes.curveOf code) ⌝ }
+{
+    if code == 1 { 1 } else { 0 }
+}
+
+// Whether a leaf takes differences between too many tops.
+fn leaf_asks(rec: &[u8], row: Row) -> bool
+    requires { ⌜ Accepted (now rec) × (row .kind < 15) ⌝ }
+    ensures { λ r. ⌜ r ≡ ofListed (asksTooMany (coded (now (rec .entry)))) (leafOf row) ⌝ }
+{
+    let kind = row.kind;
+    if kind < 12 {
+        return false;
+    }
+    if kind == 14 {
+        if many_tops(rec, 0) {
+            return true;
+        }
+        return many_tops(rec, 1);
+    }
+    many_tops(rec, curve(row.first))
+}
+
+// Whether node n of a text, or one under it, takes differences between too many tops.
+pub fn asks(table: &[u32], count: usize, rec: &[u8], n: usize) -> bool
+    requires { ⌜ Accepted (now rec) × nodes.Falling (now table) count × (4 * count ≤ length (now table)) × (n < count) ⌝ }
+    ensures { λ r. ⌜ r ≡ refused9 (coded (now (rec .entry))) (nodes.treeAt (now (table .entry)) n) ⌝ }
+{
+    let row = evaluation::rows::row_at(table, n);
+    let kind = row.kind;
+    if kind < 15 {
+        return leaf_asks(rec, row);
+    }
+    if asks(table, count, rec, evaluation::slots::size(row.first)) {
+        return true;
+    }
+    if kind < 19 {
+        return false;
+    }
+    asks(table, count, rec, evaluation::slots::size(row.second))
+}
