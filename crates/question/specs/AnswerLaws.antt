@@ -35,8 +35,7 @@ module _ (bytes text : List ℕ) (room : ℕ) (written : List ℕ) (e : question
 
   pub answered-holds : (n : ℕ) → n < axis → inBytes written (whole n) ↔ Holds (readings bytes) (whole n) (read text) 0
   answered-holds n h =
-      let holds = val-holds (readings bytes) (accepted-recorded bytes answered-accepted .in-range) n (read text) 0 (omega arith) in
-      (
+      let holds = val-holds (readings bytes) (accepted-recorded bytes answered-accepted .in-range) n (read text) 0 (omega arith) in (
         λ w. holds .0 (member-written (answer bytes text) n h (subst (λ (b : List ℕ). inBytes b (whole n)) written-set w)),
         λ q. subst (λ (b : List ℕ). inBytes b (whole n)) (sym written-set) (written-member (answer bytes text) n h (holds .1 q)),
       )
