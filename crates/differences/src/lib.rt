@@ -8,12 +8,7 @@ ghost use Rattle.number.specs.Axis.{origin, axis};
 ghost use Rattle.differences.specs.Times.{Times, lagsOf, gapsOf, stepsOf, momentsOf};
 ghost use Rattle.differences.specs.Search.{Least, Past, Follows, chosen, from, Better, Marked, Lead, Streak};
 ghost use Rattle.differences.specs.Cuts.{Collects};
-
-// The most runs of a set.
-pub const MOST_RUNS: usize = 64;
-
-// The most cuts of a set: two for each run.
-pub const CUTS: usize = 2 * MOST_RUNS;
+use runset::CUTS;
 
 // How many numbers are looked at in one sweep over the times.
 const WINDOW: usize = 256;
