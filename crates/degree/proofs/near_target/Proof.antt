@@ -1,0 +1,54 @@
+-- Refused by 12, or by the text.
+use Rattle.evaluation.specs.Evaluation.{textOf}
+use Rattle.meaning.specs.Coded.{coded}
+use Rattle.meaning.specs.Truth.{val}
+use Rattle.question.specs.Question.{setLines}
+use Rattle.targets.specs.Target.{Placed}
+use Rattle.targets.specs.TargetLaws.{placed-handed}
+use Rattle.targets.specs.declared.OnAxis.the-variants.{Index, Off}
+use Rattle.degree.specs.CallLaws.{target-off, target-on}
+use borrow.Author.Needs.{needs}
+use Rattle.degree.proofs.near_target.Statement.{statement}
+use Rattle.degree.proofs.near_target.Tie as tie
+use Rattle.degree.proofs.near_target.Reads as reads
+use Rattle.degree.proofs.near_target.Lts as lts
+use Rattle.degree.proofs.near_text.Reads as near-text-reads
+use Rattle.targets.proofs.on_axis.Reads as on-axis-reads
+
+on-axis-requires : tie.Need-on-axis-requires
+on-axis-requires c κs = search needs
+
+enum-known-place : tie.Need-enum-known-place
+enum-known-place c = search needs
+
+near-text-requires : tie.Need-near-text-requires
+near-text-requires c κs =
+    let s = c .before .before .before .before .before .before in
+    let t = c .before .before .before in
+    let told = c .before .place .given in
+    (s .pre, placed-handed (s .args .target) (s .fits .target) (t .on-axis .result) (Index (told .0 .0)) (told .1) (t .on-axis .ensures) .1)
+
+enum-told : tie.Need-enum-told
+enum-told c = search needs
+
+returns : tie.Need-returns
+returns c =
+    let s = c .before .before .before .before .before .before .before in
+    let a = s .args in
+    let t = c .before .before .before .before in
+    let told = c .before .before .place .given in
+    target-on (a .target) (setLines (a .rec .now) (textOf (a .table .now) (a .count))) (λ n. val (coded (a .rec .now)) n (textOf (a .table .now) (a .count)) 0) (told .0 .0)
+    (placed-handed (a .target) (s .fits .target) (t .on-axis .result) (Index (told .0 .0)) (told .1) (t .on-axis .ensures)) _ (c .near-text .ensures)
+
+returns-2 : tie.Need-returns-2
+returns-2 c =
+    let s = c .before .before .before .before .before in
+    let a = s .args in
+    let t = c .before .before in
+    target-off (a .target) (setLines (a .rec .now) (textOf (a .table .now) (a .count))) (λ n. val (coded (a .rec .now)) n (textOf (a .table .now) (a .count)) 0)
+    (placed-handed (a .target) (s .fits .target) (t .on-axis .result) Off (c .enum-told .given .1) (t .on-axis .ensures))
+
+pub near-target-spec : {M : Type 1} → statement M
+near-target-spec =
+    tie.close
+    (tie.spec on-axis-requires enum-known-place near-text-requires enum-told returns returns-2)

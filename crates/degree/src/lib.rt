@@ -1,0 +1,94 @@
+// The degree call: how near the answered set of a question comes to a wanted number.
+ghost use mathlib.Core.Path.{_≡_};
+ghost use mathlib.Core.List.{_∷_};
+ghost use Prim.Native.Nat.{ℕ, _<_};
+ghost use Rattle.number.specs.Axis.{axis};
+ghost use Rattle.refusal.specs.Outcome.{result, judged};
+ghost use Rattle.runset.specs.Set.{member, Valid};
+ghost use Rattle.meaning.specs.Coded.{coded};
+ghost use Rattle.meaning.specs.Coded.{index as indexOf};
+ghost use Rattle.meaning.specs.Truth.{val};
+ghost use Rattle.evaluation.specs.Evaluation.{textOf};
+ghost use Rattle.question.specs.Answered.{Ready};
+ghost use Rattle.question.specs.Question.{setLines};
+ghost use Rattle.degree.specs.Degree.{graded, valueOf, targetLine, nearnessOf, outcomeOf};
+use question::answered::Verdict;
+use question::prepare::Prepared;
+use refusal::Refusal;
+use runset::Nearest;
+use runset::RunSet;
+use targets::OnAxis;
+
+// The answer of the degree call.
+pub enum Nearness {
+    // The target is a member of the set.
+    Met,
+    // The distance to the nearest member, and its degree.
+    Short(u32, f64),
+    // The set has no member.
+    NoValue,
+    Refused(Refusal),
+}
+
+// What a distance is worth.
+fn grade(d: u32) -> Nearness
+    ensures { λ r. ⌜ outcomeOf r ≡ result (graded d) ⌝ }
+{
+    if d == 0 {
+        return Nearness::Met;
+    }
+    let degree = ratio::degree_of(d);
+    Nearness::Short(d, degree)
+}
+
+// How near a set comes to the number at an index.
+fn near_set(set: RunSet, index: u32) -> Nearness
+    requires { ⌜ Valid set × (index < axis) ⌝ }
+    ensures { λ r. ⌜ outcomeOf r ≡ result (valueOf (member set) index) ⌝ }
+{
+    let nearest = set.distance(index);
+    match nearest {
+        Nearest::At(d) => grade(d),
+        Nearest::Nothing => Nearness::NoValue,
+    }
+}
+
+// How near the set of a text that was read comes to the number at an index.
+fn near_text(rec: &[u8], table: &[u32], count: usize, index: u32) -> Nearness
+    requires { ⌜ Ready (now table) count (now rec) × (index < axis) ⌝ }
+    ensures { λ r. ⌜ outcomeOf r ≡ judged (setLines (now (rec .entry)) (textOf (now (table .entry)) count)) (valueOf (λ n. val (coded (now (rec .entry))) n (textOf (now (table .entry)) count) 0) index) ⌝ }
+{
+    let answered = question::answered::set_of(rec, table, count);
+    let verdict = answered.verdict;
+    match verdict {
+        Verdict::Refused(x) => Nearness::Refused(x),
+        Verdict::Fine => {
+            let set = answered.set;
+            near_set(set, index)
+        }
+    }
+}
+
+// How near the set of a text that was read comes to a target.
+fn near_target(rec: &[u8], table: &[u32], count: usize, target: i64) -> Nearness
+    requires { ⌜ Ready (now table) count (now rec) ⌝ }
+    ensures { λ r. ⌜ outcomeOf r ≡ judged (targetLine target ∷ setLines (now (rec .entry)) (textOf (now (table .entry)) count)) (valueOf (λ n. val (coded (now (rec .entry))) n (textOf (now (table .entry)) count) 0) (indexOf target)) ⌝ }
+{
+    let place = targets::on_axis(target);
+    match place {
+        OnAxis::Index(index) => near_text(rec, table, count, index),
+        OnAxis::Off => Nearness::Refused(Refusal::BadTarget),
+    }
+}
+
+// THE DEGREE CALL: whether the target makes the question true, and else how near the nearest number that does comes to it.
+pub fn degree(rec: &[u8], text: &[u8], target: i64) -> Nearness
+    ensures { λ r. ⌜ outcomeOf r ≡ nearnessOf (now (rec .entry)) (now (text .entry)) target ⌝ }
+{
+    let mut table = [0u32; text::TABLE_SIZE];
+    let prepared = question::prepare::prepare(rec, text, &mut table);
+    match prepared {
+        Prepared::Refused(x) => Nearness::Refused(x),
+        Prepared::Nodes(n) => near_target(rec, &table, n, target),
+    }
+}
