@@ -3,19 +3,49 @@ use Prim.Native.Nat.{ℕ}
 use mathlib.Core.Path.{_≡_}
 use mathlib.Core.List.{List}
 use lib.IntN.{ℤ}
+use lib.Ieee.{Float}
 use Rattle.refusal.specs.Outcome.{Outcome, result, refused, judged, NoneMeets}
 use Rattle.recording.specs.Recording.{readings}
 use Rattle.recording.specs.Output.{counted, outputAfter}
 use Rattle.tops.specs.Tops.{curveOf}
 use Rattle.pair.specs.Pair.{Given, times, none, Right, pairLines}
+use Rattle.degree.specs.Degree.{Value, met, short, noValue}
 use Rattle.reply.specs.Reply.{packed}
 
--- ---- thinning
+-- ---- thinning and the question
 
 -- a call that writes bytes returns how many they are, or its refusal; behind the result, and after a refusal, the output stays
 pub record Writes (outcome : Outcome (List ℕ)) (old : List ℕ) (r : ℕ) (new : List ℕ) : Type 0 where
   pub returned : r ≡ packed (counted outcome)
   pub output : new ≡ outputAfter outcome old
+
+-- ---- the degree
+
+-- 0 met, 1 short, 2 no value
+abbrev pub valueTold : Outcome Value → Outcome ℕ
+valueTold (result met) = result 0
+valueTold (result (short d k)) = result 1
+valueTold (result noValue) = result 2
+valueTold (refused n p) = refused n p
+
+-- the distance and the degree of a target that is missed are written; else both places stay
+abbrev pub distanceAfter : Outcome Value → ℕ → ℕ
+distanceAfter (result met) old = old
+distanceAfter (result (short d k)) old = d
+distanceAfter (result noValue) old = old
+distanceAfter (refused n p) old = old
+
+abbrev pub degreeAfter : Outcome Value → Float → Float
+degreeAfter (result met) old = old
+degreeAfter (result (short d k)) old = k
+degreeAfter (result noValue) old = old
+degreeAfter (refused n p) old = old
+
+-- THE COMPLETE OUTCOME of the degree call: what it returns, and the two places, `distance` and `degree` before, `first` and `second` after
+pub record Degrees (outcome : Outcome Value) (distance : ℕ) (degree : Float) (r : ℕ) (first : ℕ) (second : Float) : Type 0 where
+  pub returned : r ≡ packed (valueTold outcome)
+  pub first-place : first ≡ distanceAfter outcome distance
+  pub second-place : second ≡ degreeAfter outcome degree
 
 -- ---- the pair
 

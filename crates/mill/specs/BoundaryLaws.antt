@@ -9,13 +9,19 @@ use lib.ListN.{length}
 use borrow.Author.Tests.{ltb-false}
 use Rattle.refusal.specs.Outcome.{Outcome, result, refused, Line, judged}
 use Rattle.recording.specs.Condition.{Condition, pick, pickFrom, when, on}
-use Rattle.recording.specs.Recording.{Raw, records, reading, recordingLines, mostRecords}
+use Rattle.recording.specs.Recording.{Raw, records, reading, recordingLines, noRecord, mostRecords}
 use Rattle.recording.specs.Output.{counted, outputLine}
 use Rattle.recording.specs.RecordLaws.{length-flat, length-records}
 use Rattle.recording.specs.OutcomeLaws.{result-none, none-append}
 use Rattle.kept.specs.Kept.{keptFor}
 use Rattle.thin.specs.Thin.{keptBytes, marksOf, marksLine, thinOf}
 use Rattle.thin.specs.BookLaws.{kept-sixteens}
+use Rattle.runset.specs.Runs.{setBytes}
+use Rattle.text.specs.Told.{textLines}
+use Rattle.meaning.specs.Coded.{index}
+use Rattle.question.specs.Question.{answer, read, setLines, questionOf}
+use Rattle.question.specs.SizeLaws.{answered-few}
+use Rattle.degree.specs.Degree.{valueOf, targetLine, nearnessOf}
 use Rattle.pair.specs.Pair.{Given, pairLines, acceptedLines}
 use Rattle.reply.specs.Reply.{half, InHalf}
 use Rattle.reply.specs.PlaceLaws.{place-below}
@@ -59,6 +65,25 @@ thin-in-half bytes marks room = go (thinOf bytes marks room) refl
         let q = kept-most (marksOf marks) bytes in
         let l = ap length (k .1) in
         omega arith
+
+pub question-in-half : (bytes text : List ℕ) (room : ℕ) → InHalf (counted (questionOf bytes text room))
+unfolding questionOf
+question-in-half bytes text room = go (questionOf bytes text room) refl
+  where
+    set : List ℕ
+    set = setBytes (answer bytes text)
+
+    go : (o : Outcome (List ℕ)) → questionOf bytes text room ≡ o → InHalf (counted o)
+    go (refused n p) e =
+        place-below bytes (noRecord bytes ∷ textLines text ++ (setLines bytes (read text) ++ (outputLine room set ∷ []))) set n p
+        (refl, (refl, (refl, (refl, (refl, (refl, (refl, tt))))))) e
+    go (result written) e = omega (arith, answered-few bytes text room written e)
+
+pub degree-place : (bytes text : List ℕ) (g : ℤ) (n p : ℕ) → nearnessOf bytes text g ≡ refused n p → p < half
+unfolding nearnessOf
+degree-place bytes text g n p e =
+    place-below bytes (noRecord bytes ∷ textLines text ++ (targetLine g ∷ setLines bytes (read text))) (valueOf (answer bytes text) (index g)) n p
+    (refl, (refl, (refl, (refl, (refl, (refl, (refl, tt))))))) e
 
 pub pair-place : (bytes : List ℕ) (curve : ℕ) (g : ℤ) (given : Given) (n p : ℕ) → judged (pairLines bytes curve g) given ≡ refused n p → p < half
 pair-place bytes curve g given n p e = place-below bytes (acceptedLines bytes curve g) given n p (refl, (refl, (refl, tt))) e

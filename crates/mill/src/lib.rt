@@ -2,7 +2,46 @@
 ghost use mathlib.Core.Path.{_≡_};
 ghost use lib.ListN.{length};
 ghost use Rattle.thin.specs.Thin.{thinOf};
-ghost use Rattle.mill.specs.Boundary.{Writes, Pairs};
+ghost use Rattle.question.specs.Question.{questionOf};
+ghost use Rattle.degree.specs.Degree.{nearnessOf};
+ghost use Rattle.mill.specs.Boundary.{Writes, Degrees, Pairs};
+
+// THE QUESTION CALL. Returns how many bytes of the output the answered set takes, or the refusal.
+#[no_mangle]
+pub extern "C" fn mill_question(rec: &[u8], text: &[u8], out: &mut [u8]) -> u64
+    ensures { λ r. ⌜ Writes (questionOf (now (rec .entry)) (now (text .entry)) (length (now (out .entry)))) (now (out .entry)) r (now (out .exit)) ⌝ }
+{
+    let written = question::question(rec, text, out);
+    match written {
+        recording::Written::Bytes(n) => n as u64,
+        recording::Written::Refused(x) => reply::refused(x),
+    }
+}
+
+// THE DEGREE CALL. Returns 0 where the target is met, 1 where it is missed and its distance and degree are written, 2 where
+// there is no value, or the refusal.
+#[no_mangle]
+pub extern "C" fn mill_degree(
+    rec: &[u8],
+    text: &[u8],
+    target: i64,
+    distance: &mut u32,
+    degree: &mut f64,
+) -> u64
+    ensures { λ r. ⌜ Degrees (nearnessOf (now (rec .entry)) (now (text .entry)) target) (now (distance .entry)) (now (degree .entry)) r (now (distance .exit)) (now (degree .exit)) ⌝ }
+{
+    let near = degree::degree(rec, text, target);
+    match near {
+        degree::Nearness::Met => 0,
+        degree::Nearness::Short(d, k) => {
+            *distance = d;
+            *degree = k;
+            1
+        }
+        degree::Nearness::NoValue => 2,
+        degree::Nearness::Refused(x) => reply::refused(x),
+    }
+}
 
 // THE THINNING CALL. Returns how many bytes of the output the kept readings take, or the refusal.
 #[no_mangle]

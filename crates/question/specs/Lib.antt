@@ -6,3 +6,4 @@ pub mod LimitLaws
 pub mod AnsweredLaws
 pub mod CallLaws
 pub mod AnswerLaws
+pub mod SizeLaws

@@ -8,7 +8,7 @@ use lib.Dec.{leb, ltb}
 use borrow.Author.Tests.{lt-ltb, le-ltb, le-leb, lt-leb, ltb-true, leb-true}
 use Rattle.number.specs.Axis.{axis}
 use Rattle.number.specs.Least.{least}
-use Rattle.number.specs.LeastLaws.{least-le, least-is, least-none, least-holds, least-ext}
+use Rattle.number.specs.LeastLaws.{least-le, least-is, least-none, least-holds, least-first, least-ext}
 use Rattle.number.specs.OrderLaws.{less-or-not, true-or-false}
 use Rattle.runset.specs.Distance.{memberAt, distance}
 use Rattle.runset.specs.Set.{nearestOf}
@@ -50,6 +50,13 @@ module _ (f : ℕ → Bool) (v : ℕ) (hv : v < axis) where
   distance-is w hw e g =
       least-is (memberAt f v) axis (between v w) (omega arith) (member-there w hw e)
       (λ k h. no-member-there k (λ u hu q. ⊎-elim (λ t. absurd (omega (arith, g u hu t))) (λ t. t) (true-or-false (f u))))
+
+  -- no member is nearer
+  pub distance-least : (w : ℕ) → w < axis → f w ≡ true → distance f v ≤ between v w
+  unfolding distance
+  distance-least w hw e =
+      ⊎-elim (λ h. absurd (false≢true (sym (least-first (memberAt f v) axis (between v w) h) ∙ member-there w hw e))) (λ h. h)
+      (less-or-not (between v w) (least (memberAt f v) axis))
 
   pub distance-none : ((w : ℕ) → w < axis → f w ≡ false) → distance f v ≡ axis
   unfolding distance

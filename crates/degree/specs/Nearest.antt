@@ -1,0 +1,33 @@
+-- Document 01, "Degree and pair": what a value says of a recording. Numbers of the axis are given by their indices.
+use Prim.Native.Nat.{ℕ, _+_, _-_, _≤_, _<_}
+use mathlib.Core.Path.{_≡_}
+use mathlib.Core.List.{List}
+use Rattle.number.specs.Axis.{axis, whole}
+use Rattle.recording.specs.Reading.{Reading}
+use Rattle.text.specs.Syntax.{Text}
+use Rattle.meaning.specs.Meaning.{Holds}
+use Rattle.ratio.specs.Degree.{degreeOf}
+use Rattle.degree.specs.Degree.{Value, met, short, noValue}
+
+-- |v − w|
+abbrev pub apart : ℕ → ℕ → ℕ
+apart v w = (v - w) + (w - v)
+
+module _ (r : List Reading) (p : Text) where
+  -- the text is true at the first record with the number put in
+  abbrev pub Member : ℕ → Type 0
+  Member n = Holds r (whole n) p 0
+
+  -- d is the least |v − w| over the members w
+  pub record Distance (v d : ℕ) : Type 0 where
+    pub nearest : ℕ
+    pub on-axis : nearest < axis
+    pub member : Member nearest
+    pub there : apart v nearest ≡ d
+    pub least : (w : ℕ) → w < axis → Member w → d ≤ apart v w
+
+  -- met: the target is a member; short: none is nearer than the distance, which is not 0; no value at all: there is no member
+  abbrev pub Says : ℕ → Value → Type 0
+  Says v met = Member v
+  Says v (short d k) = (0 < d) × Distance v d × (k ≡ degreeOf d)
+  Says v noValue = (w : ℕ) → w < axis → Member w → ⊥
