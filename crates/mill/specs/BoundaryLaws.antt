@@ -1,16 +1,21 @@
 -- Laws of the boundary: the result and the place fit in the low half of what a call returns, so that a reply can be told from another.
 use Prim.Native.Nat.{ℕ, suc, _*_, _/_, _≤_, _<_}
 use native.Mathlib.Omega.{arith}
-use mathlib.Core.Path.{_≡_, refl, ap}
+use mathlib.Core.Path.{_≡_, refl, sym, ap, _∙_, subst}
 use mathlib.Core.Bool.{Bool, true, false}
 use mathlib.Core.List.{List, [], _∷_, _++_}
 use lib.IntN.{ℤ}
+use lib.Ieee.{Float}
 use lib.ListN.{length}
 use borrow.Author.Tests.{ltb-false}
 use Rattle.refusal.specs.Outcome.{Outcome, result, refused, Line, judged}
+use Rattle.refusal.specs.Numbers.{numberOf, placeOf}
+use Rattle.refusal.specs.declared.Refusal.{Refusal}
 use Rattle.recording.specs.Condition.{Condition, pick, pickFrom, when, on}
 use Rattle.recording.specs.Recording.{Raw, records, reading, recordingLines, noRecord, mostRecords}
-use Rattle.recording.specs.Output.{counted, outputLine}
+use Rattle.recording.specs.Output.{Answers, reported, counted, outputLine}
+use Rattle.recording.specs.declared.Written.{Written}
+use Rattle.recording.specs.declared.Written.the-variants as written
 use Rattle.recording.specs.RecordLaws.{length-flat, length-records}
 use Rattle.recording.specs.OutcomeLaws.{result-none, none-append}
 use Rattle.kept.specs.Kept.{keptFor}
@@ -21,10 +26,46 @@ use Rattle.text.specs.Told.{textLines}
 use Rattle.meaning.specs.Coded.{index}
 use Rattle.question.specs.Question.{answer, read, setLines, questionOf}
 use Rattle.question.specs.SizeLaws.{answered-few}
-use Rattle.degree.specs.Degree.{valueOf, targetLine, nearnessOf}
+use Rattle.degree.specs.Degree.{Value, valueOf, targetLine, nearnessOf, outcomeOf}
+use Rattle.degree.specs.declared.Nearness.{Nearness}
+use Rattle.degree.specs.declared.Nearness.the-variants as nearness
 use Rattle.pair.specs.Pair.{Given, pairLines, acceptedLines}
-use Rattle.reply.specs.Reply.{half, InHalf}
+use Rattle.reply.specs.Reply.{half, packed, InHalf}
 use Rattle.reply.specs.PlaceLaws.{place-below}
+use Rattle.mill.specs.Boundary.{Writes, valueTold, distanceAfter, degreeAfter, Degrees}
+
+-- ---- an answer, packed
+
+module _ (outcome : Outcome (List ℕ)) (old : List ℕ) (w : Written) (new : List ℕ) (a : Answers outcome old w new) where
+  pub writes-bytes : (n : ℕ) → w ≡ written.Bytes n → Writes outcome old n new
+  writes-bytes n e = record { returned = sym (ap (λ (k : Written). packed (reported k)) e) ∙ ap packed (a .answer); output = a .output }
+
+  pub writes-refusal : (x : Refusal) (r : ℕ) → w ≡ written.Refused x → r ≡ packed (refused (numberOf x) (placeOf x)) → Writes outcome old r new
+  writes-refusal x r e h =
+      record { returned = h ∙ sym (ap (λ (k : Written). packed (reported k)) e) ∙ ap packed (a .answer); output = a .output }
+
+module _ (o : Outcome Value) (n : Nearness) (answers : outcomeOf n ≡ o) (distance : ℕ) (degree : Float) where
+  degrees-answer : (x : Outcome Value) → outcomeOf n ≡ x → Degrees o distance degree (packed (valueTold x)) (distanceAfter x distance) (degreeAfter x degree)
+  degrees-answer x e =
+      let q : x ≡ o = sym e ∙ answers in
+      record {
+        returned = ap (λ (k : Outcome Value). packed (valueTold k)) q;
+        first-place = ap (λ (k : Outcome Value). distanceAfter k distance) q;
+        second-place = ap (λ (k : Outcome Value). degreeAfter k degree) q;
+      }
+
+  pub degrees-met : n ≡ nearness.Met → Degrees o distance degree 0 distance degree
+  degrees-met e = degrees-answer (outcomeOf nearness.Met) (ap outcomeOf e)
+
+  pub degrees-short : (d : ℕ) (k : Float) → n ≡ nearness.Short d k → Degrees o distance degree 1 d k
+  degrees-short d k e = degrees-answer (outcomeOf (nearness.Short d k)) (ap outcomeOf e)
+
+  pub degrees-none : n ≡ nearness.NoValue → Degrees o distance degree 2 distance degree
+  degrees-none e = degrees-answer (outcomeOf nearness.NoValue) (ap outcomeOf e)
+
+  pub degrees-refusal : (x : Refusal) (r : ℕ) → n ≡ nearness.Refused x → r ≡ packed (refused (numberOf x) (placeOf x)) → Degrees o distance degree r distance degree
+  degrees-refusal x r e h =
+      subst (λ (m : ℕ). Degrees o distance degree m distance degree) (sym h) (degrees-answer (outcomeOf (nearness.Refused x)) (ap outcomeOf e))
 
 -- ---- bytes written
 

@@ -4,26 +4,16 @@ use mathlib.Core.Path.{_≡_, sym, ap, _∙_, subst}
 use mathlib.Core.List.{List}
 use lib.ListN.{length}
 use borrow.Author.Needs.{needs}
-use Rattle.refusal.specs.Outcome.{Outcome, refused}
-use Rattle.refusal.specs.Numbers.{numberOf, placeOf}
+use Rattle.refusal.specs.Numbers.{placeOf}
 use Rattle.refusal.specs.declared.Refusal.{Refusal}
 use Rattle.recording.specs.Output.{Answers, reported}
 use Rattle.recording.specs.declared.Written.{Written}
 use Rattle.recording.specs.declared.Written.the-variants as written
 use Rattle.thin.specs.Thin.{thinOf}
-use Rattle.reply.specs.Reply.{half, packed, InHalf}
-use Rattle.mill.specs.Boundary.{Writes}
-use Rattle.mill.specs.BoundaryLaws.{thin-in-half}
+use Rattle.reply.specs.Reply.{half, InHalf}
+use Rattle.mill.specs.BoundaryLaws.{thin-in-half, writes-bytes, writes-refusal}
 use Rattle.mill.proofs.mill_thin.Statement.{statement}
 use Rattle.mill.proofs.mill_thin.Tie as tie
-
-module _ (outcome : Outcome (List ℕ)) (old : List ℕ) (w : Written) (new : List ℕ) (a : Answers outcome old w new) where
-  writes-bytes : (n : ℕ) → w ≡ written.Bytes n → Writes outcome old n new
-  writes-bytes n e = record { returned = sym (ap (λ (k : Written). packed (reported k)) e) ∙ ap packed (a .answer); output = a .output }
-
-  writes-refusal : (x : Refusal) (r : ℕ) → w ≡ written.Refused x → r ≡ packed (refused (numberOf x) (placeOf x)) → Writes outcome old r new
-  writes-refusal x r e h =
-      record { returned = h ∙ sym (ap (λ (k : Written). packed (reported k)) e) ∙ ap packed (a .answer); output = a .output }
 
 place-fits : (bytes marks old : List ℕ) (w : Written) (new : List ℕ) (x : Refusal) → Answers (thinOf bytes marks (length old)) old w new → w ≡ written.Refused x
     → placeOf x < half
