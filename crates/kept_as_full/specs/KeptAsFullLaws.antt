@@ -1,0 +1,15 @@
+-- DEMAND 3, its last sentence, proved: kept as full.
+use Prim.Native.Nat.{ℕ}
+use mathlib.Core.List.{List}
+use Rattle.recording.specs.Recording.{Accepted}
+use Rattle.thin.specs.Thin.{keptBytes, marksOf, AcceptedMarks}
+use Rattle.kept_as_full.specs.KeptAsFull.{SameAnswers}
+use Rattle.kept_as_full.specs.QuestionAsFullLaws.{kept-question}
+use Rattle.kept_as_full.specs.PairAsFullLaws.{kept-pair}
+
+-- for every accepted recording and accepted marks
+pub kept-as-full : (marks : List ℕ) → AcceptedMarks marks → (bytes : List ℕ) → Accepted bytes → SameAnswers marks (keptBytes (marksOf marks) bytes) bytes
+kept-as-full marks fine bytes accepted = record {
+  question = λ text askable room. kept-question marks bytes text accepted askable room;
+  pair = λ curve g p. kept-pair (marksOf marks) bytes accepted curve g p;
+}

@@ -1,0 +1,5 @@
+pub mod KeptAsFull
+pub mod ObservationLaws
+pub mod QuestionAsFullLaws
+pub mod PairAsFullLaws
+pub mod KeptAsFullLaws
