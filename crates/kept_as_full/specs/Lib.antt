@@ -1,5 +1,7 @@
 pub mod KeptAsFull
+pub mod Lasting
 pub mod ObservationLaws
 pub mod QuestionAsFullLaws
 pub mod PairAsFullLaws
 pub mod KeptAsFullLaws
+pub mod LastingLaws
