@@ -5,3 +5,4 @@ pub mod QuestionAsFullLaws
 pub mod PairAsFullLaws
 pub mod KeptAsFullLaws
 pub mod LastingLaws
+pub mod R1Lasting
