@@ -11,8 +11,9 @@ use Rattle.meaning.specs.Meaning.{Holds}
 use Rattle.question.specs.Question.{read, questionOf}
 use Rattle.question.specs.AnswerLaws.{answered-holds}
 use Rattle.thin.specs.Thin.{marksOf, AcceptedMarks}
-use Rattle.thin.specs.Book.{Call, heldAfter}
+use Rattle.thin.specs.Book.{Call, heldAfter, joinAfter}
 use Rattle.thin.specs.Cut.{wholeFrom, CutBetween, LongEnough, AsTheWhole}
+use Rattle.thin.specs.BookLaws.{as-the-book}
 use Rattle.thin.specs.CutLaws.{as-the-whole}
 use Rattle.kept_as_full.specs.KeptAsFull.{Askable, SameAnswers}
 use Rattle.kept_as_full.specs.KeptAsFullLaws.{kept-as-full}
@@ -34,3 +35,10 @@ module _ (marks : List ℕ) (fine : AcceptedMarks marks) (cs : List Call) (accep
       → (n : ℕ) → n < axis → inBytes written (whole n) ↔ Holds (readings (wholeFrom [] cs)) (whole n) (read text) 0
   held-holds text askable room written e =
       answered-holds (wholeFrom [] cs) text room written (sym (lasting .same .question text askable room) ∙ e)
+
+-- AFTER ANY LIST OF CALLS, refused ones included, the readings held answer as the join of the pieces taken, where that is an accepted recording
+pub held-as-join : (marks : List ℕ) → AcceptedMarks marks → (cs : List Call) → Accepted (joinAfter (marksOf marks) [] cs)
+    → SameAnswers marks (heldAfter marks [] cs) (joinAfter (marksOf marks) [] cs)
+held-as-join marks fine cs accepted =
+    subst (λ (held : List ℕ). SameAnswers marks held (joinAfter (marksOf marks) [] cs)) (sym (as-the-book marks fine cs .held))
+    (kept-as-full marks fine (joinAfter (marksOf marks) [] cs) accepted)

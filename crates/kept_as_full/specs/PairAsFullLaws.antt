@@ -93,6 +93,14 @@ found-judged (l ∷ ls) o w h = go (l .meets) refl (λ e. found-judged ls o w (�
     go true e rest = refl
     go false e rest = rest e
 
+pub answers-agree : (bytes : List ℕ) (curve : ℕ) (g : ℤ) (p q : TopPair) → Answers bytes curve g p → Answers bytes curve g q
+    → found (outcomeOf p) ≡ found (outcomeOf q)
+answers-agree bytes curve g p q a b =
+    ap found (a .outcome)
+    ∙ found-judged (pairLines bytes curve g) (a .given) (b .given)
+    (λ n. both-right (readings bytes) (curveOf curve) g (a .given) (b .given) (a .right n) (b .right n))
+    ∙ sym (ap found (b .outcome))
+
 -- ---- the call
 
 module _ (marks bytes : List ℕ) (accepted : Accepted bytes) (curve : ℕ) (g : ℤ) where
@@ -119,14 +127,3 @@ module _ (marks bytes : List ℕ) (accepted : Accepted bytes) (curve : ℕ) (g :
             ∙ ap (λ (ls : List Line). judged ls (a .given)) e
             ∙ sym (judged-pass (recordingLines to) (acceptedLines to curve g) (a .given) t);
       }
-
-  -- SO ALL ANSWERS, from the kept readings and from the full recording, agree: a pair is found, there is none, or the same refusal
-  pub kept-found : (p q : TopPair) → Answers (keptBytes marks bytes) curve g p → Answers bytes curve g q → found (outcomeOf p) ≡ found (outcomeOf q)
-  kept-found p q a b = agree (kept-pair p .0 a) b
-    where
-      agree : Answers bytes curve g p → Answers bytes curve g q → found (outcomeOf p) ≡ found (outcomeOf q)
-      agree a b =
-          ap found (a .outcome)
-          ∙ found-judged (pairLines bytes curve g) (a .given) (b .given)
-          (λ n. both-right (readings bytes) (curveOf curve) g (a .given) (b .given) (a .right n) (b .right n))
-          ∙ sym (ap found (b .outcome))

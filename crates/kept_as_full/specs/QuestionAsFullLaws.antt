@@ -1,4 +1,4 @@
--- KEPT AS FULL: a question that may be asked of kept readings has the same outcome from them as from the full recording.
+-- The question call on kept readings: a question that may be asked of them has the same outcome from them as from the full recording.
 use Prim.Native.Nat.{ℕ, _<_}
 use native.Mathlib.Omega.{arith}
 use native.Mathlib.Decide.{decLt}
@@ -126,6 +126,14 @@ module _ (marks bytes : List ℕ) (accepted : Accepted bytes) where
 
 -- ---- the question
 
+-- THE ANSWERED SET, number by number, and its bytes
+module _ (marks bytes text : List ℕ) (accepted : Accepted bytes) (some : noRecord bytes .meets ≡ false) (plain : Plain marks (read text)) where
+  pub kept-answer : (n : ℕ) → answer (keptBytes marks bytes) text n ≡ answer bytes text n
+  kept-answer = kept-val marks bytes accepted some (read text) plain
+
+  pub kept-set : setBytes (answer (keptBytes marks bytes) text) ≡ setBytes (answer bytes text)
+  kept-set = setBytes-ext (answer (keptBytes marks bytes) text) (answer bytes text) (λ n h. kept-answer n)
+
 module _ (marks bytes text : List ℕ) (accepted : Accepted bytes) (askable : Askable marks text) where
   abbrev held : List ℕ
   held = keptBytes (marksOf marks) bytes
@@ -140,11 +148,6 @@ module _ (marks bytes text : List ℕ) (accepted : Accepted bytes) (askable : As
       ∙ judged-behind (noRecord bytes ∷ textLines text) ms ns r s (λ n. h (n .0) (askable (n .1)))
       ∙ sym (judged-pass (recordingLines bytes) ((noRecord bytes ∷ textLines text) ++ ns) s accepted)
 
-  -- THE ANSWERED SET, number by number
-  pub kept-answer : noRecord bytes .meets ≡ false → Plain (marksOf marks) (read text)
-      → (n : ℕ) → answer (keptBytes (marksOf marks) bytes) text n ≡ answer bytes text n
-  kept-answer some plain = kept-val (marksOf marks) bytes accepted some (read text) plain
-
   -- THE QUESTION CALL: the same set in the same bytes, or the same refusal
   pub kept-question : (room : ℕ) → questionOf (keptBytes (marksOf marks) bytes) text room ≡ questionOf bytes text room
   unfolding questionOf
@@ -152,5 +155,4 @@ module _ (marks bytes text : List ℕ) (accepted : Accepted bytes) (askable : As
       kept-asking (setLines held (read text) ++ (outputLine room (setBytes (answer held text)) ∷ []))
       (setLines bytes (read text) ++ (outputLine room (setBytes (answer bytes text)) ∷ [])) (setBytes (answer held text)) (setBytes (answer bytes text))
       (λ some plain. ap₂ (λ (ls : List Line) (set : List ℕ). judged (ls ++ (outputLine room set ∷ [])) set)
-      (kept-setLines (marksOf marks) bytes accepted some (read text) plain)
-      (setBytes-ext (answer held text) (answer bytes text) (λ n h. kept-answer some plain n)))
+      (kept-setLines (marksOf marks) bytes accepted some (read text) plain) (kept-set (marksOf marks) bytes text accepted some plain))
