@@ -15,7 +15,6 @@ use Rattle.recording.specs.Condition.{Condition, pick, pickFrom, when, on}
 use Rattle.recording.specs.Recording.{Raw, records, reading, recordingLines, noRecord, mostRecords}
 use Rattle.recording.specs.Output.{Answers, reported, counted, outputLine}
 use Rattle.recording.specs.declared.Written.{Written}
-use Rattle.recording.specs.declared.Written.the-variants as written
 use Rattle.recording.specs.RecordLaws.{length-flat, length-records}
 use Rattle.recording.specs.OutcomeLaws.{result-none, none-append}
 use Rattle.kept.specs.Kept.{keptFor}
@@ -36,13 +35,10 @@ use Rattle.mill.specs.Boundary.{Writes, valueTold, distanceAfter, degree
 
 -- ---- an answer, packed
 
-module _ (outcome : Outcome (List ℕ)) (old : List ℕ) (w : Written) (new : List ℕ) (a : Answers outcome old w new) where
-  pub writes-bytes : (n : ℕ) → w ≡ written.Bytes n → Writes outcome old n new
-  writes-bytes n e = record { returned = sym (ap (λ (k : Written). packed (reported k)) e) ∙ ap packed (a .answer); output = a .output }
-
-  pub writes-refusal : (x : Refusal) (r : ℕ) → w ≡ written.Refused x → r ≡ packed (refused (numberOf x) (placeOf x)) → Writes outcome old r new
-  writes-refusal x r e h =
-      record { returned = h ∙ sym (ap (λ (k : Written). packed (reported k)) e) ∙ ap packed (a .answer); output = a .output }
+-- the outcome of a call that writes
+pub writes : (outcome : Outcome (List ℕ)) (old : List ℕ) (w : Written) (new : List ℕ) (r : ℕ) → Answers outcome old w new → r ≡ packed (reported w)
+    → Writes outcome old r new
+writes outcome old w new r a e = record { returned = e ∙ ap packed (a .answer); output = a .output }
 
 module _ (o : Outcome Value) (n : Nearness) (answers : outcomeOf n ≡ o) (distance : ℕ) (degree : Float) where
   degrees-answer : (x : Outcome Value) → outcomeOf n ≡ x → Degrees o distance degree (packed (valueTold x)) (distanceAfter x distance) (degreeAfter x degree)

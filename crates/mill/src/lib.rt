@@ -1,5 +1,4 @@
 // The C boundary of the library.
-ghost use mathlib.Core.Path.{_≡_};
 ghost use lib.ListN.{length};
 ghost use Rattle.thin.specs.Thin.{thinOf};
 ghost use Rattle.question.specs.Question.{questionOf};
@@ -12,10 +11,7 @@ pub extern "C" fn mill_question(rec: &[u8], text: &[u8], out: &mut [u8]) -> u64
     ensures { λ r. ⌜ Writes (questionOf (now (rec .entry)) (now (text .entry)) (length (now (out .entry)))) (now (out .entry)) r (now (out .exit)) ⌝ }
 {
     let written = question::question(rec, text, out);
-    match written {
-        recording::Written::Bytes(n) => n as u64,
-        recording::Written::Refused(x) => reply::refused(x),
-    }
+    reply::written(written)
 }
 
 // THE DEGREE CALL. Returns 0 where the target is met, 1 where it is missed and its distance and degree are written, 2 where
@@ -49,10 +45,7 @@ pub extern "C" fn mill_thin(rec: &[u8], marks: &[u8], out: &mut [u8]) -> u64
     ensures { λ r. ⌜ Writes (thinOf (now (rec .entry)) (now (marks .entry)) (length (now (out .entry)))) (now (out .entry)) r (now (out .exit)) ⌝ }
 {
     let written = thin::thin(rec, marks, out);
-    match written {
-        recording::Written::Bytes(n) => n as u64,
-        recording::Written::Refused(x) => reply::refused(x),
-    }
+    reply::written(written)
 }
 
 // THE PAIR CALL. Returns 1 where the times of a pair are written, 0 where there is none, or the refusal.
