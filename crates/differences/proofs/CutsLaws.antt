@@ -15,7 +15,8 @@ use Rattle.runset.specs.Runs.{startsAt, runCount, mostRuns}
 use Rattle.meaning.specs.BoolLaws.{clash, and-make}
 use Rattle.meaning.specs.RunLaws.{starts, run-count, runs-ext}
 use Rattle.differences.specs.declared.Cuts.{Cuts}
-use Rattle.differences.specs.Cuts.{xor, inside, Ascending, Collects}
+use Rattle.runset.specs.Set.{xor, inside, Ascending}
+use Rattle.differences.specs.Cuts.{Collects}
 use Rattle.differences.specs.Search.{Least, Past, from}
 
 -- ---- counting runs

@@ -14,7 +14,7 @@ use Rattle.meaning.specs.Recorded.{InTime, Increasing, Recorded}
 use Rattle.meaning.specs.Coded.{Coded, code, timesOf, topTimes, crossingTimes}
 use Rattle.meaning.specs.Truth.{truth}
 use Rattle.differences.specs.Times.{Times, lagsOf, gapsOf, stepsOf, momentsOf}
-use Rattle.differences.specs.Cuts.{Ascending}
+use Rattle.runset.specs.Set.{Ascending}
 
 -- the last time
 abbrev hi : ℕ

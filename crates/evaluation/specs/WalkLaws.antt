@@ -17,26 +17,11 @@ use Rattle.text.specs.Size.{temporal}
 use Rattle.text.specs.Table.{treeAt}
 use Rattle.meaning.specs.Coded.{Coded}
 use Rattle.meaning.specs.Truth.{val, largeAt, overAt, someNode, someBelow, refused8, lastCoded}
-use Rattle.meaning.specs.Overfull.{temporal as writesTemporal}
 use Rattle.meaning.specs.Coded.{coded}
 use Rattle.evaluation.specs.Slots.{slot, Sized}
 use Rattle.evaluation.specs.Evaluate.{Under, here, Right, Ready, Fit, Evaluated, Large, Outcome}
 use Rattle.evaluation.specs.Evaluation.{textOf, Asking, Evaluates}
 use Rattle.evaluation.specs.NodeLaws.{some-under, none-under}
-
--- the two definitions are one
-same-temporal : (p : Text) → writesTemporal p ≡ temporal p
-unfolding writesTemporal
-same-temporal (atom k) = refl
-same-temporal (listed q) = refl
-same-temporal (or p q) = let e = same-temporal p in let f = same-temporal q in cc
-same-temporal (and p q) = let e = same-temporal p in let f = same-temporal q in cc
-same-temporal (neg p) = same-temporal p
-same-temporal (finally p) = refl
-same-temporal (globally p) = refl
-same-temporal (next p) = refl
-same-temporal (until p q) = refl
-same-temporal (weakUntil p q) = refl
 
 below-some : (f : ℕ → Bool) (n i : ℕ) → i < n → f i ≡ true → someBelow f n ≡ true
 below-some f zero i h e = absurd (omega arith)
@@ -111,7 +96,7 @@ module _ (table : List ℕ) (count : ℕ) (rec : List ℕ) (asking : Asking tabl
     flat-eight : refused8 (coded rec) (textOf table count) ≡ overAt (coded rec) (textOf table count) 0
     unfolding refused8
     flat-eight =
-        ap (λ (b : Bool). cond b (someBelow (overAt (coded rec) (textOf table count)) (length (coded rec))) (overAt (coded rec) (textOf table count) 0)) (same-temporal (textOf table count) ∙ flat)
+        ap (λ (b : Bool). cond b (someBelow (overAt (coded rec) (textOf table count)) (length (coded rec))) (overAt (coded rec) (textOf table count) 0)) flat
 
     pub flat-fit : (later cur : List ℕ) → Sized later → Sized cur → Fit table count (coded rec) 0 (count - 1) later cur
     unfolding Ready
@@ -145,7 +130,7 @@ module _ (table : List ℕ) (count : ℕ) (rec : List ℕ) (asking : Asking tabl
   eight-deep : temporal (textOf table count) ≡ true → refused8 (coded rec) (textOf table count) ≡ someBelow (overAt (coded rec) (textOf table count)) (length (coded rec))
   unfolding refused8
   eight-deep deep =
-      ap (λ (b : Bool). cond b (someBelow (overAt (coded rec) (textOf table count)) (length (coded rec))) (overAt (coded rec) (textOf table count) 0)) (same-temporal (textOf table count) ∙ deep)
+      ap (λ (b : Bool). cond b (someBelow (overAt (coded rec) (textOf table count)) (length (coded rec))) (overAt (coded rec) (textOf table count) 0)) deep
 
   pub walk-start : (n : ℕ) (a b : List ℕ) → n ≡ length (coded rec) → Sized a → Sized b → Walked table count rec n a b false
   walk-start n a b e sa sb =

@@ -27,8 +27,8 @@ use Rattle.text.specs.Syntax.{Listed, lowafter, peaks, Text, listed}
 use Rattle.text.specs.Lexer.{unsignedAt, numberAt, operandAt, comparisonAt, timedAt, argumentsAt, namedAt, headedAt, leafAt}
 use Rattle.text.specs.Parse.{parse, reading}
 use Rattle.text.specs.Told.{textLines}
-use Rattle.meaning.specs.Overfull.{Node, itself, below, temporal}
-use Rattle.meaning.specs.Alike.{markIndex, afterTimes, Plain}
+use Rattle.text.specs.Size.{afterTime}
+use Rattle.meaning.specs.Alike.{markIndex, Plain}
 use Rattle.meaning.specs.Coded.{coded, codedValue, codedAfter}
 use Rattle.meaning.specs.Truth.{truth, val, someNode, refused8, refused9}
 use Rattle.meaning.specs.ExtremeLaws.{Least, least-some}
@@ -40,17 +40,9 @@ use Rattle.kept_as_full.specs.KeptAsFull.{Askable}
 use Rattle.kept_as_full.specs.Lasting.{Lasting}
 use Rattle.kept_as_full.specs.LastingLaws.{lasting}
 
--- a listed question asked alone has one node
-alone : (q l : Listed) → Node (listed q) (listed l) → q ≡ l
-alone q l itself = refl
-alone q l (below m n) = absurd (List·Memᴰ·not-nil m)
-
-listed-plain : (marks : List ℕ) (l : Listed) → ((k : ℕ) → List·Memᴰ k (afterTimes l) → List·Memᴰ k (map markIndex marks)) → Plain marks (listed l)
-unfolding temporal
-listed-plain marks l h = record {
-  flat = refl;
-  marked = λ q n k m. h k (subst (λ (l : Listed). List·Memᴰ k (afterTimes l)) (alone q l n) m);
-}
+-- a listed question asked alone
+listed-plain : (marks : List ℕ) (l : Listed) → ((k : ℕ) → List·Memᴰ k (afterTime l) → List·Memᴰ k (map markIndex marks)) → Plain marks (listed l)
+listed-plain marks l h = record { flat = refl; marked = h }
 
 -- R1, cut in three pieces and thinned, lasts
 pub R1-lasts : Lasting mark40 cuts
@@ -122,7 +114,7 @@ unfolding refused9 someNode
 not-nine = refl
 
 not-eight : refused8 (coded R1) (listed (lowafter A 2000000040)) ≡ false
-unfolding refused8 someNode temporal
+unfolding refused8 someNode
 not-eight = le-ltb mostRuns (runCount after-40) (omega (arith, cuts-count after-40 (2000000045 ∷ 4000000001 ∷ []) one-run members))
 
 R1-answer : (room : ℕ) → 8 ≤ room → questionOf R1 (bytes "lowafter(A,40)") room ≡ result written

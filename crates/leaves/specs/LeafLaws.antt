@@ -11,7 +11,7 @@ use Rattle.text.specs.Syntax.{Text, listed, lag, gaps, steps}
 use Rattle.text.specs.Table.{leaves}
 use Rattle.text.specs.declared.Row.{Row}
 use Rattle.meaning.specs.Coded.{Coded, topTimes}
-use Rattle.meaning.specs.Overfull.{mostTops}
+use Rattle.tops.specs.Tops.{mostTops}
 use Rattle.meaning.specs.Truth.{refused9, someNode, manyTops}
 use Rattle.meaning.specs.BoolLaws.{off, or-left, or-right}
 use Rattle.leaves.specs.Leaf.{leafOf}

@@ -6,7 +6,6 @@ use mathlib.Core.Path.{_≡_, refl, sym, ap, _∙_}
 use mathlib.Core.Bool.{Bool, true, false, true≢false}
 use mathlib.Core.Logic.{⊎-elim}
 use mathlib.Core.List.{List, [], _∷_, _++_, map}
-use lib.Dec.{leb}
 use lib.ListN.{length, getD, take, drop, length-map, length-append, length-drop, length-set}
 use lib.ListN as list
 use lib.Seq.{take-all, ext-getD, getD-take, length-take-le, getD-set-same, getD-set-other}
@@ -20,7 +19,7 @@ use Rattle.tops.specs.Tops as raw
 use Rattle.tops.specs.Scan.{Scanned}
 use Rattle.tops.specs.ScanLaws.{scanned-at}
 use Rattle.tops.specs.TopLaws.{tops-half, crossings-half}
-use Rattle.runset.specs.Set as set
+use Rattle.runset.specs.Set.{inside}
 use Rattle.runset.specs.Lent.{Lent, Fills}
 use Rattle.runset.specs.LentLaws.{fills-ext}
 use Rattle.runset.specs.declared.merge.Filled.{Filled}
@@ -30,7 +29,7 @@ use Rattle.meaning.specs.PickLaws.{map-map}
 use Rattle.meaning.specs.ListedLaws.{all-settled, tops-code, crossings-code}
 use Rattle.differences.specs.Times.{Times}
 use Rattle.differences.specs.TimesLaws.{picked-times}
-use Rattle.differences.specs.Cuts.{cutsOf, inside, Ascending, Collects}
+use Rattle.differences.specs.Cuts.{cutsOf, Collects}
 use Rattle.differences.specs.declared.Cuts.{Cuts}
 use Rattle.meaning.specs.Coded.{coded}
 use Rattle.leaves.specs.CodingLaws.{length-readings}
@@ -136,22 +135,13 @@ module _ (rec : List ℕ) (a : Accepted rec) where
 
 -- ---- cuts
 
-inside-same : (l : List ℕ) (v : ℕ) → set.inside l v ≡ inside l v
-unfolding set.inside inside
-inside-same [] v = refl
-inside-same (x ∷ l) v = ap (set.xor (leb x v)) (inside-same l v)
-
-ascending-same : (low high : ℕ) (l : List ℕ) → Ascending low high l → set.Ascending low high l
-ascending-same low high [] a = tt
-ascending-same low high (x ∷ l) a = (a .0, a .1, ascending-same (x + 1) high l (a .2))
-
 module _ (f : ℕ → Bool) (s : Cuts) (c : Collects f s) where
   pub cuts-there : s .n ≤ length (s .cuts)
   cuts-there = omega (arith, c .few, c .size)
 
   pub cuts-lent : Lent (cutsOf s)
   cuts-lent = record {
-    canonical = record { ascending = ascending-same 0 axis (cutsOf s) (c .ascending); ended = inside-same (cutsOf s) axis ∙ c .ended };
+    canonical = record { ascending = c .ascending; ended = c .ended };
     few = omega (arith, c .few, length-take-le (s .n) (s .cuts) cuts-there);
   }
 
@@ -162,5 +152,5 @@ module _ (f : ℕ → Bool) (s : Cuts) (c : Collects f s) where
     cuts = λ z. absurd (true≢false (sym e ∙ z));
   }
 
-  pub cuts-fill : (out : List ℕ) (r : Filled) → s .over ≡ false → Fills (set.inside (cutsOf s)) out r → Fills f out r
-  cuts-fill out r o = fills-ext (set.inside (cutsOf s)) f out r (λ v h. inside-same (cutsOf s) v ∙ c .members o v h)
+  pub cuts-fill : (out : List ℕ) (r : Filled) → s .over ≡ false → Fills (inside (cutsOf s)) out r → Fills f out r
+  cuts-fill out r o = fills-ext (inside (cutsOf s)) f out r (λ v h. c .members o v h)

@@ -5,7 +5,7 @@ ghost use Rattle.recording.specs.Recording.{Accepted};
 ghost use Rattle.tops.specs.Tops.{curveOf};
 ghost use Rattle.text.specs.Syntax as asks;
 ghost use Rattle.meaning.specs.Coded.{topTimes, crossingTimes};
-ghost use Rattle.meaning.specs.Overfull.{mostTops};
+ghost use Rattle.tops.specs.Tops.{mostTops};
 ghost use Rattle.meaning.specs.Truth.{truth};
 ghost use Rattle.differences.specs.Cuts.{Collects};
 ghost use Rattle.meaning.specs.Coded.{coded};

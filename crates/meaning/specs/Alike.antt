@@ -3,38 +3,26 @@ use Prim.Native.Nat.{ℕ, _+_}
 use mathlib.Core.Path.{_≡_}
 use mathlib.Core.Bool.{false}
 use mathlib.Core.Logic.{_↔_}
-use mathlib.Core.List.{List, [], _∷_, map, List·Memᴰ}
+use mathlib.Core.List.{List, map, List·Memᴰ}
 use lib.IntN.{ℤ}
 use lib.Signed.{_≤ℤ_, _<ℤ_}
 use Rattle.number.specs.Axis.{origin}
 use Rattle.recording.specs.Condition.{Condition, pick}
 use Rattle.recording.specs.Reading.{Reading, Curve, value, top, crossing}
-use Rattle.text.specs.Syntax.{Listed, high, low, lowafter, capafter, peaks, cross, ampl, gaps, steps, lag, Text, listed}
+use Rattle.text.specs.Syntax.{Text}
 use Rattle.meaning.specs.Listed.{SomeRecord, After}
 use Rattle.meaning.specs.Meaning.{readingAt, Holds}
-use Rattle.meaning.specs.Overfull.{Node, temporal, Overfull, TooManyTops}
+use Rattle.meaning.specs.Overfull.{Overfull, TooManyTops}
+use Rattle.text.specs.Size.{temporal, afterTimes}
 
 -- the index of a mark on the axis
 abbrev pub markIndex : ℕ → ℕ
 markIndex m = m + origin
 
--- the after-times of a question
-abbrev pub afterTimes : Listed → List ℕ
-afterTimes (lowafter c k) = k ∷ []
-afterTimes (capafter c k) = k ∷ []
-afterTimes (high c) = []
-afterTimes (low c) = []
-afterTimes (peaks c) = []
-afterTimes cross = []
-afterTimes (ampl c) = []
-afterTimes (gaps c) = []
-afterTimes (steps c) = []
-afterTimes lag = []
-
 -- a text without F, G, X, U, W, whose after-times are among the marks
 pub record Plain (marks : List ℕ) (p : Text) : Type 0 where
   pub flat : temporal p ≡ false
-  pub marked : (q : Listed) → Node (listed q) p → (k : ℕ) → List·Memᴰ k (afterTimes q) → List·Memᴰ k (map markIndex marks)
+  pub marked : (k : ℕ) → List·Memᴰ k (afterTimes p) → List·Memᴰ k (map markIndex marks)
 
 -- the times of the records of which the condition holds
 abbrev pub times : Condition Reading → List Reading → List ℕ

@@ -4,7 +4,7 @@ use native.Mathlib.Omega.{arith}
 use mathlib.Core.Path.{_≡_, refl, sym, ap, _∙_, subst}
 use mathlib.Core.Bool.{Bool, true, false, _&&_, _||_, So, false≢true, true≢false}
 use mathlib.Core.Logic.{⊎-elim, _↔_}
-use mathlib.Core.List.{List, [], _∷_, map, List·Memᴰ, List·Memᴰ·head, List·Memᴰ·tail, List·Memᴰ·not-nil, List·Memᴰ·cases-cons, List·Memᴰ·eq-of-singleton}
+use mathlib.Core.List.{List, [], _∷_, _++_, map, Memᴰ·append-left, Memᴰ·append-right, List·Memᴰ, List·Memᴰ·head, List·Memᴰ·tail, List·Memᴰ·not-nil, List·Memᴰ·cases-cons, List·Memᴰ·eq-of-singleton}
 use lib.Dec.{ltb, not-T}
 use lib.ListN.{length, length-map}
 use lib.IntN.{ℤ, pos, _+ℤ_, _-ℤ_, ℤ-discrete}
@@ -16,8 +16,9 @@ use Rattle.recording.specs.Reading.{Reading, Curve, A, B, value, top, crossing,
 use Rattle.text.specs.Syntax.{Listed, high, low, lowafter, capafter, peaks, cross, ampl, gaps, steps, lag, Text, atom, listed, or, and, neg, finally, globally, next, until, weakUntil}
 use Rattle.meaning.specs.Listed.{recordAt, SomeRecord, EachRecord, Meets, timeOf, After, between, Says}
 use Rattle.meaning.specs.Meaning.{readingAt, AtomSays, Holds}
-use Rattle.meaning.specs.Overfull.{children, Node, itself, below, temporal, Overfull, TooManyTops}
-use Rattle.meaning.specs.Alike.{markIndex, afterTimes, Plain, times, Alike, Same}
+use Rattle.meaning.specs.Overfull.{children, Node, itself, below, Overfull, TooManyTops}
+use Rattle.text.specs.Size.{temporal, afterTime, afterTimes}
+use Rattle.meaning.specs.Alike.{markIndex, Plain, times, Alike, Same}
 use Rattle.meaning.specs.Truth.{someOf, somePair, someStep}
 use Rattle.meaning.specs.BoolLaws.{then, back, either, both, so-and, none-left, or-right, off}
 use Rattle.meaning.specs.WholeLaws.{le-test, lt-test, lt-index, stands-whole}
@@ -96,7 +97,7 @@ module _ {marks : List ℕ} {r s : List Reading} (l : Alike marks r s) where
   capped k c z r s found cap i h a = ltZ-no (not-T (ltZ z (value c (recordAt s i))) (λ t.
       let f = found (i, h, (a, record { lt = t })) in clashℤ (f .2 .1) (cap (f .0) (f .1) (f .2 .0))))
 
-  says-alike : (q : Listed) → ((k : ℕ) → List·Memᴰ k (afterTimes q) → List·Memᴰ k (map markIndex marks)) → (z : ℤ) → Says q r z ↔ Says q s z
+  says-alike : (q : Listed) → ((k : ℕ) → List·Memᴰ k (afterTime q) → List·Memᴰ k (map markIndex marks)) → (z : ℤ) → Says q r z ↔ Says q s z
   unfolding Says
   says-alike (high c) m z = l .up c z
   says-alike (low c) m z = l .down c z
@@ -128,7 +129,6 @@ two-flat p q c m h = ⊎-elim (λ e. ap temporal e ∙ none-left (temporal p) (t
     (λ m. ap temporal (List·Memᴰ·eq-of-singleton m) ∙ off (or-right (temporal p) (temporal q)) h) (List·Memᴰ·cases-cons m)
 
 child-flat : (p c : Text) → List·Memᴰ c (children p) → temporal p ≡ false → temporal c ≡ false
-unfolding temporal
 child-flat (atom k) c m h = absurd (List·Memᴰ·not-nil m)
 child-flat (listed q) c m h = absurd (List·Memᴰ·not-nil m)
 child-flat (or p q) c m h = two-flat p q c m h
@@ -140,10 +140,29 @@ child-flat (next p) c m h = absurd (true≢false h)
 child-flat (until p q) c m h = absurd (true≢false h)
 child-flat (weakUntil p q) c m h = absurd (true≢false h)
 
+two-marked : (p q c : Text) → List·Memᴰ c (p ∷ q ∷ []) → (k : ℕ) → List·Memᴰ k (afterTimes c) → List·Memᴰ k (afterTimes p ++ afterTimes q)
+two-marked p q c m k n = ⊎-elim (λ e. Memᴰ·append-left (afterTimes q) (subst (λ (t : Text). List·Memᴰ k (afterTimes t)) e n))
+    (λ m. Memᴰ·append-right (afterTimes p) (subst (λ (t : Text). List·Memᴰ k (afterTimes t)) (List·Memᴰ·eq-of-singleton m) n)) (List·Memᴰ·cases-cons m)
+
+one-marked : (p c : Text) → List·Memᴰ c (p ∷ []) → (k : ℕ) → List·Memᴰ k (afterTimes c) → List·Memᴰ k (afterTimes p)
+one-marked p c m k n = subst (λ (t : Text). List·Memᴰ k (afterTimes t)) (List·Memᴰ·eq-of-singleton m) n
+
+child-marked : (p c : Text) → List·Memᴰ c (children p) → (k : ℕ) → List·Memᴰ k (afterTimes c) → List·Memᴰ k (afterTimes p)
+child-marked (atom a) c m k n = absurd (List·Memᴰ·not-nil m)
+child-marked (listed q) c m k n = absurd (List·Memᴰ·not-nil m)
+child-marked (or p q) c m k n = two-marked p q c m k n
+child-marked (and p q) c m k n = two-marked p q c m k n
+child-marked (neg p) c m k n = one-marked p c m k n
+child-marked (finally p) c m k n = one-marked p c m k n
+child-marked (globally p) c m k n = one-marked p c m k n
+child-marked (next p) c m k n = one-marked p c m k n
+child-marked (until p q) c m k n = two-marked p q c m k n
+child-marked (weakUntil p q) c m k n = two-marked p q c m k n
+
 plain-child : {marks : List ℕ} {p c : Text} → List·Memᴰ c (children p) → Plain marks p → Plain marks c
 plain-child {marks} {p} {c} m h = record {
   flat = child-flat p c m (h .flat);
-  marked = λ q n. h .marked q (below m n);
+  marked = λ k n. h .marked k (child-marked p c m k n);
 }
 
 plain-node : {marks : List ℕ} {q p : Text} → Node q p → Plain marks p → Plain marks q
@@ -154,9 +173,9 @@ plain-node (below m n) h = plain-node n (plain-child m h)
 
 module _ {marks : List ℕ} {r s : List Reading} (l : Alike marks r s) where
   holds-alike : (p : Text) → Plain marks p → (z : ℤ) → Holds r z p 0 ↔ Holds s z p 0
-  unfolding Holds temporal
+  unfolding Holds
   holds-alike (atom k) h z = (subst (λ (x : Reading). AtomSays k x z) (l .first), subst (λ (x : Reading). AtomSays k x z) (sym (l .first)))
-  holds-alike (listed q) h z = says-alike l q (h .marked q itself) z
+  holds-alike (listed q) h z = says-alike l q (h .marked) z
   holds-alike (or p q) h z =
       either (holds-alike p (plain-child (List·Memᴰ·head refl) h) z) (holds-alike q (plain-child (List·Memᴰ·tail (List·Memᴰ·head refl)) h) z)
   holds-alike (and p q) h z =

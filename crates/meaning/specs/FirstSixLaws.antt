@@ -17,7 +17,8 @@ use Rattle.recording.specs.Condition.{pick, pickFrom, when}
 use Rattle.recording.specs.Reading.{Reading, Curve, edge}
 use Rattle.text.specs.Syntax.{of, T, ge, le, gt, eq, v, number, compare, A-to-B, fall, Listed, Text, atom, listed, or, and, neg, finally, globally, next}
 use Rattle.meaning.specs.Meaning.{Holds}
-use Rattle.meaning.specs.Overfull.{temporal, Overfull}
+use Rattle.meaning.specs.Overfull.{Overfull}
+use Rattle.text.specs.Size.{temporal}
 use Rattle.meaning.specs.Recorded.{Increasing, Recorded}
 use Rattle.meaning.specs.FirstSix.{Formula, of-high, of-low, of-lowafter, of-capafter, of-peaks, of-cross}
 use Rattle.meaning.specs.Coded.{Coded, code, blank, codedValue, codedFalls, codedCrossed, codedAfter}
@@ -399,7 +400,7 @@ root-few-all G p h = none-left _ _ h
 
 -- REFUSAL 8 IS THE SAME
 pub six-eight : {q : Listed} {p : Text} → Formula q p → (x : Coded) (r : List Coded) → Rising (x ∷ r) → refused8 (x ∷ r) p ≡ refused8 (x ∷ r) (listed q)
-unfolding refused8 temporal
+unfolding refused8
 six-eight (of-high {c = c}) x r inc =
     quiet of-high x r (λ i. over-high (x ∷ r) i c) (root-few (λ t. largeAt (x ∷ r) t 0) _ (over-high (x ∷ r) 0 c))
 six-eight (of-low {c = c}) x r inc =

@@ -1,7 +1,7 @@
 -- Document 01, the table of refusals, numbers 8 and 9: when a text is refused on a recording.
 use Prim.Native.Nat.{ℕ, _<_}
 use mathlib.Core.Path.{_≡_}
-use mathlib.Core.Bool.{Bool, true, false, _||_}
+use mathlib.Core.Bool.{Bool, true, false}
 use mathlib.Core.Logic.{_↔_}
 use mathlib.Core.List.{List, [], _∷_, List·Memᴰ}
 use lib.ListN.{length}
@@ -9,6 +9,8 @@ use Rattle.number.specs.Axis.{axis, whole}
 use Rattle.runset.specs.Runs.{runCount, mostRuns}
 use Rattle.recording.specs.Condition.{pick}
 use Rattle.recording.specs.Reading.{Reading, Curve, top}
+use Rattle.tops.specs.Tops.{mostTops}
+use Rattle.text.specs.Size.{temporal}
 use Rattle.text.specs.Syntax.{Listed, gaps, steps, lag, Text, atom, listed, or, and, neg, finally, globally, next, until, weakUntil}
 use Rattle.meaning.specs.Meaning.{Holds}
 
@@ -30,19 +32,6 @@ pub data Node : Text → Text → Type 0 where
   itself : {p : Text} → Node p p
   below : {q p c : Text} → List·Memᴰ c (children p) → Node q c → Node q p
 
--- the text has F, G, X, U or W
-unfoldable pub temporal : Text → Bool
-temporal (atom k) = false
-temporal (listed q) = false
-temporal (or p q) = temporal p || temporal q
-temporal (and p q) = temporal p || temporal q
-temporal (neg p) = temporal p
-temporal (finally p) = true
-temporal (globally p) = true
-temporal (next p) = true
-temporal (until p q) = true
-temporal (weakUntil p q) = true
-
 -- f is the set of p at record i: the numbers of the axis with which p holds there
 abbrev pub IsSet : (ℕ → Bool) → List Reading → Text → ℕ → Type 0
 IsSet f r p i = (n : ℕ) → n < axis → (f n ≡ true) ↔ Holds r (whole n) p i
@@ -63,10 +52,6 @@ pub data Differences : Listed → Curve → Type 0 where
   of-gaps : {c : Curve} → Differences (gaps c) c
   of-steps : {c : Curve} → Differences (steps c) c
   of-lag : {c : Curve} → Differences lag c
-
--- the most tops between which differences are taken
-abbrev pub mostTops : ℕ
-mostTops = 256
 
 -- REFUSAL 9: `gaps`, `steps` or `lag` over a curve with more than 256 tops
 pub record TooManyTops (r : List Reading) (p : Text) : Type 0 where

@@ -14,7 +14,7 @@ use Rattle.text.specs.Syntax.{Text, Listed, listed, gaps, steps, lag}
 use Rattle.text.specs.declared.Row.{Row}
 use Rattle.text.specs.Table.{row, build, rowAt, treeAt, Falling, curveOf}
 use Rattle.meaning.specs.Coded.{Coded, coded, topTimes}
-use Rattle.meaning.specs.Overfull.{mostTops}
+use Rattle.tops.specs.Tops.{mostTops}
 use Rattle.meaning.specs.Truth.{manyTops, asksTooMany, ofListed, refused9, someNode}
 use Rattle.leaves.specs.Leaf.{leafOf}
 use Rattle.leaves.specs.StampLaws.{top-stamps}

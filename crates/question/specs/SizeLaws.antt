@@ -18,7 +18,7 @@ use Rattle.runset.specs.RunsLaws.{setBytes-length}
 use Rattle.text.specs.Syntax.{Text, atom, listed, or, and, neg, finally, globally, next, until, weakUntil}
 use Rattle.text.specs.Told.{textLines}
 use Rattle.meaning.specs.Coded.{Coded, coded}
-use Rattle.meaning.specs.Overfull.{temporal}
+use Rattle.text.specs.Size.{temporal}
 use Rattle.meaning.specs.Truth.{someNode, overAt, someBelow, largeAt, refused8}
 use Rattle.evaluation.specs.EvaluateLaws.{coded-length}
 use Rattle.question.specs.Question.{read, answer, askingLines, setLines, questionOf}

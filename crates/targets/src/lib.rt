@@ -1,5 +1,6 @@
 // Targets: whole numbers that may lie off the axis.
 ghost use Rattle.targets.specs.Target.{Placed};
+use number::ORIGIN;
 
 // Where a whole number stands.
 pub enum OnAxis {
@@ -10,9 +11,9 @@ pub enum OnAxis {
 }
 
 // The ends of the axis.
-const LOWEST: i64 = -2_000_000_000;
+const LOWEST: i64 = -(ORIGIN as i64);
 
-const HIGHEST: i64 = 2_000_000_000;
+const HIGHEST: i64 = ORIGIN as i64;
 
 // The index of a whole number on the axis, or that it is off it.
 pub fn on_axis(target: i64) -> OnAxis

@@ -11,9 +11,9 @@ use crate::words;
 use number::ORIGIN;
 
 // The largest number of the axis, and what stands for any larger one.
-const LARGEST: u64 = 2_000_000_000;
+const LARGEST: u64 = ORIGIN as u64;
 
-const LARGER: u64 = 2_000_000_001;
+const LARGER: u64 = LARGEST + 1;
 
 // The digits in front: what they come to, or 2,000,000,001 where that is more, and where they stop.
 pub struct Digits {

@@ -5,7 +5,7 @@ ghost use lib.ListN.{length};
 ghost use Rattle.text.specs.Table.{row, rowAt};
 ghost use Rattle.text.specs.Classes.{within};
 ghost use Rattle.text.specs.Syntax.{Text};
-ghost use Rattle.text.specs.Size.{temporal, hasListed, mixed};
+ghost use Rattle.text.specs.Size.{temporal, hasListed, mixed, mostBytes};
 ghost use Rattle.text.specs.Rows.{Put, Holds};
 ghost use Rattle.text.specs.TableLaws.{some};
 use crate::Row;
@@ -30,7 +30,7 @@ pub fn put(table: &mut [u32], n: usize, r: Row)
 
 // Writes row n, an operator over the text whose root is the row before.
 pub fn put_unary(table: &mut [u32], n: usize, kind: u32)
-    requires { ⌜ (0 < n) × (n ≤ 256) × (4 * n + 4 ≤ length (now table)) ⌝ }
+    requires { ⌜ (0 < n) × (n ≤ mostBytes) × (4 * n + 4 ≤ length (now table)) ⌝ }
     ensures { λ _. ⌜ Put (now (table .entry)) n (row kind (n - 1) 0 0) (now (table .exit)) ⌝ }
 {
     let child = n - 1;
@@ -48,7 +48,7 @@ pub fn put_unary(table: &mut [u32], n: usize, kind: u32)
 
 // Writes row n, an operator over two texts: that whose root is the row before m, and that whose root is the row before n.
 pub fn put_binary(table: &mut [u32], m: usize, n: usize, kind: u32)
-    requires { ⌜ (0 < m) × (m ≤ n) × (n ≤ 256) × (4 * n + 4 ≤ length (now table)) ⌝ }
+    requires { ⌜ (0 < m) × (m ≤ n) × (n ≤ mostBytes) × (4 * n + 4 ≤ length (now table)) ⌝ }
     ensures { λ _. ⌜ Put (now (table .entry)) n (row kind (m - 1) (n - 1) 0) (now (table .exit)) ⌝ }
 {
     let left = m - 1;

@@ -1,9 +1,6 @@
 // The reader of texts behind the C boundary, for tests from outside.
 ghost use Rattle.text_c.specs.Reads.{Reads};
 
-// The numbers of a table that has room for every text.
-const TABLE_SIZE: usize = 4 * text::MOST_BYTES;
-
 // The number that refuses a table that is too short.
 const SHORT_TABLE: u64 = 255;
 
@@ -12,7 +9,7 @@ const SHORT_TABLE: u64 = 255;
 pub extern "C" fn text_read(s: &[u8], table: &mut [u32]) -> u64
     ensures { λ r. ⌜ Reads (now (s .entry)) (now (table .entry)) r (now (table .exit)) ⌝ }
 {
-    if table.len() < TABLE_SIZE {
+    if table.len() < text::TABLE_SIZE {
         return SHORT_TABLE * reply::HALF;
     }
     let answer = text::read(s, table);

@@ -7,7 +7,7 @@ use Rattle.text.specs.Syntax as asks
 use Rattle.text.specs.Syntax.{Text}
 use Rattle.text.specs.Table.{curveOf}
 use Rattle.meaning.specs.Coded.{topTimes}
-use Rattle.meaning.specs.Overfull.{mostTops}
+use Rattle.tops.specs.Tops.{mostTops}
 use Rattle.meaning.specs.Truth.{val, truth, refused9}
 use Rattle.meaning.specs.Coded.{coded}
 use mathlib.Core.Bool.{false}
