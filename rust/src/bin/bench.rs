@@ -1,9 +1,7 @@
 //! Times of the library beside plain Rust, and their ratio, on 4,096 records. Both must give the same bytes, else it stops.
 //! Each time is the best of many, warm: `cargo run --release --bin bench`.
 
-use mill::{plain, sys, Curve, Reading, Slope};
-#[cfg(feature = "questions")]
-use mill::{reference, Degree};
+use mill::{plain, reference, sys, Curve, Degree, Reading, Slope};
 use std::hint::black_box;
 use std::time::{Duration, Instant};
 
@@ -12,12 +10,9 @@ const RECORDS: usize = 4096;
 fn main() {
     println!("{:<52} {:>14} {:>12} {:>12} {:>7}", "", "outcome", "library us", "plain us", "ratio");
     thinning();
-    #[cfg(feature = "questions")]
-    {
-        listed();
-        temporal();
-        degrees();
-    }
+    listed();
+    temporal();
+    degrees();
     pairs();
 }
 
@@ -32,7 +27,6 @@ fn thinning() {
     }
 }
 
-#[cfg(feature = "questions")]
 fn listed() {
     for tops in [0, 64] {
         question(&format!("peaks(A), {tops} tops"), &with_tops(&evenly(tops, RECORDS), &[]), "peaks(A)");
@@ -46,7 +40,6 @@ fn listed() {
     question("lag, 256 tops whose differences join", &with_tops(&twos, &threes), "lag");
 }
 
-#[cfg(feature = "questions")]
 fn temporal() {
     let readings = with_tops(&evenly(64, RECORDS), &evenly(64, RECORDS));
     let small = "G(A<=v|F(B>=v&X(!fall(A)|T>=v)))&U(A>=v|rise(B),W(B<=v,A<v&T<=v))|X(X(X(F(A>v&G(B<v|T<v)))))";
@@ -62,7 +55,6 @@ fn temporal() {
     question("32 nodes, sets of up to 61 runs", &readings, wide);
 }
 
-#[cfg(feature = "questions")]
 fn degrees() {
     let recording = bytes(&with_tops(&evenly(64, RECORDS), &[]));
     for text in ["high(A)", "peaks(A)", "F(T=v&fall(A))"] {
@@ -90,7 +82,6 @@ fn pairs() {
     }
 }
 
-#[cfg(feature = "questions")]
 fn question(name: &str, readings: &[Reading], text: &str) {
     let (recording, text) = (bytes(readings), text.as_bytes());
     writing(name, |out| mill::question_into(&recording, text, out), |out| plain::question(&recording, text, out));
@@ -132,7 +123,6 @@ fn best<T>(mut call: impl FnMut() -> T) -> f64 {
     best
 }
 
-#[cfg(feature = "questions")]
 fn nodes(text: &str) -> usize {
     reference::text::reading(text.as_bytes()).expect(text).parts().len()
 }
@@ -143,7 +133,6 @@ fn evenly(count: usize, records: usize) -> Vec<usize> {
 }
 
 /// 256 record indices whose differences join into few runs.
-#[cfg(feature = "questions")]
 fn joining() -> Vec<usize> {
     (0..128).map(|i| 1 + 2 * i).chain((0..128).map(|i| 260 + 3 * i)).collect()
 }

@@ -1,8 +1,6 @@
 //! Covers: every recording of up to three records over a small field set with all slopes.
 
-#[cfg(feature = "questions")]
-use crate::calls::question;
-use crate::calls::{pair, thin};
+use crate::calls::{pair, question, thin};
 use crate::support::cases::begin;
 use mill::reference::recording::{bytes, Record};
 
@@ -24,7 +22,6 @@ fn at_times(records: &[Record], times: &[i64]) -> Vec<u8> {
     bytes(&timed)
 }
 
-#[cfg(feature = "questions")]
 const TEXTS: [&str; 9] = [
     "peaks(A)|peaks(B)",
     "cross",
@@ -38,7 +35,6 @@ const TEXTS: [&str; 9] = [
 ];
 
 fn all_calls(recording: &[u8]) {
-    #[cfg(feature = "questions")]
     for text in TEXTS {
         question(recording, text.as_bytes(), 64);
     }

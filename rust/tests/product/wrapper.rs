@@ -2,13 +2,9 @@
 
 use crate::support::recordings::{flat, r1_bytes, with_tops};
 use mill::reference::recording::bytes;
-use mill::{Curve, Pair, Reading, Refusal, Slope};
-#[cfg(feature = "questions")]
-use mill::{Degree, Run};
+use mill::{Curve, Degree, Pair, Reading, Refusal, Run, Slope};
 
-#[cfg(feature = "questions")]
 const LOW: i32 = -2_000_000_000;
-#[cfg(feature = "questions")]
 const HIGH: i32 = 2_000_000_000;
 
 fn r1() -> Vec<u8> {
@@ -37,7 +33,6 @@ fn r1_lines() {
     assert_eq!(mill::pair(&recording, Curve::B, 40), Ok(None));
 }
 
-#[cfg(feature = "questions")]
 #[test]
 fn r1_answers() {
     let recording = r1();
@@ -88,7 +83,6 @@ fn every_refusal() {
     assert_eq!(found[7].1, Refusal::ShortOutput);
 }
 
-#[cfg(feature = "questions")]
 #[test]
 fn every_refusal_of_questions() {
     let recording = r1();
@@ -120,12 +114,9 @@ fn every_refusal_of_questions() {
 
 #[test]
 fn outputs_stay_behind_the_result() {
-    #[cfg(feature = "questions")]
-    {
-        let mut out = [7; 40];
-        assert_eq!(mill::question_into(&r1(), b"peaks(A)", &mut out), Ok(16));
-        assert_eq!(out[16..], [7; 24]);
-    }
+    let mut out = [7; 40];
+    assert_eq!(mill::question_into(&r1(), b"peaks(A)", &mut out), Ok(16));
+    assert_eq!(out[16..], [7; 24]);
     let mut out = [7; 130];
     assert_eq!(mill::thin_into(&r1(), &[], &mut out), Ok(96));
     assert_eq!(out[96..], [7; 34]);
