@@ -1,7 +1,8 @@
 //! Covers: the C boundary itself: null with length 0, inputs that overlap, lengths past 32 bits, and that the guards hold.
 
 use crate::guarded::{Against, Guarded};
-use crate::support::recordings::{flat, r1_bytes};
+use crate::support::r1::r1_bytes;
+use crate::support::recordings::flat;
 use mill::reference::recording::bytes;
 use mill::sys::{mill_degree, mill_pair, mill_question, mill_thin};
 use std::ptr::{null, null_mut};

@@ -3,7 +3,8 @@
 
 use crate::calls::{degree, pair, question, thin, Tally};
 use crate::support::cases::{begin, cases};
-use crate::support::recordings::{self, damaged, r1_bytes};
+use crate::support::r1::r1_bytes;
+use crate::support::recordings::{self, damaged};
 use mill::reference::recording::{bytes, Record};
 
 /// All calls; the number of the pair call's outcome.

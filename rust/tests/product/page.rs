@@ -7,7 +7,7 @@
 //! `distance d, degree g` or `no value`. Blank lines, and lines that begin with `#`, say nothing. A block ```` ```ask ````
 //! holds lines `$ echo 'text' | ask`, each with what the program prints below it. Other fenced blocks are not looked at.
 
-use crate::support::recordings::r1_bytes;
+use crate::support::r1::{self, r1_bytes};
 use mill::{Degree, Refusal, Run};
 
 /// How an example is asked, and its answer written.
@@ -169,6 +169,10 @@ fn the_page_answers_as_the_library() {
         "U(",
         "W(",
     ];
+    let has = |wanted: &str| examples.iter().any(|example| matches!(example.asked, Asked::OfR1) && example.text == wanted);
+    for (text, _) in r1::ANSWERS {
+        assert!(has(text), "{path} has no example {text}");
+    }
     for name in names {
         assert!(examples.iter().any(|example| example.text.contains(name)), "{path} has no example with {name}");
     }

@@ -3,6 +3,7 @@
 
 use crate::calls::{pair, Tally};
 use crate::support::cases::{cases, one_alone};
+use crate::support::r1::r1_bytes;
 use crate::support::recordings::{self, with_many_tops};
 use crate::support::texts::target;
 use mill::reference::recording::{bytes, top_times};
@@ -44,7 +45,7 @@ fn every_gap_of_small_recordings() {
 
 #[test]
 fn every_kind_of_curve_number() {
-    let recording = recordings::r1_bytes();
+    let recording = r1_bytes();
     for bit in 0..32 {
         let curve = 1u32 << bit;
         assert_eq!(pair(&recording, curve, 40), if curve == 1 { 0 } else { 12 });
