@@ -112,6 +112,8 @@ fn thirty_two_nodes_and_thirty_three() {
     assert_eq!(runs(&r1, &nots(30)), [(40, 40)]);
     assert_eq!(runs(&r1, &nots(31)), [(LOW, 39), (41, HIGH)]);
     assert_eq!(refused(&r1, &nots(32)), 7);
+    assert_eq!(degree(&r1, nots(31).as_bytes(), 40), 0);
+    assert_eq!(degree(&r1, nots(32).as_bytes(), 40), 7);
     assert_eq!(refused(&r1, &nots(253)), 7);
     assert_eq!(refused(&r1, &nots(254)), 5);
     for sign in ["|", "&"] {
@@ -191,6 +193,13 @@ fn only_nodes_count_and_not_what_is_inside_until() {
     assert_eq!(runs(&recording, &format!("U({late}|T>0,T=0|{early})")), [(LOW, HIGH)]);
     assert_eq!(runs(&recording, &format!("W({late}&T=0|T>0&T<=64,T=0|{early})")), [(LOW, HIGH)]);
     assert_eq!(refused(&recording, &format!("W({late}&T=0|T>0&T<=64,{early})")), 8);
+    // With 5..400 at the first record it swallows some: 48 runs are left of 127.
+    values[0] = [5, 400];
+    let recording = with_values(&values);
+    let left: Vec<(i64, i64)> = (81..=127).map(|k| (5 * k, 5 * k + 1)).collect();
+    let some = format!("U({late}|T>0,T=0&A<=v&B>=v|{early})");
+    assert_eq!(runs(&recording, &some), [&[(5, 401)], &left[..]].concat());
+    assert_eq!(degree(&recording, some.as_bytes(), 403), 0);
 }
 
 #[test]

@@ -1,6 +1,6 @@
 //! Covers: every recording of up to three records over a small field set with all slopes.
 
-use crate::calls::{pair, question, thin};
+use crate::calls::{degree, pair, question, thin};
 use crate::support::cases::begin;
 use mill::reference::recording::{bytes, Record};
 
@@ -38,6 +38,8 @@ fn all_calls(recording: &[u8]) {
     for text in TEXTS {
         question(recording, text.as_bytes(), 64);
     }
+    degree(recording, b"peaks(A)|A=v", 2);
+    degree(recording, b"U(A>=v,B=v)", -1);
     for marks in [&[][..], &[0, 0, 0, 0], &[1, 0, 0, 0, 0, 0, 0, 0]] {
         thin(recording, marks, recording.len());
     }
