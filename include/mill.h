@@ -1,11 +1,12 @@
 /*
-** mill.h: recordings of bead mills, their thinning, and pairs of tops.
+** mill.h: questions about recordings of bead mills, and their thinning.
 **
-** Two calls on plain bytes. Each answers with its result or with one numbered
+** Four calls on plain bytes. Each answers with its result or with one numbered
 ** refusal, for every input that can be handed in; a caller needs to test
 ** nothing first. A call reads only the bytes that it is given, keeps nothing
 ** from one call to the next, takes no memory from the heap, and may run in any
-** number of threads at once. Link with libmill.a; no other library is needed.
+** number of threads at once. Link with libmill.a, which needs memcpy and memset
+** of the C library and no other library.
 **
 **
 ** RECORDING. Readings of MILL_RECORD_BYTES bytes each, no header, all numbers
@@ -19,7 +20,30 @@
 **   offset 14   two bytes, zero
 **
 ** A top of a curve is a record after the first whose slope falls while the
-** record before does not fall.
+** record before does not fall. A crossing is a record with A <= B after one
+** with A > B.
+**
+**
+** TEXT. A question in 1 to MILL_MAX_TEXT bytes, without blanks and without a
+** zero at the end. docs/QUESTIONS.md explains it with examples. Loosest first:
+**
+**   p|q  p&q  !p  (p)       or, and, not, brackets
+**   F(p) G(p) X(p)          at some record from here on, at all, at the next
+**   U(p,q) W(p,q)           p until q comes; W: or p for ever
+**   A>=v  B<7  T=v  A>B     A, B or T; >= <= > < =; v or a number; A also with B
+**   fall(c) rise(c)         the slope of c, which is A or B
+**   high(c) low(c) lowafter(c,k) capafter(c,k) peaks(c) cross
+**   ampl(c) gaps(c) steps(c) lag
+**
+** The text is judged at the first record, and the last record repeats for ever.
+** A name of the last two lines does not go with F, G, X, U or W.
+**
+**
+** SET. The answer to a question is the set of all whole numbers v, from
+** MILL_AXIS_LOW to MILL_AXIS_HIGH, that make the text true. It goes out as its
+** maximal runs, ascending: MILL_RUN_BYTES bytes a run, low and then high, both
+** included, each signed 32 bits, little-endian. MILL_SET_BYTES bytes are room
+** for every set; the empty set needs none.
 **
 **
 ** RETURN VALUES. The high 32 bits are the number of the refusal, 0 for a
@@ -27,22 +51,23 @@
 ** index of the record, from 0, for MILL_BAD_RECORD, else 0.
 **
 **
-** MEMORY. A call writes its result and nothing else. With a refusal, and where
-** there is no pair (MILL_NO_PAIR), all of the caller's memory stays as it was.
-** On success the output bytes behind the result stay as they were.
+** MEMORY. A call writes its result and nothing else. With a refusal, with
+** MILL_MET, MILL_NO_VALUE and MILL_NO_PAIR, all of the caller's memory stays as
+** it was. On success the output bytes behind the result stay as they were.
 **
 ** A pointer must point to as many bytes as the length that follows it says.
-** Bytes need no alignment; uint32_t is aligned as C has it.
-** Inputs (recording, marks) may overlap each other in any way. An output
-** must not overlap an input nor another output; where one does, nothing is
-** promised.
+** Bytes need no alignment; uint32_t and double are aligned as C has them.
+** Inputs (recording, text, marks) may overlap each other in any way. An output
+** (out, distance, degree, earlier, later) must not overlap an input nor another
+** output; where one does, nothing is promised.
 **
 ** A null pointer with length 0 serves as an empty input or an empty output.
-** This is tested, and it is not part of what is proved. earlier and later are
-** never null.
+** This is tested, and it is not part of what is proved. distance, degree,
+** earlier and later are never null.
 **
 ** Results, refusals and what is written are proved of the source of the calls.
-** That these declarations fit the archive is tested.
+** That these declarations fit the archive, and the stack that a call needs, are
+** tested.
 */
 #ifndef MILL_H
 #define MILL_H
@@ -54,22 +79,38 @@
 extern "C" {
 #endif
 
-/* The axis: the targets. */
+/* The axis: the numbers of sets, the numbers in texts, the targets. */
 #define MILL_AXIS_LOW (-2000000000)
 #define MILL_AXIS_HIGH 2000000000
 
 /* Sizes, in bytes. */
 #define MILL_RECORD_BYTES 16
+#define MILL_RUN_BYTES 8
 #define MILL_MARK_BYTES 4
+#define MILL_SET_BYTES 512 /* MILL_MAX_RUNS runs: always room enough */
 
 /* Limits. */
 #define MILL_MAX_RECORDS 4096        /* records of a recording */
 #define MILL_MAX_TIME 2000000000     /* a record's time */
 #define MILL_MIN_VALUE (-1000000000) /* a record's A and B */
 #define MILL_MAX_VALUE 1000000000    /* the same */
-#define MILL_MAX_TOPS 256            /* tops of a curve, for mill_pair */
+#define MILL_MAX_TEXT 256            /* bytes of a text */
+#define MILL_MAX_NODES 32            /* atoms, listed names and operators of a text */
+#define MILL_MAX_BRACKETS 16         /* brackets open at one byte of a text, every '(' counted */
+#define MILL_MAX_RUNS 64             /* runs of a node's set */
+#define MILL_MAX_TOPS 256            /* tops of a curve, for gaps, steps, lag and mill_pair */
 #define MILL_MAX_MARKS 8             /* marks of a thinning */
 #define MILL_MAX_MARK 2000000000     /* a mark */
+
+/*
+** Bytes of stack with which each call does. Measured on x86-64 with the deepest
+** inputs known, and rounded up: 104,047 for questions and degrees (256 open
+** brackets), 1,175 for pairs, 8,311 for thinning. No proof bounds the stack.
+*/
+#define MILL_STACK_QUESTION 131072
+#define MILL_STACK_DEGREE 131072
+#define MILL_STACK_PAIR 4096
+#define MILL_STACK_THIN 16384
 
 /* Slopes of a record. */
 #define MILL_FALLING 0
@@ -86,20 +127,59 @@ extern "C" {
 
 /*
 ** The numbers of the refusals. Where several are due, the first in the order
-** that the call names is given. 5 to 8 are of questions: neither call gives them.
+** that the call names is given.
 */
 #define MILL_PARTIAL_RECORD 1   /* the recording is not a multiple of 16 bytes */
 #define MILL_TOO_MANY_RECORDS 2 /* it has over MILL_MAX_RECORDS records */
 #define MILL_BAD_RECORD 3       /* a record breaks its rules; the place says which is the first */
 #define MILL_NO_RECORD 4        /* it has no record (no refusal for mill_thin) */
-#define MILL_TEXT_LENGTH 5      /* the text is empty or over 256 bytes */
+#define MILL_TEXT_LENGTH 5      /* the text is empty or over MILL_MAX_TEXT bytes */
 #define MILL_NO_READING 6       /* the text has no reading */
-#define MILL_TEXT_TOO_LARGE 7   /* it has over 32 nodes or 16 open brackets */
-#define MILL_TOO_MANY_RUNS 8    /* some node's set has over 64 runs */
-#define MILL_TOO_MANY_TOPS 9    /* mill_pair of a curve with over MILL_MAX_TOPS tops */
+#define MILL_TEXT_TOO_LARGE 7   /* it has over MILL_MAX_NODES nodes or over MILL_MAX_BRACKETS open brackets */
+#define MILL_TOO_MANY_RUNS 8    /* some node's set at some record has over MILL_MAX_RUNS runs; without F, G, X, U, W: at the first */
+#define MILL_TOO_MANY_TOPS 9    /* gaps, steps, lag or mill_pair of a curve with over MILL_MAX_TOPS tops */
 #define MILL_SHORT_OUTPUT 10    /* the output is shorter than the result */
 #define MILL_BAD_MARKS 11       /* the marks are not 4 bytes each, over MILL_MAX_MARKS, or over MILL_MAX_MARK */
 #define MILL_BAD_TARGET 12      /* the target is off the axis, or the curve number is not 0 or 1 */
+
+/*
+** The set of all numbers that make the text true of the recording.
+**
+** Writes the set into out and returns how many bytes it takes. When the tops
+** lie, one run a line:
+**
+**     static int64_t number_at(const uint8_t *b)
+**     {
+**         uint32_t bits = (uint32_t)b[0] | (uint32_t)b[1] << 8 | (uint32_t)b[2] << 16 | (uint32_t)b[3] << 24;
+**         return (int64_t)(bits ^ 0x80000000u) - 0x80000000LL;
+**     }
+**
+**     uint8_t set[MILL_SET_BYTES];
+**     size_t at;
+**     uint64_t r = mill_question(recording, recording_len, (const uint8_t *)"peaks(A)", 8, set, sizeof set);
+**     if (MILL_NUMBER(r) != 0)
+**         return report(MILL_NUMBER(r), MILL_PLACE(r));
+**     for (at = 0; at < r; at += MILL_RUN_BYTES)
+**         printf("%ld %ld\n", (long)number_at(set + at), (long)number_at(set + at + 4));
+**
+** Refusals, in order: 1, 2, 3, 4, 5, 6, 7, 9, 8, 10.
+*/
+uint64_t mill_question(const uint8_t *recording, size_t recording_len, const uint8_t *text, size_t text_len,
+                       uint8_t *out, size_t out_len);
+
+/*
+** How near the text's set comes to target, a number of the axis.
+**
+** distance is the least distance from target to a member of the set, up to
+** 4,000,000,000; degree is 1 / (1 + distance), one binary64 division.
+**
+** Refusals, in order: 1, 2, 3, 4, 5, 6, 7, 12, 9, 8.
+*/
+#define MILL_MET 0      /* target is in the set; nothing is written */
+#define MILL_SHORT 1    /* it is not: distance and degree are written */
+#define MILL_NO_VALUE 2 /* the set is empty; nothing is written */
+uint64_t mill_degree(const uint8_t *recording, size_t recording_len, const uint8_t *text, size_t text_len,
+                     int64_t target, uint32_t *distance, double *degree);
 
 /*
 ** The times of two tops of a curve, later - earlier = target.
@@ -121,9 +201,16 @@ uint64_t mill_pair(const uint8_t *recording, size_t recording_len, uint32_t curv
 ** little-endian, at most MILL_MAX_MARK; repeats do no harm. Kept are, in order
 ** and unaltered: the first and the last record; for each curve the first
 ** record of the greatest and of the least value; the same among the records
-** with T > k for each mark k; each top and the record before it; each record
-** with A <= B after one with A > B, and that one. Writes them into out and
-** returns how many bytes they are. recording_len bytes are always room enough.
+** with T > k for each mark k; each top and the record before it; each crossing
+** and the record before it. Writes them into out and returns how many bytes
+** they are: at most 2 * (tops of A + tops of B + crossings) + 6 + 4 * marks
+** records, and never more than the recording.
+**
+** Kept readings answer as the recording does: every question that writes none
+** of F, G, X, U and W and whose after-times (the k of lowafter and capafter)
+** are among the marks gets the same bytes or the same refusal, in mill_degree
+** too; mill_pair finds a pair in one where it does in the other. Other
+** questions may be asked of kept readings and are answered of those alone.
 **
 ** A recording may be thinned piece by piece, cut between readings: hand in the
 ** readings held with the next piece behind them, under the same marks. What is

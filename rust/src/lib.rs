@@ -1,4 +1,4 @@
-//! Recordings of bead mills, their thinning and pairs of tops: a safe wrapper of the proved library behind `include/mill.h`.
+//! Questions about recordings of bead mills, and their thinning: a safe wrapper of the proved library behind `include/mill.h`.
 //!
 //! A recording goes in as bytes, 16 to a reading ([`Reading::to_bytes`] makes them). Every call answers with a result or with
 //! one numbered [`Refusal`], for any bytes.
@@ -61,7 +61,6 @@ impl Slope {
 }
 
 /// The whole numbers from `low` to `high`, both included.
-#[cfg(feature = "questions")]
 #[derive(Clone, Copy, PartialEq, Eq, Debug)]
 pub struct Run {
     pub low: i32,
@@ -69,7 +68,6 @@ pub struct Run {
 }
 
 /// How near the numbers of a question's set come to a wanted one.
-#[cfg(feature = "questions")]
 #[derive(Clone, Copy, PartialEq, Debug)]
 pub enum Degree {
     /// The wanted number is in the set.
@@ -175,21 +173,17 @@ impl std::error::Error for Refusal {}
 
 #[cfg(feature = "library")]
 mod calls {
-    use super::{sys, Curve, Pair, Refusal};
-    #[cfg(feature = "questions")]
-    use super::{Degree, Run};
+    use super::{sys, Curve, Degree, Pair, Refusal, Run};
 
     /// The set of all numbers that make the text true of the recording, as ascending maximal runs.
-    #[cfg(feature = "questions")]
     pub fn question(recording: &[u8], text: &[u8]) -> Result<Vec<Run>, Refusal> {
-        let mut out = [0; sys::MILL_MAX_RUNS * sys::MILL_RUN_BYTES];
+        let mut out = [0; sys::MILL_SET_BYTES];
         let length = question_into(recording, text, &mut out)?;
         let number = |at: usize| i32::from_le_bytes([out[at], out[at + 1], out[at + 2], out[at + 3]]);
         Ok((0..length).step_by(sys::MILL_RUN_BYTES).map(|at| Run { low: number(at), high: number(at + 4) }).collect())
     }
 
     /// The same set as bytes in `out`, 8 to a run, and how many they are. What is behind them stays as it was.
-    #[cfg(feature = "questions")]
     pub fn question_into(recording: &[u8], text: &[u8], out: &mut [u8]) -> Result<usize, Refusal> {
         // SAFETY: each pointer is a live slice's with its own length, and `out` is borrowed alone.
         let returned = unsafe {
@@ -199,7 +193,6 @@ mod calls {
     }
 
     /// How near the text's set comes to `target`.
-    #[cfg(feature = "questions")]
     pub fn degree(recording: &[u8], text: &[u8], target: i64) -> Result<Degree, Refusal> {
         let (mut distance, mut degree) = (0, 0.0);
         // SAFETY: each pointer is a live slice's with its own length, or a live number's.
@@ -258,7 +251,5 @@ mod calls {
     }
 }
 
-#[cfg(feature = "questions")]
-pub use calls::{degree, question, question_into};
 #[cfg(feature = "library")]
-pub use calls::{pair, thin, thin_into};
+pub use calls::{degree, pair, question, question_into, thin, thin_into};

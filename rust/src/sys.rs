@@ -6,25 +6,28 @@ pub const MILL_AXIS_LOW: i64 = -2_000_000_000;
 pub const MILL_AXIS_HIGH: i64 = 2_000_000_000;
 
 pub const MILL_RECORD_BYTES: usize = 16;
-#[cfg(feature = "questions")]
 pub const MILL_RUN_BYTES: usize = 8;
 pub const MILL_MARK_BYTES: usize = 4;
+/// Room for every set that a question answers.
+pub const MILL_SET_BYTES: usize = 512;
 
 pub const MILL_MAX_RECORDS: usize = 4096;
 pub const MILL_MAX_TIME: u32 = 2_000_000_000;
 pub const MILL_MAX_VALUE: i32 = 1_000_000_000;
 pub const MILL_MIN_VALUE: i32 = -1_000_000_000;
-#[cfg(feature = "questions")]
 pub const MILL_MAX_TEXT: usize = 256;
-#[cfg(feature = "questions")]
 pub const MILL_MAX_NODES: usize = 32;
-#[cfg(feature = "questions")]
 pub const MILL_MAX_BRACKETS: usize = 16;
-#[cfg(feature = "questions")]
 pub const MILL_MAX_RUNS: usize = 64;
 pub const MILL_MAX_TOPS: usize = 256;
 pub const MILL_MAX_MARKS: usize = 8;
 pub const MILL_MAX_MARK: u32 = 2_000_000_000;
+
+/// Bytes of stack with which each call does.
+pub const MILL_STACK_QUESTION: usize = 131_072;
+pub const MILL_STACK_DEGREE: usize = 131_072;
+pub const MILL_STACK_PAIR: usize = 4_096;
+pub const MILL_STACK_THIN: usize = 16_384;
 
 pub const MILL_FALLING: u8 = 0;
 pub const MILL_FLAT: u8 = 1;
@@ -33,11 +36,8 @@ pub const MILL_RISING: u8 = 2;
 pub const MILL_CURVE_A: u32 = 0;
 pub const MILL_CURVE_B: u32 = 1;
 
-#[cfg(feature = "questions")]
 pub const MILL_MET: u64 = 0;
-#[cfg(feature = "questions")]
 pub const MILL_SHORT: u64 = 1;
-#[cfg(feature = "questions")]
 pub const MILL_NO_VALUE: u64 = 2;
 
 pub const MILL_NO_PAIR: u64 = 0;
@@ -68,7 +68,6 @@ pub const fn mill_place(returned: u64) -> u32 {
 
 #[cfg(feature = "library")]
 extern "C" {
-    #[cfg(feature = "questions")]
     pub fn mill_question(
         recording: *const u8,
         recording_len: usize,
@@ -78,7 +77,6 @@ extern "C" {
         out_len: usize,
     ) -> u64;
 
-    #[cfg(feature = "questions")]
     pub fn mill_degree(
         recording: *const u8,
         recording_len: usize,

@@ -1,6 +1,6 @@
 /*
 ** Covers: mill.h as a C99 program uses it. R1's lines, every refusal, null with length 0, memory that stays as it was, and
-** thinning piece by piece. Exits with 1 and says why if anything differs. MILL_QUESTIONS adds the calls that answer questions.
+** thinning piece by piece. Exits with 1 and says why if anything differs.
 */
 #include "mill.h"
 
@@ -30,10 +30,11 @@ static void put32(uint8_t *at, uint32_t number)
         at[byte] = (uint8_t)(number >> (8 * byte));
 }
 
-static int64_t get32(const uint8_t *at)
+/* As in the header's example. */
+static int64_t number_at(const uint8_t *b)
 {
-    uint32_t number = (uint32_t)at[0] | (uint32_t)at[1] << 8 | (uint32_t)at[2] << 16 | (uint32_t)at[3] << 24;
-    return number < 0x80000000u ? (int64_t)number : (int64_t)number - 0x100000000LL;
+    uint32_t bits = (uint32_t)b[0] | (uint32_t)b[1] << 8 | (uint32_t)b[2] << 16 | (uint32_t)b[3] << 24;
+    return (int64_t)(bits ^ 0x80000000u) - 0x80000000LL;
 }
 
 static void put_record(uint8_t *at, uint32_t time, int32_t a, int32_t b, uint8_t slope_a, uint8_t slope_b)
@@ -57,7 +58,6 @@ static void make_r1(void)
         put_record(r1 + MILL_RECORD_BYTES * i, 10 * (uint32_t)i, a[i], 50, slope[i], MILL_FLAT);
 }
 
-#ifdef MILL_QUESTIONS
 static uint64_t ask(const char *text, uint8_t *out, size_t out_len)
 {
     return mill_question(r1, R1_BYTES, (const uint8_t *)text, strlen(text), out, out_len);
@@ -66,13 +66,13 @@ static uint64_t ask(const char *text, uint8_t *out, size_t out_len)
 /* The text answers these runs on R1, low and high of each, and leaves what is behind them. */
 static int answers(const char *text, size_t count, const int64_t *numbers)
 {
-    uint8_t out[MILL_MAX_RUNS * MILL_RUN_BYTES + 1];
+    uint8_t out[MILL_SET_BYTES + 1];
     size_t i;
     memset(out, 0xA5, sizeof out);
     if (ask(text, out, sizeof out) != count * MILL_RUN_BYTES)
         return 0;
     for (i = 0; i < 2 * count; i++)
-        if (get32(out + 4 * i) != numbers[i])
+        if (number_at(out + 4 * i) != numbers[i])
             return 0;
     for (i = count * MILL_RUN_BYTES; i < sizeof out; i++)
         if (out[i] != 0xA5)
@@ -113,7 +113,6 @@ static void degrees(void)
     EXPECT(mill_degree(r1, R1_BYTES, peaks, 8, 51, &distance, &degree) == MILL_SHORT);
     EXPECT(distance == 19 && memcmp(&degree, &(double){0.05}, sizeof degree) == 0);
 }
-#endif
 
 static void pairs(void)
 {
@@ -138,10 +137,9 @@ static void make_tops(uint32_t tops)
         put_record(large + MILL_RECORD_BYTES * i, i, 0, 0, i % 2 == 1 && i / 2 < tops ? MILL_FALLING : MILL_RISING, MILL_FLAT);
 }
 
-#ifdef MILL_QUESTIONS
 static uint32_t refused(const uint8_t *recording, size_t length, const char *text)
 {
-    uint8_t out[MILL_MAX_RUNS * MILL_RUN_BYTES], before[sizeof out];
+    uint8_t out[MILL_SET_BYTES], before[sizeof out];
     uint64_t returned;
     memset(out, 0x5A, sizeof out);
     memcpy(before, out, sizeof out);
@@ -183,7 +181,6 @@ static void refused_questions(void)
     EXPECT(refused(large, sizeof large - MILL_RECORD_BYTES, "steps(A)") == MILL_TOO_MANY_TOPS);
     EXPECT(MILL_NUMBER(ask("peaks(A)", out, sizeof out)) == MILL_SHORT_OUTPUT);
 }
-#endif
 
 static void refusals(void)
 {
@@ -213,14 +210,12 @@ static void refusals(void)
 static void nothing_at_all(void)
 {
     uint32_t one = 77, two = 78;
-#ifdef MILL_QUESTIONS
     double real = 7.5;
     EXPECT(MILL_NUMBER(mill_question(NULL, 0, NULL, 0, NULL, 0)) == MILL_NO_RECORD);
     EXPECT(MILL_NUMBER(mill_question(r1, R1_BYTES, NULL, 0, NULL, 0)) == MILL_TEXT_LENGTH);
     EXPECT(ask("lag", NULL, 0) == 0);
     EXPECT(MILL_NUMBER(ask("cross", NULL, 0)) == MILL_SHORT_OUTPUT);
     EXPECT(MILL_NUMBER(mill_degree(NULL, 0, NULL, 0, 0, &one, &real)) == MILL_NO_RECORD);
-#endif
     EXPECT(MILL_NUMBER(mill_pair(NULL, 0, 0, 40, &one, &two)) == MILL_NO_RECORD);
     EXPECT(mill_thin(NULL, 0, NULL, 0, NULL, 0) == 0);
     EXPECT(MILL_NUMBER(mill_thin(r1, R1_BYTES, NULL, 0, NULL, 0)) == MILL_SHORT_OUTPUT);
@@ -234,7 +229,7 @@ static int times(const uint8_t *kept, size_t length, const uint32_t *expected, s
     if (length != count * MILL_RECORD_BYTES)
         return 0;
     for (i = 0; i < count; i++)
-        if (get32(kept + MILL_RECORD_BYTES * i) != (int64_t)expected[i])
+        if (number_at(kept + MILL_RECORD_BYTES * i) != (int64_t)expected[i])
             return 0;
     return 1;
 }
@@ -279,11 +274,9 @@ static void thinning(void)
 int main(void)
 {
     make_r1();
-#ifdef MILL_QUESTIONS
     questions();
     degrees();
     refused_questions();
-#endif
     pairs();
     refusals();
     nothing_at_all();

@@ -1,5 +1,5 @@
 // Covers: mill.h as a C++ program uses it: its linkage, R1's lines, refusals, null with length 0, and thinning piece by piece.
-// Exits with 1 and says why if anything differs. MILL_QUESTIONS adds the calls that answer questions.
+// Exits with 1 and says why if anything differs.
 #include "mill.h"
 
 #include <cstdio>
@@ -43,11 +43,10 @@ void make_r1()
     }
 }
 
-#ifdef MILL_QUESTIONS
 // The number of a refusal of the text on R1, 0 for an answer of so many runs.
 uint32_t ask(const char *text, std::size_t runs)
 {
-    uint8_t out[MILL_MAX_RUNS * MILL_RUN_BYTES];
+    uint8_t out[MILL_SET_BYTES];
     const uint64_t returned =
         mill_question(r1, length, reinterpret_cast<const uint8_t *>(text), std::strlen(text), out, sizeof out);
     EXPECT(MILL_NUMBER(returned) != 0 || MILL_PLACE(returned) == runs * MILL_RUN_BYTES);
@@ -83,7 +82,6 @@ void degrees()
     const double quarter = 0.25;
     EXPECT(std::memcmp(&degree, &quarter, sizeof degree) == 0);
 }
-#endif
 
 void pairs()
 {
@@ -117,10 +115,8 @@ void thinning()
 int main()
 {
     make_r1();
-#ifdef MILL_QUESTIONS
     questions();
     degrees();
-#endif
     pairs();
     thinning();
     std::printf("boundary.cpp: %d failures\n", failures);

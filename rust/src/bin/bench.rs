@@ -1,23 +1,18 @@
-//! Times of the library beside plain Rust, and their ratio, on 4,096 records. Both must give the same bytes, else it stops.
-//! Each time is the best of many, warm: `cargo run --release --bin bench`.
+//! Times of the library beside plain Rust, their ratio, and the most that it is to be, on 4,096 records. Both must give the
+//! same bytes, else it stops. Each time is the best of many, warm, the two sides in turn: `cargo run --release --bin bench`.
 
-use mill::{plain, sys, Curve, Reading, Slope};
-#[cfg(feature = "questions")]
-use mill::{reference, Degree};
+use mill::{plain, reference, sys, Curve, Degree, Reading, Slope};
 use std::hint::black_box;
 use std::time::{Duration, Instant};
 
 const RECORDS: usize = 4096;
 
 fn main() {
-    println!("{:<52} {:>14} {:>12} {:>12} {:>7}", "", "outcome", "library us", "plain us", "ratio");
+    println!("{:<52} {:>14} {:>12} {:>12} {:>7} {:>5}", "", "outcome", "library us", "plain us", "ratio", "aim");
     thinning();
-    #[cfg(feature = "questions")]
-    {
-        listed();
-        temporal();
-        degrees();
-    }
+    listed();
+    temporal();
+    degrees();
     pairs();
 }
 
@@ -27,42 +22,47 @@ fn thinning() {
         for marks in [&[][..], &[100, 600, 1_100, 1_600, 2_100, 2_600, 3_100, 3_600]] {
             let marks: Vec<u8> = marks.iter().flat_map(|mark: &u32| mark.to_le_bytes()).collect();
             let name = format!("thin, {tops} tops, {} marks", marks.len() / 4);
-            writing(&name, |out| mill::thin_into(&recording, &marks, out), |out| plain::thin(&recording, &marks, out));
+            writing(&name, 1.2, |out| mill::thin_into(&recording, &marks, out), |out| plain::thin(&recording, &marks, out));
         }
     }
 }
 
-#[cfg(feature = "questions")]
 fn listed() {
     for tops in [0, 64] {
-        question(&format!("peaks(A), {tops} tops"), &with_tops(&evenly(tops, RECORDS), &[]), "peaks(A)");
+        question(&format!("peaks(A), {tops} tops"), 1.2, &with_tops(&evenly(tops, RECORDS), &[]), "peaks(A)");
     }
-    question("gaps(A), 64 tops evenly", &with_tops(&evenly(64, RECORDS), &[]), "gaps(A)");
-    question("gaps(A), 256 tops evenly", &with_tops(&evenly(256, RECORDS), &[]), "gaps(A)");
-    question("gaps(A), 256 tops whose differences join", &with_tops(&joining(), &[]), "gaps(A)");
-    let (twos, threes) = ((0..256).map(|i| 1 + 2 * i).collect::<Vec<_>>(), (0..256).map(|i| 1 + 3 * i).collect::<Vec<_>>());
-    question("lag, 32 tops evenly", &with_tops(&evenly(32, RECORDS), &evenly(32, RECORDS)), "lag");
-    question("lag, 256 tops evenly", &with_tops(&evenly(256, RECORDS), &evenly(256, RECORDS)), "lag");
-    question("lag, 256 tops whose differences join", &with_tops(&twos, &threes), "lag");
+    let (many, by) = (evenly(256, RECORDS), |step: usize| (0..256).map(|i| 1 + step * i).collect::<Vec<_>>());
+    question("gaps(A), 64 tops evenly", 1.0, &with_tops(&evenly(64, RECORDS), &[]), "gaps(A)");
+    question("gaps(A), 256 tops evenly", 1.0, &with_tops(&many, &[]), "gaps(A)");
+    question("gaps(A), 256 tops, dense and often the same", 1.0, &with_tops(&twos_and(3), &[]), "gaps(A)");
+    question("gaps(A), 256 tops, dense and far", 1.0, &with_tops(&twos_and(29), &[]), "gaps(A)");
+    question("lag, 32 tops evenly", 1.0, &with_tops(&evenly(32, RECORDS), &evenly(32, RECORDS)), "lag");
+    question("lag, 256 tops evenly", 1.0, &with_tops(&many, &many), "lag");
+    question("lag, 256 tops, dense and often the same", 1.0, &with_tops(&by(2), &by(3)), "lag");
+    question("lag, 256 tops, dense and far", 1.0, &with_tops(&by(2), &by(15)), "lag");
 }
 
-#[cfg(feature = "questions")]
 fn temporal() {
     let readings = with_tops(&evenly(64, RECORDS), &evenly(64, RECORDS));
-    let small = "G(A<=v|F(B>=v&X(!fall(A)|T>=v)))&U(A>=v|rise(B),W(B<=v,A<v&T<=v))|X(X(X(F(A>v&G(B<v|T<v)))))";
-    assert_eq!(nodes(small), 32);
-    question("32 nodes, sets of few runs", &readings, small);
+    // Atoms that hold from some number upward: so does all that is made of them without `!`.
+    let one = "G(A<=v|F(B<=v&X(T<=v|A<=v)))&U(A<=v|B<=v,W(B<=v,A<v&T<=v))|X(X(X(X(F(A<v&G(B<v|T<v))))))";
+    question_of_32_nodes("32 nodes, sets of one run", 2.0, &readings, one);
+    let few = "G(A<=v|F(B>=v&X(!fall(A)|T>=v)))&U(A>=v|rise(B),W(B<=v,A<v&T<=v))|X(X(X(F(A>v&G(B<v|T<v)))))";
+    question_of_32_nodes("32 nodes, sets of few runs", 2.0, &readings, few);
     let wide = "F(A=v)|F(B=v)&!F(A=v|B=v)|U(!(A=v),F(B=v))&G(F(A=v))|X(F(A=v&B>=0))|W(F(A=v),B=v)";
-    assert_eq!(nodes(wide), 32);
     let mut readings = readings;
     for (index, reading) in readings.iter_mut().enumerate() {
         reading.a = (index * 37 % 30 * 4) as i32;
         reading.b = (index * 41 % 30 * 4 + 1_000) as i32;
     }
-    question("32 nodes, sets of up to 61 runs", &readings, wide);
+    question_of_32_nodes("32 nodes, sets of up to 61 runs", 4.0, &readings, wide);
 }
 
-#[cfg(feature = "questions")]
+fn question_of_32_nodes(name: &str, aim: f64, readings: &[Reading], text: &str) {
+    assert_eq!(reference::text::reading(text.as_bytes()).expect(text).parts().len(), sys::MILL_MAX_NODES);
+    question(name, aim, readings, text);
+}
+
 fn degrees() {
     let recording = bytes(&with_tops(&evenly(64, RECORDS), &[]));
     for text in ["high(A)", "peaks(A)", "F(T=v&fall(A))"] {
@@ -76,7 +76,7 @@ fn degrees() {
         let plain = || plain::degree(&recording, text.as_bytes(), 77);
         assert_eq!(library().map_err(|refusal| (refusal.number(), refusal.place())), plain(), "{text}");
         let outcome = library().map_or_else(|refusal| refusal.to_string(), |_| "degree".into());
-        row(&format!("degree of {text}"), &outcome, best(&library), best(&plain));
+        row(&format!("degree of {text}"), &outcome, best(&library, &plain), None);
     }
 }
 
@@ -86,19 +86,19 @@ fn pairs() {
         let library = || mill::pair(&recording, Curve::A, target).map(|pair| pair.is_some());
         let plain = || plain::pair(&recording, 0, target).map(|pair| pair.is_some());
         assert_eq!(library().map_err(|refusal| (refusal.number(), refusal.place())), plain(), "{name}");
-        row(&format!("pair, 256 tops, {name}"), &format!("{:?}", library()), best(&library), best(&plain));
+        row(&format!("pair, 256 tops, {name}"), &format!("{:?}", library()), best(&library, &plain), None);
     }
 }
 
-#[cfg(feature = "questions")]
-fn question(name: &str, readings: &[Reading], text: &str) {
+fn question(name: &str, aim: f64, readings: &[Reading], text: &str) {
     let (recording, text) = (bytes(readings), text.as_bytes());
-    writing(name, |out| mill::question_into(&recording, text, out), |out| plain::question(&recording, text, out));
+    writing(name, aim, |out| mill::question_into(&recording, text, out), |out| plain::question(&recording, text, out));
 }
 
 /// One row, for a call that writes bytes.
 fn writing(
     name: &str,
+    aim: f64,
     library: impl Fn(&mut [u8]) -> Result<usize, mill::Refusal>,
     plain: impl Fn(&mut [u8]) -> Result<usize, plain::Refused>,
 ) {
@@ -107,34 +107,48 @@ fn writing(
     assert_eq!(outcome.map_err(|refusal| (refusal.number(), refusal.place())), plain(&mut right), "{name}");
     assert_eq!(left, right, "{name}");
     let said = outcome.map_or_else(|refusal| refusal.to_string(), |length| format!("{length} bytes"));
-    let library_time = best(|| library(black_box(&mut left)));
-    let plain_time = best(|| plain(black_box(&mut right)));
-    row(name, &said, library_time, plain_time);
+    let times = best(|| library(black_box(&mut left)), || plain(black_box(&mut right)));
+    row(name, &said, times, Some(aim));
 }
 
-fn row(name: &str, outcome: &str, library: f64, plain: f64) {
-    println!("{name:<52} {outcome:>14} {:>12.2} {:>12.2} {:>7.2}", library * 1e6, plain * 1e6, library / plain);
+fn row(name: &str, outcome: &str, (library, plain): (f64, f64), aim: Option<f64>) {
+    let aim = aim.map_or(String::new(), |aim| format!("{aim:.1}"));
+    println!("{name:<52} {outcome:>14} {:>12.2} {:>12.2} {:>7.2} {aim:>5}", library * 1e6, plain * 1e6, library / plain);
 }
 
-/// The best time of a call in seconds, over batches of about a millisecond.
-fn best<T>(mut call: impl FnMut() -> T) -> f64 {
-    let start = Instant::now();
-    black_box(call());
-    let batch = (Duration::from_millis(1).as_nanos() / start.elapsed().as_nanos().max(1)).clamp(1, 10_000) as u32;
-    let mut best = f64::INFINITY;
-    for _ in 0..40 {
+/// The best times of two calls in seconds, over batches of about a millisecond in turn, for half a second or 40 rounds.
+fn best<T, U>(mut library: impl FnMut() -> T, mut plain: impl FnMut() -> U) -> (f64, f64) {
+    let (mut of_library, mut of_plain) = (Batch::new(&mut library), Batch::new(&mut plain));
+    let (start, mut rounds) = (Instant::now(), 0);
+    while rounds < 40 || start.elapsed() < Duration::from_millis(500) {
+        of_library.run(&mut library);
+        of_plain.run(&mut plain);
+        rounds += 1;
+    }
+    (of_library.best, of_plain.best)
+}
+
+/// So many calls one after another, and their best time so far for one.
+struct Batch {
+    calls: u32,
+    best: f64,
+}
+
+impl Batch {
+    fn new<T>(call: &mut impl FnMut() -> T) -> Batch {
         let start = Instant::now();
-        for _ in 0..batch {
+        black_box(call());
+        let calls = (Duration::from_millis(1).as_nanos() / start.elapsed().as_nanos().max(1)).clamp(1, 10_000) as u32;
+        Batch { calls, best: f64::INFINITY }
+    }
+
+    fn run<T>(&mut self, call: &mut impl FnMut() -> T) {
+        let start = Instant::now();
+        for _ in 0..self.calls {
             black_box(call());
         }
-        best = best.min(start.elapsed().as_secs_f64() / f64::from(batch));
+        self.best = self.best.min(start.elapsed().as_secs_f64() / f64::from(self.calls));
     }
-    best
-}
-
-#[cfg(feature = "questions")]
-fn nodes(text: &str) -> usize {
-    reference::text::reading(text.as_bytes()).expect(text).parts().len()
 }
 
 /// So many record indices, evenly spaced.
@@ -142,10 +156,9 @@ fn evenly(count: usize, records: usize) -> Vec<usize> {
     (0..count).map(|i| 1 + i * ((records - 1) / count)).collect()
 }
 
-/// 256 record indices whose differences join into few runs.
-#[cfg(feature = "questions")]
-fn joining() -> Vec<usize> {
-    (0..128).map(|i| 1 + 2 * i).chain((0..128).map(|i| 260 + 3 * i)).collect()
+/// 256 record indices, every second one and then at such steps, whose differences join into few runs.
+fn twos_and(step: usize) -> Vec<usize> {
+    (0..128).map(|i| 1 + 2 * i).chain((0..128).map(|i| 260 + step * i)).collect()
 }
 
 /// A reading a second with slow waves for values, and tops at just these records.

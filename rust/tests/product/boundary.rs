@@ -1,14 +1,10 @@
 //! Covers: the C boundary itself: null with length 0, inputs that overlap, lengths past 32 bits, and that the guards hold.
 
 use crate::guarded::{Against, Guarded};
-#[cfg(feature = "questions")]
+use crate::support::r1::r1_bytes;
 use crate::support::recordings::flat;
-use crate::support::recordings::r1_bytes;
-#[cfg(feature = "questions")]
 use mill::reference::recording::bytes;
-#[cfg(feature = "questions")]
-use mill::sys::{mill_degree, mill_question};
-use mill::sys::{mill_pair, mill_thin};
+use mill::sys::{mill_degree, mill_pair, mill_question, mill_thin};
 use std::ptr::{null, null_mut};
 
 fn refusal(number: u64) -> u64 {
@@ -33,7 +29,6 @@ fn null_with_length_0() {
     }
 }
 
-#[cfg(feature = "questions")]
 #[test]
 fn null_with_length_0_in_questions() {
     let r1 = r1_bytes();
@@ -68,7 +63,6 @@ fn inputs_may_overlap() {
     }
 }
 
-#[cfg(feature = "questions")]
 #[test]
 fn a_text_may_lie_in_the_recording() {
     let r1 = r1_bytes();
@@ -111,7 +105,6 @@ fn lengths_past_32_bits() {
     }
 }
 
-#[cfg(feature = "questions")]
 #[test]
 fn lengths_past_32_bits_in_questions() {
     const WRAPPED: usize = 1 << 32;
@@ -140,7 +133,6 @@ fn lengths_past_32_bits_in_questions() {
 fn targets_past_32_bits() {
     let r1 = r1_bytes();
     for target in [(1i64 << 32) + 30, -(1i64 << 32) + 30, 1 << 31, i64::MIN, i64::MAX, i64::MIN + 30] {
-        #[cfg(feature = "questions")]
         assert_eq!(mill::degree(&r1, b"peaks(A)", target), Err(mill::Refusal::BadTarget), "{target}");
         assert_eq!(mill::pair(&r1, mill::Curve::A, target), Err(mill::Refusal::BadTarget), "{target}");
     }

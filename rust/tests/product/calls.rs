@@ -3,9 +3,7 @@
 
 use crate::guarded::{Against, Guarded};
 use crate::support::{cases, compared};
-#[cfg(feature = "questions")]
-use mill::reference::Degree;
-use mill::reference::{self, Refused};
+use mill::reference::{self, Degree, Refused};
 use mill::sys;
 use std::cell::RefCell;
 use std::collections::BTreeMap;
@@ -154,7 +152,6 @@ fn number_of<T>(expected: &Result<T, Refused>) -> u32 {
 }
 
 /// Asks and compares; the outcome's number.
-#[cfg(feature = "questions")]
 #[track_caller]
 pub fn question(recording: &[u8], text: &[u8], room: usize) -> u32 {
     count();
@@ -199,7 +196,6 @@ fn same_bytes(expected: &Result<Vec<u8>, Refused>, found: (u64, Vec<u8>), call: 
 }
 
 /// Asks for a degree and compares; the outcome's number.
-#[cfg(feature = "questions")]
 #[track_caller]
 pub fn degree(recording: &[u8], text: &[u8], target: i64) -> u32 {
     count();
@@ -293,7 +289,6 @@ fn outcome(returned: u64) -> String {
     }
 }
 
-#[cfg(feature = "questions")]
 fn shown(text: &[u8]) -> String {
     format!("text '{}'", text.escape_ascii())
 }

@@ -1,18 +1,15 @@
 //! Covers: damaged recordings under all calls: every bit of a recording flipped, every length cut, every value of every
 //! byte of a record, fields at and past their limits, and random damage.
 
-#[cfg(feature = "questions")]
-use crate::calls::{degree, question};
-use crate::calls::{pair, thin, Tally};
+use crate::calls::{degree, pair, question, thin, Tally};
 use crate::support::cases::{begin, cases};
-use crate::support::recordings::{self, damaged, r1_bytes};
+use crate::support::r1::r1_bytes;
+use crate::support::recordings::{self, damaged};
 use mill::reference::recording::{bytes, Record};
 
 /// All calls; the number of the pair call's outcome.
 fn all_calls(recording: &[u8]) -> u32 {
-    #[cfg(feature = "questions")]
     question(recording, b"peaks(A)", 512);
-    #[cfg(feature = "questions")]
     degree(recording, b"high(B)", 7);
     thin(recording, &[40, 0, 0, 0], 65_536);
     pair(recording, 0, 40)
@@ -57,7 +54,6 @@ fn every_byte_of_a_record() {
                 begin("every byte of a record", byte.into());
                 let mut recording = r1.clone();
                 recording[16 * index + at] = byte;
-                #[cfg(feature = "questions")]
                 question(&recording, b"cross", 512);
                 pair(&recording, 0, 40);
                 thin(&recording, &[], 65_536);

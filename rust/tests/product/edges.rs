@@ -3,19 +3,21 @@
 
 use crate::calls::{degree, question, thin};
 use crate::support::cases::begin;
-use crate::support::recordings::{flat, r1_bytes, with_tops, with_tops_at, with_values};
+use crate::support::r1::{r1_bytes, ONLY_NEXT_SEES};
+use crate::support::recordings::{flat, with_tops, with_tops_at, with_values};
 use mill::reference::recording::{bytes, Record, FALLING, FLAT, RISING};
+use mill::reference::set::{HIGH, LOW};
 use mill::Run;
 
 const ROOM: usize = 512;
 
 /// The runs that the library answers, after the comparison.
 #[track_caller]
-fn runs(recording: &[u8], text: &str) -> Vec<(i32, i32)> {
+fn runs(recording: &[u8], text: &str) -> Vec<(i64, i64)> {
     begin("edges", 0);
     assert_eq!(question(recording, text.as_bytes(), ROOM), 0, "{text}");
     let runs = mill::question(recording, text.as_bytes()).expect(text);
-    runs.iter().map(|Run { low, high }| (*low, *high)).collect()
+    runs.iter().map(|Run { low, high }| ((*low).into(), (*high).into())).collect()
 }
 
 #[track_caller]
@@ -24,15 +26,12 @@ fn refused(recording: &[u8], text: &str) -> u32 {
     question(recording, text.as_bytes(), ROOM)
 }
 
-const LOW: i32 = -2_000_000_000;
-const HIGH: i32 = 2_000_000_000;
-
 #[test]
 fn what_only_x_sees_is_lost_on_kept_readings() {
-    let text = "F(A=60&X(A=v))";
-    assert_eq!(runs(&r1_bytes(), text), [(80, 80)]);
+    let (text, on_full, on_kept) = ONLY_NEXT_SEES;
+    assert_eq!(runs(&r1_bytes(), text), on_full);
     assert_eq!(thin(&r1_bytes(), &[], 96), 0);
-    assert_eq!(runs(&mill::thin(&r1_bytes(), &[]).unwrap(), text), []);
+    assert_eq!(runs(&mill::thin(&r1_bytes(), &[]).unwrap(), text), on_kept);
 }
 
 #[test]
@@ -113,6 +112,8 @@ fn thirty_two_nodes_and_thirty_three() {
     assert_eq!(runs(&r1, &nots(30)), [(40, 40)]);
     assert_eq!(runs(&r1, &nots(31)), [(LOW, 39), (41, HIGH)]);
     assert_eq!(refused(&r1, &nots(32)), 7);
+    assert_eq!(degree(&r1, nots(31).as_bytes(), 40), 0);
+    assert_eq!(degree(&r1, nots(32).as_bytes(), 40), 7);
     assert_eq!(refused(&r1, &nots(253)), 7);
     assert_eq!(refused(&r1, &nots(254)), 5);
     for sign in ["|", "&"] {
@@ -192,6 +193,13 @@ fn only_nodes_count_and_not_what_is_inside_until() {
     assert_eq!(runs(&recording, &format!("U({late}|T>0,T=0|{early})")), [(LOW, HIGH)]);
     assert_eq!(runs(&recording, &format!("W({late}&T=0|T>0&T<=64,T=0|{early})")), [(LOW, HIGH)]);
     assert_eq!(refused(&recording, &format!("W({late}&T=0|T>0&T<=64,{early})")), 8);
+    // With 5..400 at the first record it swallows some: 48 runs are left of 127.
+    values[0] = [5, 400];
+    let recording = with_values(&values);
+    let left: Vec<(i64, i64)> = (81..=127).map(|k| (5 * k, 5 * k + 1)).collect();
+    let some = format!("U({late}|T>0,T=0&A<=v&B>=v|{early})");
+    assert_eq!(runs(&recording, &some), [&[(5, 401)], &left[..]].concat());
+    assert_eq!(degree(&recording, some.as_bytes(), 403), 0);
 }
 
 #[test]

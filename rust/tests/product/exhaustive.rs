@@ -1,8 +1,6 @@
 //! Covers: every recording of up to three records over a small field set with all slopes.
 
-#[cfg(feature = "questions")]
-use crate::calls::question;
-use crate::calls::{pair, thin};
+use crate::calls::{degree, pair, question, thin};
 use crate::support::cases::begin;
 use mill::reference::recording::{bytes, Record};
 
@@ -24,7 +22,6 @@ fn at_times(records: &[Record], times: &[i64]) -> Vec<u8> {
     bytes(&timed)
 }
 
-#[cfg(feature = "questions")]
 const TEXTS: [&str; 9] = [
     "peaks(A)|peaks(B)",
     "cross",
@@ -38,10 +35,11 @@ const TEXTS: [&str; 9] = [
 ];
 
 fn all_calls(recording: &[u8]) {
-    #[cfg(feature = "questions")]
     for text in TEXTS {
         question(recording, text.as_bytes(), 64);
     }
+    degree(recording, b"peaks(A)|A=v", 2);
+    degree(recording, b"U(A>=v,B=v)", -1);
     for marks in [&[][..], &[0, 0, 0, 0], &[1, 0, 0, 0, 0, 0, 0, 0]] {
         thin(recording, marks, recording.len());
     }

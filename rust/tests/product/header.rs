@@ -28,14 +28,12 @@ fn the_header_and_the_declarations_agree() {
     macro_rules! declare {
         ($($name:ident)*) => { $( declared.insert(stringify!($name).to_string(), $name as i64); )* };
     }
-    declare!(MILL_AXIS_LOW MILL_AXIS_HIGH MILL_RECORD_BYTES MILL_MARK_BYTES MILL_MAX_RECORDS MILL_MAX_TIME
-        MILL_MAX_VALUE MILL_MIN_VALUE MILL_MAX_TOPS MILL_MAX_MARKS
-        MILL_MAX_MARK MILL_FALLING MILL_FLAT MILL_RISING MILL_CURVE_A MILL_CURVE_B
-        MILL_NO_PAIR MILL_PAIR MILL_PARTIAL_RECORD MILL_TOO_MANY_RECORDS MILL_BAD_RECORD MILL_NO_RECORD MILL_TEXT_LENGTH
-        MILL_NO_READING MILL_TEXT_TOO_LARGE MILL_TOO_MANY_RUNS MILL_TOO_MANY_TOPS MILL_SHORT_OUTPUT MILL_BAD_MARKS
-        MILL_BAD_TARGET);
-    #[cfg(feature = "questions")]
-    declare!(MILL_RUN_BYTES MILL_MAX_TEXT MILL_MAX_NODES MILL_MAX_BRACKETS MILL_MAX_RUNS MILL_MET MILL_SHORT MILL_NO_VALUE);
+    declare!(MILL_AXIS_LOW MILL_AXIS_HIGH MILL_RECORD_BYTES MILL_RUN_BYTES MILL_MARK_BYTES MILL_SET_BYTES MILL_MAX_RECORDS
+        MILL_MAX_TIME MILL_MAX_VALUE MILL_MIN_VALUE MILL_MAX_TEXT MILL_MAX_NODES MILL_MAX_BRACKETS MILL_MAX_RUNS MILL_MAX_TOPS
+        MILL_MAX_MARKS MILL_MAX_MARK MILL_STACK_QUESTION MILL_STACK_DEGREE MILL_STACK_PAIR MILL_STACK_THIN MILL_FALLING
+        MILL_FLAT MILL_RISING MILL_CURVE_A MILL_CURVE_B MILL_MET MILL_SHORT MILL_NO_VALUE MILL_NO_PAIR MILL_PAIR
+        MILL_PARTIAL_RECORD MILL_TOO_MANY_RECORDS MILL_BAD_RECORD MILL_NO_RECORD MILL_TEXT_LENGTH MILL_NO_READING
+        MILL_TEXT_TOO_LARGE MILL_TOO_MANY_RUNS MILL_TOO_MANY_TOPS MILL_SHORT_OUTPUT MILL_BAD_MARKS MILL_BAD_TARGET);
     assert_eq!(header(), declared);
 }
 
@@ -45,10 +43,7 @@ fn the_header_declares_the_calls() {
     let text = std::fs::read_to_string(concat!(env!("CARGO_MANIFEST_DIR"), "/../include/mill.h")).unwrap();
     let calls: Vec<&str> =
         text.lines().filter_map(|line| line.strip_prefix("uint64_t ")).map(|line| line.split('(').next().unwrap()).collect();
-    #[cfg(feature = "questions")]
     assert_eq!(calls, ["mill_question", "mill_degree", "mill_pair", "mill_thin"]);
-    #[cfg(not(feature = "questions"))]
-    assert_eq!(calls, ["mill_pair", "mill_thin"]);
 }
 
 #[test]
@@ -58,21 +53,17 @@ fn the_header_and_the_independent_implementation_agree() {
         ("MILL_AXIS_LOW", reference::set::LOW),
         ("MILL_AXIS_HIGH", reference::set::HIGH),
         ("MILL_RECORD_BYTES", reference::recording::RECORD_BYTES as i64),
-        #[cfg(feature = "questions")]
         ("MILL_RUN_BYTES", reference::RUN_BYTES as i64),
         ("MILL_MARK_BYTES", reference::kept::MARK_BYTES as i64),
         ("MILL_MAX_RECORDS", reference::recording::MOST_RECORDS as i64),
         ("MILL_MAX_TIME", reference::recording::MOST_TIME),
         ("MILL_MAX_VALUE", reference::recording::MOST_VALUE),
         ("MILL_MIN_VALUE", -reference::recording::MOST_VALUE),
-        #[cfg(feature = "questions")]
         ("MILL_MAX_TEXT", reference::text::MOST_BYTES as i64),
-        #[cfg(feature = "questions")]
         ("MILL_MAX_NODES", reference::text::MOST_NODES as i64),
-        #[cfg(feature = "questions")]
         ("MILL_MAX_BRACKETS", reference::text::MOST_BRACKETS as i64),
-        #[cfg(feature = "questions")]
         ("MILL_MAX_RUNS", reference::MOST_RUNS as i64),
+        ("MILL_SET_BYTES", (reference::MOST_RUNS * reference::RUN_BYTES) as i64),
         ("MILL_MAX_TOPS", reference::recording::MOST_TOPS as i64),
         ("MILL_MAX_MARKS", reference::kept::MOST_MARKS as i64),
         ("MILL_MAX_MARK", reference::kept::MOST_MARK),

@@ -1,15 +1,17 @@
 //! Covers: what the library must do whatever the independent implementation says: plain questions answer alike on kept and on
 //! full readings, and each of the first six listed questions is its formula.
 
-use crate::calls::bytes_of;
+use crate::calls::{bytes_of, degree, pair, question};
 use crate::question::room;
-use crate::support::cases::{cases, one_alone};
+use crate::support::cases::{begin, cases, one_alone};
 use crate::support::random::Random;
 use crate::support::recordings::{self, with_many_tops};
 use crate::support::texts;
 use mill::reference::kept::mark_bytes;
 use mill::reference::recording::{bytes, Record};
+use mill::reference::text::{accepted, Node};
 use mill::sys::{mill_number, mill_question, mill_thin};
+use mill::{Curve, Degree, Refusal};
 
 /// A text without F, G, X, U and W whose after-times are among the marks.
 fn plain_text(random: &mut Random, records: &[Record], marks: &[i64], size: usize) -> String {
@@ -30,25 +32,57 @@ fn plain_text(random: &mut Random, records: &[Record], marks: &[i64], size: usiz
     }
 }
 
+/// Whether kept readings must answer the text as the full ones: 5, 6 or 7 refuses it, or it has none of F, G, X, U and W and
+/// its after-times are among the marks.
+fn askable(text: &[u8], marks: &[i64]) -> bool {
+    accepted(text).map_or(true, |node| {
+        node.parts().into_iter().all(|part| match part {
+            Node::LowAfter(_, k) | Node::CapAfter(_, k) => marks.contains(k),
+            part => !part.is_temporal(),
+        })
+    })
+}
+
+/// An answer to the degree call, its number by the bits.
+fn degree_of(recording: &[u8], text: &[u8], target: i64) -> Result<(u8, u32, u64), Refusal> {
+    mill::degree(recording, text, target).map(|degree| match degree {
+        Degree::Met => (0, 0, 0),
+        Degree::Short { distance, degree } => (1, distance, degree.to_bits()),
+        Degree::NoValue => (2, 0, 0),
+    })
+}
+
+/// Four texts asked of the readings held as of the full recording, a degree, and whether there is a pair.
+fn same_answers(random: &mut Random, records: &[Record], marks: &[i64], held: &[u8], full: &[u8]) {
+    for _ in 0..4 {
+        let size = random.pick(&[1, 1, 2, 3, 5]);
+        let mut text = plain_text(random, records, marks, size).into_bytes();
+        if random.once_in(5) {
+            text = texts::changed(random, &String::from_utf8(text).unwrap());
+        }
+        if !askable(&text, marks) {
+            continue;
+        }
+        let (room, target) = (room(random), texts::target(random, records));
+        let case = || format!("{} with marks {marks:?} of {records:?} at {target}", text.escape_ascii());
+        question(full, &text, room);
+        let of_full = bytes_of(full, &text, room, mill_question);
+        assert_eq!(of_full, bytes_of(held, &text, room, mill_question), "{}", case());
+        degree(full, &text, target);
+        assert_eq!(degree_of(full, &text, target), degree_of(held, &text, target), "{}", case());
+        for curve in [Curve::A, Curve::B] {
+            let has_pair = |recording: &[u8]| mill::pair(recording, curve, target).map(|pair| pair.is_some());
+            assert_eq!(has_pair(full), has_pair(held), "{}", case());
+        }
+    }
+}
+
 fn kept_as_full(random: &mut Random, records: &[Record]) -> u64 {
     let full = bytes(records);
     let marks = recordings::marks(random, records);
     let (returned, kept) = bytes_of(&full, &mark_bytes(&marks), full.len(), mill_thin);
     assert_eq!(mill_number(returned), 0);
-    for _ in 0..4 {
-        let size = random.pick(&[1, 1, 2, 3, 5]);
-        let text = plain_text(random, records, &marks, size);
-        let room = room(random);
-        let of_full = bytes_of(&full, text.as_bytes(), room, mill_question);
-        let of_kept = bytes_of(&kept, text.as_bytes(), room, mill_question);
-        assert_eq!(of_full, of_kept, "{text} with marks {marks:?} of {records:?}");
-        // So are a degree, and whether there is a pair.
-        let target = texts::number(random, records);
-        let degree = |recording: &[u8]| mill::degree(recording, text.as_bytes(), target);
-        assert_eq!(degree(&full), degree(&kept), "{text} with marks {marks:?} of {records:?} at {target}");
-        let has_pair = |recording: &[u8]| mill::pair(recording, mill::Curve::B, target).map(|pair| pair.is_some());
-        assert_eq!(has_pair(&full), has_pair(&kept), "marks {marks:?} of {records:?} at {target}");
-    }
+    same_answers(random, records, &marks, &kept, &full);
     (full.len() - kept.len()) as u64
 }
 
@@ -68,6 +102,47 @@ fn plain_questions_answer_alike_on_kept_readings() {
         let records = recordings::accepted(random, 4096);
         kept_as_full(random, &records);
     });
+}
+
+/// What the user buys: a recording is thinned piece by piece, calls that are refused among them, the full one is wiped, and
+/// the readings held answer as it did.
+#[test]
+fn answers_last() {
+    cases("answers last", 4_000, |random| {
+        let records = if random.once_in(20) { with_many_tops(random) } else { recordings::any(random) };
+        let full = bytes(&records);
+        let marks = recordings::marks(random, &records);
+        let thin = |input: &[u8], room: usize| {
+            let (returned, kept) = bytes_of(input, &mark_bytes(&marks), room, mill_thin);
+            (mill_number(returned), kept)
+        };
+        let (mut held, mut at) = (Vec::new(), 0);
+        while at < full.len() {
+            let piece = &full[at..(at + 16 * random.below(9)).min(full.len())];
+            let input = [&held, piece].concat();
+            match random.below(5) {
+                0 => assert_eq!(thin(&[&input[..], &[0]].concat(), 1 << 16).0, 1),
+                1 => assert_eq!(thin(&[&input[..], &[255; 16]].concat(), 1 << 16).0, 3),
+                2 if !input.is_empty() => assert_eq!(thin(&input, 15).0, 10),
+                _ => {}
+            }
+            let (number, kept) = thin(&input, input.len());
+            assert_eq!(number, 0, "no piece is refused");
+            (held, at) = (kept, at + piece.len());
+        }
+        same_answers(random, &records, &marks, &held, &full);
+    });
+}
+
+#[test]
+fn nothing_kept_of_nothing() {
+    begin("nothing kept of nothing", 0);
+    assert_eq!(mill::thin(&[], &[40]), Ok(vec![]));
+    for text in ["high(A)", "lowafter(A,40)", "", "F(A>v"] {
+        assert_eq!(question(&[], text.as_bytes(), 512), 4);
+        assert_eq!(degree(&[], text.as_bytes(), 40), 4);
+    }
+    assert_eq!(pair(&[], 0, 40), 4);
 }
 
 #[test]

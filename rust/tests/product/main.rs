@@ -6,23 +6,17 @@ mod support;
 mod boundary;
 mod calls;
 mod damaged;
-#[cfg(feature = "questions")]
 mod degree;
-#[cfg(feature = "questions")]
 mod edges;
 mod exhaustive;
 mod guarded;
 mod header;
-#[cfg(feature = "questions")]
 mod laws;
 mod limits;
-#[cfg(feature = "questions")]
 mod page;
 mod pair;
-#[cfg(feature = "questions")]
 mod question;
 mod stack;
-#[cfg(feature = "questions")]
 mod texts;
 mod thinning;
 mod wrapper;

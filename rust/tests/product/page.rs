@@ -3,15 +3,25 @@
 //! A fenced block whose first line is ```` ```mill ```` holds examples, one to a line: a text, ` => `, and its answer on R1.
 //! An answer is `empty`; or runs in ascending order, parted by `, `, each a number or `low..high`, with `Lo` and `Hi` for the
 //! axis ends; or `refused` with number and place. ```` ```mill kept ```` asks R1's kept readings without marks,
-//! ```` ```mill kept 40 50 ```` those with these marks. Blank lines, and lines that begin with `#`, say nothing. Other
-//! fenced blocks are not looked at.
+//! ```` ```mill kept 40 50 ```` those with these marks. ```` ```mill degree 51 ```` asks for degrees of this target: `met`,
+//! `distance d, degree g` or `no value`. Blank lines, and lines that begin with `#`, say nothing. A block ```` ```ask ````
+//! holds lines `$ echo 'text' | ask`, each with what the program prints below it. Other fenced blocks are not looked at.
 
-use crate::support::recordings::r1_bytes;
-use mill::Run;
+use crate::support::r1::{self, r1_bytes};
+use mill::{Degree, Refusal, Run};
+
+/// How an example is asked, and its answer written.
+#[derive(Clone)]
+enum Asked {
+    OfR1,
+    OfKept(Vec<u32>),
+    Degree(i64),
+    AtThePrompt,
+}
 
 struct Example {
     line: usize,
-    kept: Option<Vec<u32>>,
+    asked: Asked,
     text: String,
     answer: String,
 }
@@ -20,8 +30,7 @@ struct Example {
 enum Block {
     None,
     Other,
-    /// Examples of R1, or of its kept readings under marks.
-    Examples(Option<Vec<u32>>),
+    Examples(Asked),
 }
 
 /// The examples of the page, or what is wrong with its form.
@@ -37,12 +46,24 @@ fn examples(page: &str) -> Result<Vec<Example>, String> {
             };
             continue;
         }
-        let Block::Examples(kept) = &block else { continue };
-        if line.trim().is_empty() || line.starts_with('#') {
+        let Block::Examples(asked) = &block else { continue };
+        let wrong = || format!("line {number} is no example: {line}");
+        let (text, answer) = if let Asked::AtThePrompt = asked {
+            match (line.strip_prefix("$ echo '"), found.last_mut()) {
+                (Some(rest), _) => (rest.strip_suffix("' | ask").ok_or_else(wrong)?, ""),
+                (None, Some(Example { asked: Asked::AtThePrompt, answer, .. })) => {
+                    answer.push_str(line);
+                    answer.push('\n');
+                    continue;
+                }
+                (None, _) => return Err(wrong()),
+            }
+        } else if line.trim().is_empty() || line.starts_with('#') {
             continue;
-        }
-        let (text, answer) = line.split_once("=> ").ok_or(format!("line {number} is no example: {line}"))?;
-        found.push(Example { line: number, kept: kept.clone(), text: text.trim().into(), answer: answer.trim().into() });
+        } else {
+            line.split_once("=> ").ok_or_else(wrong)?
+        };
+        found.push(Example { line: number, asked: asked.clone(), text: text.trim().into(), answer: answer.trim().into() });
     }
     match block {
         Block::None => Ok(found),
@@ -52,41 +73,64 @@ fn examples(page: &str) -> Result<Vec<Example>, String> {
 
 /// The block that a fence with this name opens.
 fn block_of(name: &str) -> Result<Block, String> {
-    let mut words = name.split_whitespace();
-    match (words.next(), words.next()) {
-        (Some("mill"), None) => Ok(Block::Examples(None)),
-        (Some("mill"), Some("kept")) => {
-            let marks: Result<Vec<u32>, _> = words.map(str::parse).collect();
-            Ok(Block::Examples(Some(marks.map_err(|_| format!("marks of '{name}'"))?)))
+    let words: Vec<&str> = name.split_whitespace().collect();
+    let unread = |_| format!("numbers of '{name}'");
+    Ok(match words[..] {
+        ["mill"] => Block::Examples(Asked::OfR1),
+        ["mill", "kept", ref marks @ ..] => {
+            let marks: Result<Vec<u32>, _> = marks.iter().map(|mark| mark.parse()).collect();
+            Block::Examples(Asked::OfKept(marks.map_err(unread)?))
         }
-        (Some("mill"), Some(other)) => Err(format!("unknown block '{other}'")),
-        _ => Ok(Block::Other),
-    }
+        ["mill", "degree", target] => Block::Examples(Asked::Degree(target.parse().map_err(unread)?)),
+        ["mill", ..] => return Err(format!("unknown block '{name}'")),
+        ["ask"] => Block::Examples(Asked::AtThePrompt),
+        _ => Block::Other,
+    })
 }
 
 /// The answer of the library, written as the page writes it.
 fn answer(example: &Example) -> String {
-    let recording = match &example.kept {
-        None => r1_bytes(),
-        Some(marks) => mill::thin(&r1_bytes(), marks).expect("accepted marks"),
+    let (r1, text) = (r1_bytes(), example.text.as_bytes());
+    let written = match &example.asked {
+        Asked::OfR1 => mill::question(&r1, text).map(|runs| on_the_page(&runs)),
+        Asked::OfKept(marks) => {
+            let kept = mill::thin(&r1, marks).expect("accepted marks");
+            mill::question(&kept, text).map(|runs| on_the_page(&runs))
+        }
+        Asked::Degree(target) => mill::degree(&r1, text, *target).map(|degree| match degree {
+            Degree::Met => "met".into(),
+            Degree::Short { distance, degree } => format!("distance {distance}, degree {degree}"),
+            Degree::NoValue => "no value".into(),
+        }),
+        Asked::AtThePrompt => return at_the_prompt(mill::question(&r1, text)),
     };
-    match mill::question(&recording, example.text.as_bytes()) {
-        Err(refusal) => refusal.to_string(),
-        Ok(runs) if runs.is_empty() => "empty".into(),
-        Ok(runs) => runs.iter().map(written).collect::<Vec<_>>().join(", "),
-    }
+    written.unwrap_or_else(|refusal| refusal.to_string())
 }
 
-fn written(run: &Run) -> String {
+fn on_the_page(runs: &[Run]) -> String {
     let number = |number: i32| match number {
         -2_000_000_000 => "Lo".to_string(),
         2_000_000_000 => "Hi".to_string(),
         other => other.to_string(),
     };
-    if run.low == run.high {
-        number(run.low)
-    } else {
-        format!("{}..{}", number(run.low), number(run.high))
+    let written = |run: &Run| match run.low == run.high {
+        true => number(run.low),
+        false => format!("{}..{}", number(run.low), number(run.high)),
+    };
+    match runs {
+        [] => "empty".into(),
+        _ => runs.iter().map(written).collect::<Vec<_>>().join(", "),
+    }
+}
+
+/// The lines that the program prints.
+fn at_the_prompt(outcome: Result<Vec<Run>, Refusal>) -> String {
+    match outcome {
+        Ok(runs) => {
+            let lines: String = runs.iter().map(|run| format!("{} {}\n", run.low, run.high)).collect();
+            format!("runs {}\n{lines}", runs.len())
+        }
+        Err(refusal) => format!("{refusal}\n"),
     }
 }
 
@@ -125,6 +169,10 @@ fn the_page_answers_as_the_library() {
         "U(",
         "W(",
     ];
+    let has = |wanted: &str| examples.iter().any(|example| matches!(example.asked, Asked::OfR1) && example.text == wanted);
+    for (text, _) in r1::ANSWERS {
+        assert!(has(text), "{path} has no example {text}");
+    }
     for name in names {
         assert!(examples.iter().any(|example| example.text.contains(name)), "{path} has no example with {name}");
     }
@@ -157,15 +205,37 @@ F(A=60&X(A=v)) => empty
 F(T=v&A=55) => 50
 F(T=v&A=55) => empty
 ```
+```mill degree 51
+peaks(A) => distance 19, degree 0.05
+peaks(A) => distance 19, degree 0.06
+high(A) => met
+lag => no value
+```
+```ask
+$ echo 'peaks(A)' | ask
+runs 2
+30 30
+70 70
+$ echo 'lag' | ask
+runs 0
+$ echo 'lag' | ask
+runs 1
+$ echo 'F(A>v' | ask
+refused 6 0
+```
 ";
     let found = examples(page).unwrap();
-    assert_eq!(found.len(), 8);
+    assert_eq!(found.len(), 16);
     let wrong = wrong(&found);
-    assert_eq!(wrong.len(), 2, "{wrong:?}");
+    assert_eq!(wrong.len(), 4, "{wrong:?}");
     assert_eq!(wrong[0], "line 7: A=v|A>90 => 40, and not refused 9 9");
     assert_eq!(wrong[1], "line 22: F(T=v&A=55) => 50, and not empty");
+    assert_eq!(wrong[2], "line 26: peaks(A) => distance 19, degree 0.05, and not distance 19, degree 0.06");
+    assert_eq!(wrong[3], "line 37: lag => runs 0\n, and not runs 1\n");
     assert!(examples("```mill\nlag\n```\n").is_err());
     assert!(examples("```mill\nlag => empty\n").is_err());
     assert!(examples("```mill keep\n```\n").is_err());
     assert!(examples("```mill kept x\n```\n").is_err());
+    assert!(examples("```mill degree\n```\n").is_err());
+    assert!(examples("```ask\nruns 0\n```\n").is_err());
 }

@@ -5,9 +5,7 @@ use crate::support::cases::begin;
 use crate::support::painted;
 use crate::support::recordings::{flat, put_top, with_tops};
 use mill::reference::recording::bytes;
-#[cfg(feature = "questions")]
-use mill::sys::{mill_degree, mill_question};
-use mill::sys::{mill_pair, mill_thin};
+use mill::sys::*;
 use std::collections::BTreeMap;
 
 /// The stack with which every call must do.
@@ -27,7 +25,6 @@ fn wide() -> Vec<u8> {
 }
 
 /// The deepest texts: read whole before they are refused, or evaluated.
-#[cfg(feature = "questions")]
 fn texts() -> Vec<String> {
     let nested =
         |open: &str, inner: &str, close: &str, count: usize| format!("{}{inner}{}", open.repeat(count), close.repeat(count));
@@ -55,9 +52,23 @@ fn texts() -> Vec<String> {
         "peaks(A)|gaps(A)|steps(B)|lag".into(),
         "lag".into(),
         "gaps(A)".into(),
-        format!("{}lag", "peaks(A)|".repeat(15)),
+        format!("!{}lag", "peaks(A)|".repeat(15)),
+        nested("!", "lag", "", 31),
+        nested("!", "gaps(A)", "", 31),
         format!("A>{}", "1".repeat(254)),
         "x".into(),
+        // Open to the last byte: no reading, and the deepest way to find that out.
+        "(".repeat(256),
+        "!".repeat(256),
+        "!(".repeat(128),
+        "F(".repeat(128),
+        "U(".repeat(128),
+        "(!".repeat(128),
+        "A=v|(".repeat(51),
+        "A=v&(".repeat(51),
+        "A=v|A=v&(".repeat(28),
+        "U(A=v,".repeat(42),
+        "W(A=v|A=v,".repeat(25),
     ]
 }
 
@@ -69,9 +80,7 @@ const MARKS: [u8; 32] = [1, 0, 0, 0, 0, 1, 0, 0, 0, 2, 0, 0, 0, 3, 0, 0, 0, 4, 0
 
 /// A call with what it is called on.
 enum Job {
-    #[cfg(feature = "questions")]
     Question(Vec<u8>, String),
-    #[cfg(feature = "questions")]
     Degree(Vec<u8>, String),
     Pair(Vec<u8>, i64),
     Thin(Vec<u8>),
@@ -80,7 +89,6 @@ enum Job {
 fn jobs() -> Vec<Job> {
     let mut jobs = Vec::new();
     for recording in recordings() {
-        #[cfg(feature = "questions")]
         for text in texts() {
             jobs.push(Job::Question(recording.clone(), text.clone()));
             jobs.push(Job::Degree(recording.clone(), text));
@@ -98,11 +106,9 @@ fn run(job: &Job, out: &mut [u8]) -> u64 {
     // SAFETY: each pointer lies before as many bytes as its length says, or before its number.
     unsafe {
         match job {
-            #[cfg(feature = "questions")]
             Job::Question(recording, text) => {
                 mill_question(recording.as_ptr(), recording.len(), text.as_ptr(), text.len(), out.as_mut_ptr(), out.len())
             }
-            #[cfg(feature = "questions")]
             Job::Degree(recording, text) => {
                 let mut real = 0f64;
                 mill_degree(recording.as_ptr(), recording.len(), text.as_ptr(), text.len(), 7, &mut one, &mut real)
@@ -133,9 +139,7 @@ fn every_call_with_a_small_stack() {
         .unwrap();
     assert_eq!(in_small.join().unwrap(), expected);
     assert!(expected.iter().any(|returned| *returned == 1) && expected.iter().any(|returned| *returned > 1_000));
-    #[cfg(feature = "questions")]
     let refused = |number: u64| expected.iter().filter(|returned| **returned >> 32 == number).count();
-    #[cfg(feature = "questions")]
     assert!(refused(0) > 40 && refused(7) > 20 && refused(8) > 4, "the jobs reach results and refusals 7 and 8");
 }
 
@@ -148,20 +152,18 @@ fn peak_of_every_call() {
         let peak = painted::peak(&mut || {
             run(job, &mut out);
         });
-        let call = match job {
-            #[cfg(feature = "questions")]
-            Job::Question(..) => "mill_question",
-            #[cfg(feature = "questions")]
-            Job::Degree(..) => "mill_degree",
-            Job::Pair(..) => "mill_pair",
-            Job::Thin(_) => "mill_thin",
+        let (call, said) = match job {
+            Job::Question(..) => ("mill_question", MILL_STACK_QUESTION),
+            Job::Degree(..) => ("mill_degree", MILL_STACK_DEGREE),
+            Job::Pair(..) => ("mill_pair", MILL_STACK_PAIR),
+            Job::Thin(_) => ("mill_thin", MILL_STACK_THIN),
         };
-        let most = peaks.entry(call).or_insert(0);
+        let (most, _) = peaks.entry(call).or_insert((0, said));
         *most = peak.max(*most);
     }
-    for (call, peak) in peaks {
-        println!("{call}: {peak} bytes of stack at most");
-        assert!(peak > 0 && peak < SMALL_STACK, "{call} needs {peak} bytes of stack");
+    for (call, (peak, said)) in peaks {
+        println!("{call}: {peak} bytes of stack at most, {said} in the header");
+        assert!(peak > 0 && peak <= said, "{call} needs {peak} bytes of stack, and the header says {said}");
     }
 }
 

@@ -3,7 +3,8 @@
 
 use crate::calls::{question, Tally};
 use crate::support::cases::begin;
-use crate::support::recordings::r1_bytes;
+use crate::support::r1::r1_bytes;
+use crate::support::texts::GOOD;
 
 /// Asks every text of `least` to `most` words on R1; how many have a reading.
 fn every_text(name: &'static str, words: &[&str], most: usize) -> u64 {
@@ -53,41 +54,8 @@ fn every_short_number() {
 #[test]
 fn every_text_one_byte_away() {
     let recording = r1_bytes();
-    let texts = [
-        "A>=v",
-        "B<=v",
-        "T>v",
-        "A<v",
-        "B=v",
-        "T>=30",
-        "A<=-7",
-        "A>B",
-        "A<=B",
-        "fall(A)",
-        "rise(B)",
-        "high(A)",
-        "low(B)",
-        "lowafter(A,40)",
-        "capafter(B,0)",
-        "peaks(A)",
-        "cross",
-        "ampl(A)",
-        "gaps(B)",
-        "steps(A)",
-        "lag",
-        "!A=v",
-        "(A=v)",
-        "F(A=v)",
-        "G(B<v)",
-        "X(T=v)",
-        "U(A=v,B=v)",
-        "W(A>v,T=v)",
-        "A=v|B=v&T=v",
-        "A=2000000000",
-        "A=-2000000000",
-    ];
     let mut tally = Tally::default();
-    for (case, text) in texts.iter().enumerate() {
+    for (case, text) in GOOD.iter().enumerate() {
         begin("every text one byte away", case as u64);
         let text = text.as_bytes();
         assert_ne!(question(&recording, text, 512), 6);

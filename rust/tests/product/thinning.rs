@@ -3,6 +3,7 @@
 
 use crate::calls::{bytes_of, thin, thin_as, Tally};
 use crate::support::cases::{self, cases};
+use crate::support::r1::r1_bytes;
 use crate::support::random::Random;
 use crate::support::recordings::{self, damaged, flat, odd_marks, put_top, with_many_tops};
 use mill::reference::book::Book;
@@ -192,7 +193,7 @@ fn one_reading_at_a_time() {
 #[test]
 fn refused_pieces_are_not_taken() {
     cases::begin("refused pieces are not taken", 0);
-    let r1 = recordings::r1_bytes();
+    let r1 = r1_bytes();
     let mut calls = Calls::begin(&[]);
     assert_eq!(calls.call(&r1[..17], 1000), 1);
     assert_eq!(calls.call(&r1[..64], 47), 10);

@@ -1,15 +1,9 @@
 //! Covers: the safe wrapper: R1's lines through it, every refusal by its name, number and place.
 
-use crate::support::recordings::{flat, r1_bytes, with_tops};
+use crate::support::r1::{r1_bytes, ANSWERS, KEPT};
+use crate::support::recordings::{flat, with_tops};
 use mill::reference::recording::bytes;
-use mill::{Curve, Pair, Reading, Refusal, Slope};
-#[cfg(feature = "questions")]
-use mill::{Degree, Run};
-
-#[cfg(feature = "questions")]
-const LOW: i32 = -2_000_000_000;
-#[cfg(feature = "questions")]
-const HIGH: i32 = 2_000_000_000;
+use mill::{Curve, Degree, Pair, Reading, Refusal, Run, Slope};
 
 fn r1() -> Vec<u8> {
     use Slope::{Falling, Flat, Rising};
@@ -29,33 +23,19 @@ fn r1() -> Vec<u8> {
 fn r1_lines() {
     let recording = r1();
     assert_eq!(recording, r1_bytes());
-    let kept = |marks: &[u32]| -> Vec<u8> { mill::thin(&recording, marks).unwrap().chunks(16).map(|record| record[0]).collect() };
-    assert_eq!(kept(&[]), [0, 20, 30, 40, 60, 70]);
-    assert_eq!(kept(&[40]), [0, 20, 30, 40, 50, 60, 70]);
+    for (text, expected) in ANSWERS {
+        let runs = mill::question(&recording, text.as_bytes()).expect(text);
+        let runs: Vec<(i64, i64)> = runs.iter().map(|Run { low, high }| ((*low).into(), (*high).into())).collect();
+        assert_eq!(runs, expected, "{text}");
+    }
+    for (marks, expected) in KEPT {
+        let kept = mill::thin(&recording, marks).unwrap();
+        let times: Vec<i64> = kept.chunks(16).map(|record| record[0].into()).collect();
+        assert_eq!(times, expected, "{marks:?}");
+    }
     assert_eq!(mill::pair(&recording, Curve::A, 40), Ok(Some(Pair { earlier: 30, later: 70 })));
     assert_eq!(mill::pair(&recording, Curve::A, 41), Ok(None));
     assert_eq!(mill::pair(&recording, Curve::B, 40), Ok(None));
-}
-
-#[cfg(feature = "questions")]
-#[test]
-fn r1_answers() {
-    let recording = r1();
-    let runs = |text: &str| -> Vec<(i32, i32)> {
-        let runs = mill::question(&recording, text.as_bytes()).expect(text);
-        runs.iter().map(|Run { low, high }| (*low, *high)).collect()
-    };
-    assert_eq!(runs("high(A)"), [(LOW, 90)]);
-    assert_eq!(runs("low(A)"), [(30, HIGH)]);
-    assert_eq!(runs("ampl(A)"), [(LOW, 60)]);
-    assert_eq!(runs("peaks(A)"), [(30, 30), (70, 70)]);
-    assert_eq!(runs("gaps(A)"), [(40, 40)]);
-    assert_eq!(runs("cross"), [(40, 40), (70, 70)]);
-    assert_eq!(runs("lag"), []);
-    assert_eq!(runs("lowafter(A,40)"), [(45, HIGH)]);
-    assert_eq!(runs("lowafter(A,70)"), []);
-    assert_eq!(runs("capafter(A,70)"), [(LOW, HIGH)]);
-    assert_eq!(runs("U(A>=40,A=v)"), [(30, 30), (40, 40), (60, 60), (70, 70), (80, 80)]);
     assert_eq!(mill::degree(&recording, b"peaks(A)", 30), Ok(Degree::Met));
     assert_eq!(mill::degree(&recording, b"peaks(A)", 51), Ok(Degree::Short { distance: 19, degree: 0.05 }));
     assert_eq!(mill::degree(&recording, b"lag", 30), Ok(Degree::NoValue));
@@ -88,7 +68,6 @@ fn every_refusal() {
     assert_eq!(found[7].1, Refusal::ShortOutput);
 }
 
-#[cfg(feature = "questions")]
 #[test]
 fn every_refusal_of_questions() {
     let recording = r1();
@@ -120,12 +99,9 @@ fn every_refusal_of_questions() {
 
 #[test]
 fn outputs_stay_behind_the_result() {
-    #[cfg(feature = "questions")]
-    {
-        let mut out = [7; 40];
-        assert_eq!(mill::question_into(&r1(), b"peaks(A)", &mut out), Ok(16));
-        assert_eq!(out[16..], [7; 24]);
-    }
+    let mut out = [7; 40];
+    assert_eq!(mill::question_into(&r1(), b"peaks(A)", &mut out), Ok(16));
+    assert_eq!(out[16..], [7; 24]);
     let mut out = [7; 130];
     assert_eq!(mill::thin_into(&r1(), &[], &mut out), Ok(96));
     assert_eq!(out[96..], [7; 34]);

@@ -2,6 +2,7 @@
 //! thinning the whole; marks.
 
 use crate::support::cases::cases;
+use crate::support::r1::r1_bytes;
 use crate::support::recordings;
 use mill::reference::book::Book;
 use mill::reference::kept::{accepted_marks, chosen, chosen_by_rule, mark_bytes};
@@ -46,7 +47,7 @@ fn the_book_keeps_what_the_whole_keeps() {
 
 #[test]
 fn refused_calls_leave_the_join() {
-    let r1 = recordings::r1_bytes();
+    let r1 = r1_bytes();
     let mut book = Book::open(&[]);
     assert_eq!(book.call(&r1[..17], 1000), Err(Refused::plain(1)));
     assert_eq!(book.call(&r1[..64], 47), Err(Refused::plain(10)));

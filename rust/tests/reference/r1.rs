@@ -1,6 +1,7 @@
 //! Covers: recording R1's lines, the table's examples and its orders, on the independent implementation.
 
-use crate::support::recordings::{flat, r1, r1_bytes, with_tops};
+use crate::support::r1::{r1, r1_bytes, ANSWERS, KEPT, ONLY_NEXT_SEES};
+use crate::support::recordings::{flat, with_tops};
 use mill::reference::set::{HIGH, LOW};
 use mill::reference::{degree, kept, pairs, question, recording, thin, Degree, Refused};
 
@@ -27,26 +28,20 @@ fn times(bytes: &[u8]) -> Vec<i64> {
 
 #[test]
 fn marked_lines() {
-    assert_eq!(runs("high(A)"), [(LOW, 90)]);
-    assert_eq!(runs("low(A)"), [(30, HIGH)]);
-    assert_eq!(runs("ampl(A)"), [(LOW, 60)]);
-    assert_eq!(runs("peaks(A)"), [(30, 30), (70, 70)]);
-    assert_eq!(runs("gaps(A)"), [(40, 40)]);
-    assert_eq!(runs("cross"), [(40, 40), (70, 70)]);
-    assert_eq!(runs("lag"), []);
-    assert_eq!(runs("lowafter(A,40)"), [(45, HIGH)]);
-    assert_eq!(runs("lowafter(A,70)"), []);
-    assert_eq!(runs("capafter(A,70)"), [(LOW, HIGH)]);
-    assert_eq!(runs("U(A>=40,A=v)"), [(30, 30), (40, 40), (60, 60), (70, 70), (80, 80)]);
-    assert_eq!(times(&thin(&r1_bytes(), &[], ROOM).unwrap()), [0, 20, 30, 40, 60, 70]);
-    assert_eq!(times(&thin(&r1_bytes(), &kept::mark_bytes(&[40]), ROOM).unwrap()), [0, 20, 30, 40, 50, 60, 70]);
+    for (text, expected) in ANSWERS {
+        assert_eq!(runs(text), expected, "{text}");
+    }
+    for (marks, expected) in KEPT {
+        let marks: Vec<i64> = marks.iter().map(|mark| i64::from(*mark)).collect();
+        assert_eq!(times(&thin(&r1_bytes(), &kept::mark_bytes(&marks), ROOM).unwrap()), expected, "{marks:?}");
+    }
 }
 
 #[test]
 fn kept_readings_lose_what_only_x_sees() {
-    let text = "F(A=60&X(A=v))";
-    assert_eq!(runs(text), [(80, 80)]);
-    assert_eq!(runs_of(&thin(&r1_bytes(), &[], ROOM).unwrap(), text), []);
+    let (text, on_full, on_kept) = ONLY_NEXT_SEES;
+    assert_eq!(runs(text), on_full);
+    assert_eq!(runs_of(&thin(&r1_bytes(), &[], ROOM).unwrap(), text), on_kept);
 }
 
 #[test]

@@ -4,6 +4,7 @@
 pub mod cases;
 pub mod compared;
 pub mod painted;
+pub mod r1;
 pub mod random;
 pub mod recordings;
 pub mod texts;

@@ -1,19 +1,8 @@
-//! Recordings of many shapes, R1, marks, and damage.
+//! Recordings of many shapes, marks, and damage.
 
 use super::random::Random;
 use mill::reference::recording::{self, Record, FALLING, FLAT, MOST_TIME, MOST_VALUE, RISING};
 use std::cmp::Ordering;
-
-/// Recording R1.
-pub fn r1() -> Vec<Record> {
-    let a = [40, 60, 80, 70, 30, 55, 90, 45];
-    let slopes = [2, 2, 2, 0, 0, 2, 2, 0];
-    (0..8).map(|i| Record { time: 10 * i as i64, value: [a[i], 50], slope: [slopes[i], FLAT] }).collect()
-}
-
-pub fn r1_bytes() -> Vec<u8> {
-    recording::bytes(&r1())
-}
 
 /// `count` flat records at times 0, 1, .., all values 0.
 pub fn flat(count: usize) -> Vec<Record> {

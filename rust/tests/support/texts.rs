@@ -4,6 +4,41 @@ use super::random::Random;
 use mill::reference::recording::Record;
 use mill::reference::set::{HIGH, LOW};
 
+/// Texts with a reading, each kind of piece among them.
+pub const GOOD: [&str; 31] = [
+    "A>=v",
+    "B<=v",
+    "T>v",
+    "A<v",
+    "B=v",
+    "T>=30",
+    "A<=-7",
+    "A>B",
+    "A<=B",
+    "fall(A)",
+    "rise(B)",
+    "high(A)",
+    "low(B)",
+    "lowafter(A,40)",
+    "capafter(B,0)",
+    "peaks(A)",
+    "cross",
+    "ampl(A)",
+    "gaps(B)",
+    "steps(A)",
+    "lag",
+    "!A=v",
+    "(A=v)",
+    "F(A=v)",
+    "G(B<v)",
+    "X(T=v)",
+    "U(A=v,B=v)",
+    "W(A>v,T=v)",
+    "A=v|B=v&T=v",
+    "A=2000000000",
+    "A=-2000000000",
+];
+
 /// Which operators and names a made text has.
 #[derive(Clone, Copy, PartialEq, Eq)]
 pub enum Kind {

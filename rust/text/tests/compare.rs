@@ -7,7 +7,7 @@ mod support;
 use mill::reference::splits::readings;
 use mill::reference::text::{accepted, most_open_brackets, Node, MOST_BRACKETS, MOST_NODES};
 use support::cases::{begin, cases, one_alone};
-use support::{compared, painted, recordings, texts};
+use support::{compared, painted, r1, texts};
 use text_compare::{read, SHORT_TABLE, TABLE_SIZE};
 
 /// The number of nodes, or refusal 5, 6 or 7, held to the independent reader.
@@ -75,44 +75,10 @@ fn every_short_text_of_tokens() {
     assert_eq!(every(&["A=0", "A=-", "0", "1", "2", "9", "-"], 5), 1 + 3 * (1 + 4 + 16 + 64));
 }
 
-const GOOD: [&str; 31] = [
-    "A>=v",
-    "B<=v",
-    "T>v",
-    "A<v",
-    "B=v",
-    "T>=30",
-    "A<=-7",
-    "A>B",
-    "A<=B",
-    "fall(A)",
-    "rise(B)",
-    "high(A)",
-    "low(B)",
-    "lowafter(A,40)",
-    "capafter(B,0)",
-    "peaks(A)",
-    "cross",
-    "ampl(A)",
-    "gaps(B)",
-    "steps(A)",
-    "lag",
-    "!A=v",
-    "(A=v)",
-    "F(A=v)",
-    "G(B<v)",
-    "X(T=v)",
-    "U(A=v,B=v)",
-    "W(A>v,T=v)",
-    "A=v|B=v&T=v",
-    "A=2000000000",
-    "A=-2000000000",
-];
-
 #[test]
 fn every_text_one_byte_away() {
     let mut read = 0;
-    for (case, text) in GOOD.iter().enumerate() {
+    for (case, text) in texts::GOOD.iter().enumerate() {
         begin("every text one byte away", case as u64);
         let text = text.as_bytes();
         assert!(agree(text).is_ok());
@@ -135,7 +101,7 @@ fn every_text_one_byte_away() {
 fn made_and_changed_texts() {
     let mut outcomes = std::collections::BTreeMap::<u32, u64>::new();
     cases("made and changed texts", 150_000, |random| {
-        let records = if random.once_in(3) { recordings::r1() } else { Vec::new() };
+        let records = if random.once_in(3) { r1::r1() } else { Vec::new() };
         let most = random.pick(&[4, 9, 9, 20, 45]);
         let size = 1 + random.below(most);
         let text = texts::made(random, texts::Kind::Mixed, size, &records);
