@@ -10,3 +10,6 @@ pub mod PageLaws
 pub mod TypedLaws
 pub mod IntakeLaws
 pub mod PrintedLaws
+pub mod LengthLaws
+pub mod TenLaws
+pub mod Examples
