@@ -88,6 +88,6 @@ turned-small w = omega arith
 
 pub signed-fits : (w : ℕ) → length (signedDecimal (signed w)) ≤ 11
 signed-fits w =
-    ⊎-elim (λ h. let f : length (decimal (middle - turned w)) ≤ 10 = decimal-fits (middle - turned w) 9 (omega arith) in rw (signed-below w (turned w) refl h) (omega arith))
-    (λ h. let f : length (decimal (turned w - middle)) ≤ 10 = decimal-fits (turned w - middle) 9 (omega (arith, turned-small w)) in rw (signed-above w (turned w) refl h) (omega arith))
+    ⊎-elim (λ h. omega (arith, ap length (signed-below w (turned w) refl h), decimal-fits (middle - turned w) 9 (omega arith)))
+    (λ h. omega (arith, ap length (signed-above w (turned w) refl h), decimal-fits (turned w - middle) 9 (omega (arith, turned-small w))))
     (less-or-not (turned w) middle)
