@@ -1,8 +1,8 @@
 -- Worked examples, by computing.
-use Prim.Native.Nat.{ℕ, zero, suc}
+use Prim.Native.Nat.{ℕ}
 use mathlib.Core.Path.{_≡_, refl, sym, ap₂}
 use native.Mathlib.Omega.{arith}
-use mathlib.Core.List.{List, [], _∷_, _++_}
+use mathlib.Core.List.{List, [], _++_}
 use Rattle.number.specs.Least.{least}
 use Rattle.number.specs.Words.{wordBytes, turned, signed}
 use Rattle.refusal.specs.Outcome.{result, refused}
@@ -13,7 +13,7 @@ use Rattle.page.specs.Page.{newline, runLine, runLines, page}
 use Rattle.page.specs.Typed.{withoutNewline}
 
 -- R1 and `peaks(A)`: the runs 30..30 and 70..70
-two-runs : page (result (wordBytes 30 ++ wordBytes 30 ++ wordBytes 70 ++ wordBytes 70))
+pub two-runs : page (result (wordBytes 30 ++ wordBytes 30 ++ wordBytes 70 ++ wordBytes 70))
     ≡ bytes "runs 2" ++ newline ++ bytes "30 30" ++ newline ++ bytes "70 70" ++ newline
 unfolding page runLines runLine signedDecimal decimal places least signed turned
 two-runs = refl

@@ -7,9 +7,9 @@ use lib.Dec.{ltb}
 use lib.ListN.{length, take}
 use Rattle.text.specs.Size.{mostBytes}
 
--- A limit is given in blocks of 16 bytes, the size of a record.
+-- A limit is given in blocks of 16 bytes, the size of a record. That of a recording is `mostRecords`.
 
--- a text over 256 bytes with its newline is over 17 blocks or within them
+-- the limit of a text: 272 bytes, so that the longest text lies within it with its newline
 abbrev pub textBlocks : ℕ
 textBlocks = mostBytes / 16 + 1
 

@@ -1,6 +1,6 @@
 -- Inputs past their limits: the refusal that their true length fixes.
-use Prim.Native.Nat.{ℕ, _+_, _*_, _/_, _%_, _≤_, _<_}
-use mathlib.Core.Path.{_≡_, refl, sym, ap, ap₂, _∙_}
+use Prim.Native.Nat.{ℕ, _+_, _*_, _/_, _%_, _<_}
+use mathlib.Core.Path.{_≡_, refl, sym, ap, _∙_}
 use mathlib.Core.Bool.{Bool, true, false, cond, not, _||_}
 use mathlib.Core.List.{List, [], _∷_, _++_}
 use mathlib.Core.Logic.{⊎-elim}
@@ -18,12 +18,12 @@ use Rattle.number.specs.OrderLaws.{less-or-not}
 use Rattle.runset.specs.Runs.{setBytes}
 use Rattle.text.specs.Parse.{reading}
 use Rattle.text.specs.Size.{mostBytes}
-use Rattle.text.specs.Told.{textLines, badLength, noReading, tooLarge}
-use Rattle.question.specs.Question.{read, answer, askingLines, setLines, questionOf}
+use Rattle.text.specs.Told.{badLength, noReading, tooLarge}
+use Rattle.question.specs.Question.{read, answer, setLines, questionOf}
 use Rattle.page.specs.Typed.{withoutNewline}
 use Rattle.page.specs.TypedLaws.{typed-length}
 use Rattle.page.specs.Intake.{spare, textBlocks, StandsFor}
-use Rattle.page.specs.IntakeLaws.{kept-over, kept-within, kept-fits}
+use Rattle.page.specs.IntakeLaws.{kept-over, kept-fits}
 use Rattle.page.specs.Printed.{setRoom, printed}
 use Rattle.page.specs.Page.{page}
 

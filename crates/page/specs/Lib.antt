@@ -13,3 +13,4 @@ pub mod PrintedLaws
 pub mod LengthLaws
 pub mod TenLaws
 pub mod Examples
+pub mod R1Page

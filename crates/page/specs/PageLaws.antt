@@ -1,7 +1,7 @@
 -- The length of a page.
-use Prim.Native.Nat.{ℕ, zero, suc, _+_, _*_, _/_, _^_, _≤_, _<_}
-use mathlib.Core.Path.{_≡_, refl, sym, ap, subst, _∙_}
-use mathlib.Core.List.{List, [], _∷_, _++_}
+use Prim.Native.Nat.{ℕ, zero, suc, _+_, _*_, _/_, _≤_, _<_}
+use mathlib.Core.Path.{_≡_, sym, ap, subst}
+use mathlib.Core.List.{List}
 use mathlib.Core.Logic.{⊎-elim}
 use native.Mathlib.Omega.{arith}
 use native.Mathlib.Numerals.{add-one}
@@ -10,10 +10,9 @@ use lib.ListN.{length, length-append}
 use Rattle.number.specs.OrderLaws.{less-or-not}
 use Rattle.number.specs.Words.{word, signed}
 use Rattle.refusal.specs.Outcome.{result, refused}
-use Rattle.text.specs.Bytes.{bytes}
 use Rattle.page.specs.Decimal.{decimal, signedDecimal}
 use Rattle.page.specs.DecimalLaws.{decimal-fits, signed-fits}
-use Rattle.page.specs.Page.{newline, runLine, runLines, page}
+use Rattle.page.specs.Page.{runLine, runLines, page}
 use Rattle.page.specs.Puts.{Puts}
 use Rattle.page.specs.PutsLaws.{puts-nothing, puts-then}
 use Rattle.page.specs.Printed.{pageSize, setRoom}

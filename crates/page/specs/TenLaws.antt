@@ -1,15 +1,15 @@
 -- Refusal 10 is never printed: a set that 8 does not refuse fits the output.
-use Prim.Native.Nat.{ℕ, zero, suc, _*_, _/_, _<_, _≤_}
-use mathlib.Core.Path.{_≡_, refl, sym, ap, ap₂, _∙_}
+use Prim.Native.Nat.{ℕ, zero, suc, _<_}
+use mathlib.Core.Path.{_≡_, refl, sym, ap, _∙_}
 use mathlib.Core.Bool.{Bool, true, false, cond, _||_}
-use mathlib.Core.List.{List, [], _∷_, _++_, map}
+use mathlib.Core.List.{List, [], _∷_, _++_}
 use mathlib.Core.Logic.{⊎-elim}
 use native.Mathlib.Omega.{arith}
 use lib.Dec.{eqb, ltb}
 use lib.ListN.{length, length-map}
 use borrow.Author.Tests.{ltb-true, lt-ltb, eqb-false}
 use Rattle.number.specs.OrderLaws.{true-or-false}
-use Rattle.refusal.specs.Outcome.{Outcome, result, refused, Line, line, judged}
+use Rattle.refusal.specs.Outcome.{Outcome, refused, Line, line, judged}
 use Rattle.recording.specs.Recording.{records, reading, readings, recordingLines, noRecord}
 use Rattle.recording.specs.Output.{outputLine}
 use Rattle.recording.specs.OutcomeLaws.{judged-skip, no-result}
@@ -19,7 +19,7 @@ use Rattle.text.specs.Syntax.{Text, atom, listed, or, and, neg, finally, global
 use Rattle.text.specs.Told.{textLines}
 use Rattle.meaning.specs.Overfull.{temporal}
 use Rattle.meaning.specs.Coded.{Coded, code, coded}
-use Rattle.meaning.specs.Truth.{val, largeAt, someNode, overAt, someBelow, refused8, refused9}
+use Rattle.meaning.specs.Truth.{largeAt, someNode, overAt, someBelow, refused8, refused9}
 use Rattle.question.specs.Question.{read, answer, askingLines, setLines, questionOf}
 use Rattle.page.specs.LengthLaws.{line-stands}
 use Rattle.page.specs.Printed.{setRoom}

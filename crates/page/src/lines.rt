@@ -1,5 +1,5 @@
 // The lines of a page.
-ghost use Prim.Native.Nat.{ℕ, _+_, _*_, _≤_, _<_};
+ghost use Prim.Native.Nat.{_+_, _*_, _≤_, _<_};
 ghost use lib.ListN.{length};
 ghost use Rattle.refusal.specs.Outcome.{result, refused};
 ghost use Rattle.refusal.specs.Numbers.{numberOf, placeOf};

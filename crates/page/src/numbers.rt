@@ -1,5 +1,5 @@
 // Numbers in decimal, put into the output.
-ghost use Prim.Native.Nat.{ℕ, _+_, _≤_, _<_};
+ghost use Prim.Native.Nat.{_+_, _≤_, _<_};
 ghost use lib.ListN.{length};
 ghost use Rattle.number.specs.Words.{signed};
 ghost use Rattle.page.specs.Decimal.{decimal, signedDecimal};

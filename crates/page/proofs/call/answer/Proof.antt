@@ -6,7 +6,7 @@ use Rattle.page.specs.Printed.{setRoom, printed}
 use Rattle.page.specs.PrintedLaws.{told-refusal, told-set, told-within, puts-prints, prints-within}
 use Rattle.question.specs.Question.{questionOf}
 use borrow.Author.Needs.{needs}
-use lib.ListN.{length, take}
+use lib.ListN.{take}
 use lib.Seq.{length-take-le}
 use mathlib.Core.List.{List}
 use mathlib.Core.Path.{ap, sym, _∙_}

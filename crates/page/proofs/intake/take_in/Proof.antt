@@ -1,5 +1,5 @@
 -- Past the limit only the length is kept.
-use Prim.Native.Nat.{_+_, _-_, _%_}
+use Prim.Native.Nat.{_-_}
 use Rattle.page.specs.IntakeLaws.{intake-over, stands-within}
 use borrow.Author.Needs.{needs}
 use lib.ListN.{length}

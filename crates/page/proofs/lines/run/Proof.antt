@@ -4,7 +4,6 @@ use Rattle.page.specs.Page.{runLine}
 use Rattle.page.specs.PageLaws.{runLine-length}
 use Rattle.page.specs.PutsLaws.{puts-four}
 use borrow.Author.Needs.{needs}
-use lib.ListN.{length}
 use native.Mathlib.Omega.{arith}
 use Rattle.page.proofs.lines.run.Statement.{statement}
 use Rattle.page.proofs.lines.run.Tie as tie

@@ -1,13 +1,12 @@
 -- The invariant: the lines of the first i runs are put.
-use Prim.Native.Nat.{ℕ, _-_, _*_, _+_, _≤_}
-use Rattle.number.specs.Words.{word, signed}
+use Prim.Native.Nat.{ℕ, _-_, _≤_}
+use Rattle.number.specs.Words.{signed}
 use Rattle.page.specs.Page.{runLine, runLines}
 use Rattle.page.specs.PageLaws.{runs-none, runs-next, run-within}
 use Rattle.page.specs.Puts.{Puts}
 use Rattle.page.specs.PutsLaws.{puts-same}
 use borrow.Author.Needs.{needs}
 use lib.ListN.{length}
-use mathlib.Core.List.{List}
 use mathlib.Core.Path.{_≡_, _∙_, ap, ap₂}
 use native.Mathlib.Omega.{arith}
 use Rattle.page.proofs.lines.runs.Statement.{statement}

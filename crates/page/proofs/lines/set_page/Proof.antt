@@ -3,7 +3,6 @@ use Rattle.page.specs.Page.{page}
 use Rattle.page.specs.PageLaws.{set-length}
 use Rattle.page.specs.PutsLaws.{puts-four}
 use borrow.Author.Needs.{needs}
-use lib.ListN.{length}
 use native.Mathlib.Omega.{arith}
 use Rattle.page.proofs.lines.set_page.Statement.{statement}
 use Rattle.page.proofs.lines.set_page.Tie as tie
