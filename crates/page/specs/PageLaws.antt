@@ -25,11 +25,11 @@ runLine-length l h = simp length-append
 
 pub set-length : (set : List ℕ) → length (page (result set)) ≡ 5 + length (decimal (length set / 8)) + 1 + length (runLines (length set / 8) set)
 unfolding page
-set-length set = simp length-append
+set-length set = simp length-append (omega arith)
 
 pub refusal-length : (n p : ℕ) → length (page (refused n p)) ≡ 8 + length (decimal n) + 1 + length (decimal p) + 1
 unfolding page
-refusal-length n p = simp length-append
+refusal-length n p = simp length-append (omega arith)
 
 -- ---- limits
 

@@ -27,7 +27,7 @@ returns c =
     let store = s .args .store .now in
     let piece = s .args .piece .now in
     let limit = length store - 32 in (
-      λ blocks seen e st. intake-over blocks seen piece store (s .args .n) limit e st (omega (arith, s .pre .0)) (c .if1 .taken),
+      λ blocks seen e st. intake-over blocks seen piece store (s .args .n) limit e st (omega (arith, s .pre .0)) (omega (arith, c .if1 .taken)),
       (omega (arith, s .pre .0), sym (length-take-le _ store (omega (arith, s .pre .0)))),
     )
 
