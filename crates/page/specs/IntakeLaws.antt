@@ -2,7 +2,7 @@
 use Prim.Native.Nat.{ℕ, _+_, _*_, _%_, _≤_, _<_}
 use mathlib.Core.Path.{_≡_, refl, sym, ap, subst, _∙_}
 use mathlib.Core.List.{List, [], _++_}
-use mathlib.Core.Logic.{⊎-elim}
+use mathlib.Core.Logic.{⊎-elim, _↔_}
 use native.Mathlib.Omega.{arith}
 use lib.ListN.{length, take, drop, length-append}
 use lib.Seq.{length-take-le, take-at}
@@ -18,6 +18,17 @@ kept-over blocks n h = rw (lt-ltb (16 * blocks) n h)
 pub kept-within : (blocks n : ℕ) → n ≤ 16 * blocks → keptLength blocks n ≡ n
 unfolding keptLength
 kept-within blocks n h = rw (le-ltb (16 * blocks) n h)
+
+-- THE SAME REMAINDER, and past the limit exactly where n is
+pub kept-remainder : (blocks n : ℕ) → keptLength blocks n % 16 ≡ n % 16
+kept-remainder blocks n =
+    ⊎-elim (λ h. omega (arith, kept-over blocks n h)) (λ h. omega (arith, kept-within blocks n h)) (less-or-not (16 * blocks) n)
+
+pub kept-limit : (blocks n : ℕ) → (16 * blocks < keptLength blocks n) ↔ (16 * blocks < n)
+kept-limit blocks n = (
+  λ l. ⊎-elim (λ h. h) (λ h. omega (arith, kept-within blocks n h)) (less-or-not (16 * blocks) n),
+  λ h. omega (arith, kept-over blocks n h),
+)
 
 -- before anything is seen
 pub stands-empty : (blocks : ℕ) (store : List ℕ) → StandsFor blocks [] store 0
