@@ -1,0 +1,103 @@
+// The two inputs, read to their ends.
+ghost use Prim.Native.Nat.{_≤_};
+ghost use lib.ListN.{length};
+ghost use Rattle.io.specs.Counts.{Counts};
+ghost use Rattle.page.specs.Intake.{spare};
+
+// How far an input is read.
+pub enum State {
+    More,
+    Ended,
+    Failed,
+}
+
+// An input, of which the first bytes of a store are kept.
+pub struct Input {
+    pub kept: usize,
+    pub state: State,
+}
+
+// Whether the input was read to its end.
+pub fn is_whole(input: Input) -> bool {
+    let state = input.state;
+    match state {
+        State::Ended => true,
+        State::More => false,
+        State::Failed => false,
+    }
+}
+
+// Whether there may be more of it.
+fn goes_on(input: Input) -> bool {
+    let state = input.state;
+    match state {
+        State::More => true,
+        State::Ended => false,
+        State::Failed => false,
+    }
+}
+
+// Reads the next piece behind the n bytes that are kept.
+fn read_on(fd: i32, store: &mut [u8], n: usize) -> Input
+    requires { ⌜ (spare ≤ length (now store)) × Counts n (now store) ⌝ }
+    ensures { λ r. ⌜ Counts (r .kept) (now (store .exit)) ⌝ }
+{
+    let mut piece = io::buffer();
+    let got = libc::read(fd, &mut piece);
+    if got < 0 {
+        return Input {
+            kept: n,
+            state: State::Failed,
+        };
+    }
+    if got == 0 {
+        return Input {
+            kept: n,
+            state: State::Ended,
+        };
+    }
+    let size = io::count(got, &piece);
+    Input {
+        kept: page::intake::take_in(store, n, &piece[..size]),
+        state: State::More,
+    }
+}
+
+// Reads to the end. A proved loop has to end, and nothing says that an input does: so the turns are counted down,
+// from a number that no run uses up. An input that goes on after that is not whole.
+pub fn read_all(fd: i32, store: &mut [u8]) -> Input
+    requires { ⌜ spare ≤ length (now store) ⌝ }
+    ensures { λ r. ⌜ Counts (r .kept) (now (store .exit)) ⌝ }
+{
+    let mut kept: usize = 0;
+    let mut turns = u64::MAX;
+    while turns > 0 {
+        let next = read_on(fd, store, kept);
+        kept = next.kept;
+        if !goes_on(next) {
+            return next;
+        }
+        turns -= 1;
+    }
+    Input {
+        kept,
+        state: State::More,
+    }
+}
+
+// Reads the recording. A missing file counts as an empty one.
+pub fn read_recording(store: &mut [u8]) -> Input
+    requires { ⌜ spare ≤ length (now store) ⌝ }
+    ensures { λ r. ⌜ Counts (r .kept) (now (store .exit)) ⌝ }
+{
+    let fd = os::open_read(b"run.rec");
+    if fd >= 0 {
+        return read_all(fd, store);
+    }
+    let state = if os::errno() == libc::ENOENT {
+        State::Ended
+    } else {
+        State::Failed
+    };
+    Input { kept: 0, state }
+}
