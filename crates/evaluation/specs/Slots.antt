@@ -1,5 +1,5 @@
 -- A table of sets, a slot to each node: the number of cuts, and behind it the cuts.
-use Prim.Native.Nat.{ℕ, _+_, _*_, _≤_}
+use Prim.Native.Nat.{ℕ, _+_, _*_, _≤_, _<_}
 use mathlib.Core.Path.{_≡_}
 use mathlib.Core.Bool.{Bool, false}
 use mathlib.Core.List.{List}
@@ -30,3 +30,10 @@ pub record Stored (before after : List ℕ) (m : ℕ) (cuts : List ℕ) : Type 0
 pub record Puts (f : ℕ → Bool) (before after : List ℕ) (m : ℕ) (over : Bool) : Type 0 where
   pub flag : over ≡ ltb mostRuns (runCount f)
   pub cuts : over ≡ false → (l : List ℕ) × CutsOf f l × Stored before after m l
+
+-- the first i of cuts stand from `from` on, and all else is as it was
+pub record Copied (before after : List ℕ) (from : ℕ) (cuts : List ℕ) (i : ℕ) : Type 0 where
+  pub size : length after ≡ length before
+  pub copied : (j : ℕ) → j < i → getD after (from + j) 0 ≡ getD cuts j 0
+  pub below : (j : ℕ) → j < from → getD after j 0 ≡ getD before j 0
+  pub above : (j : ℕ) → from + i ≤ j → getD after j 0 ≡ getD before j 0

@@ -11,14 +11,7 @@ use Rattle.runset.specs.Runs.{mostRuns}
 use Rattle.runset.specs.Lent.{Fills}
 use Rattle.runset.specs.declared.merge.Filled.{Filled}
 use Rattle.text.specs.Size.{mostNodes}
-use Rattle.evaluation.specs.Slots.{width, slot, Sized, Stored, Puts}
-
--- the first i of cuts stand from `from` on, and all else is as it was
-pub record Copied (before after : List ℕ) (from : ℕ) (cuts : List ℕ) (i : ℕ) : Type 0 where
-  pub size : length after ≡ length before
-  pub copied : (j : ℕ) → j < i → getD after (from + j) 0 ≡ getD cuts j 0
-  pub below : (j : ℕ) → j < from → getD after j 0 ≡ getD before j 0
-  pub above : (j : ℕ) → from + i ≤ j → getD after j 0 ≡ getD before j 0
+use Rattle.evaluation.specs.Slots.{Copied, width, slot, Sized, Stored, Puts}
 
 pub copied-none : (before : List ℕ) (from : ℕ) (cuts : List ℕ) → Copied before before from cuts 0
 copied-none before from cuts = record { size = refl; copied = λ j h. absurd (omega arith); below = λ j h. refl; above = λ j h. refl }

@@ -6,8 +6,7 @@ ghost use Rattle.runset.specs.Runs.{mostRuns};
 ghost use Rattle.runset.specs.Lent.{Fills};
 ghost use mathlib.Core.Bool.{Bool, false};
 ghost use Rattle.text.specs.Size.{mostNodes};
-ghost use Rattle.evaluation.specs.Slots.{slot, Sized, Stored, Puts};
-ghost use Rattle.evaluation.specs.SlotsLaws.{Copied};
+ghost use Rattle.evaluation.specs.Slots.{slot, Sized, Stored, Puts, Copied};
 use runset::merge::Filled;
 
 // The numbers of a slot.

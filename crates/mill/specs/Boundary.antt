@@ -1,4 +1,4 @@
--- Document 01, "The boundary": what each call of the library returns, and what it leaves in the caller's memory.
+-- The C boundary, by "Four lines on promises" of document 01: what each call of the library returns, and what it leaves in the caller's memory.
 use Prim.Native.Nat.{ℕ}
 use mathlib.Core.Path.{_≡_}
 use mathlib.Core.List.{List}

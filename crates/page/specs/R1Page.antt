@@ -27,7 +27,7 @@ use Rattle.text.specs.Lexer.{unsignedAt, numberAt, operandAt, comparisonAt, tim
 use Rattle.text.specs.Parse.{parse, reading}
 use Rattle.text.specs.Size.{tooDeep}
 use Rattle.text.specs.Syntax.{Text, listed, peaks}
-use Rattle.meaning.specs.Overfull.{temporal}
+use Rattle.text.specs.Size.{temporal}
 use Rattle.meaning.specs.Coded.{coded}
 use Rattle.meaning.specs.Truth.{val, truth, someNode, refused8, refused9}
 use Rattle.question.specs.Question.{read, answer, askingLines, setLines, questionOf}
@@ -100,7 +100,7 @@ unfolding refused9 someNode
 nine = ap (refused9 (coded R1)) reads
 
 eight : refused8 (coded R1) (read asked) ≡ false
-unfolding refused8 temporal someNode
+unfolding refused8 someNode
 eight =
     ap (refused8 (coded R1)) reads
     ∙ le-ltb mostRuns (runCount (λ n. val (coded R1) n (listed (peaks A)) 0)) (omega (arith, two, ap (λ (p : Text). runCount (λ n. val (coded R1) n p 0)) reads))

@@ -1,7 +1,7 @@
 -- Refusal 10 is never printed: a set that 8 does not refuse fits the output.
-use Prim.Native.Nat.{ℕ, zero, suc, _<_}
-use mathlib.Core.Path.{_≡_, refl, sym, ap, _∙_}
-use mathlib.Core.Bool.{Bool, true, false, cond, _||_}
+use Prim.Native.Nat.{ℕ, _<_}
+use mathlib.Core.Path.{_≡_, sym, _∙_}
+use mathlib.Core.Bool.{Bool, true, false, cond, true≢false}
 use mathlib.Core.List.{List, [], _∷_, _++_}
 use mathlib.Core.Logic.{⊎-elim}
 use native.Mathlib.Omega.{arith}
@@ -15,12 +15,12 @@ use Rattle.recording.specs.Output.{outputLine}
 use Rattle.recording.specs.OutcomeLaws.{judged-skip, no-result}
 use Rattle.runset.specs.Runs.{mostRuns, runCount, setBytes}
 use Rattle.runset.specs.RunsLaws.{setBytes-length}
-use Rattle.text.specs.Syntax.{Text, atom, listed, or, and, neg, finally, globally, next, until, weakUntil}
+use Rattle.text.specs.Syntax.{Text}
 use Rattle.text.specs.Told.{textLines}
-use Rattle.meaning.specs.Overfull.{temporal}
 use Rattle.meaning.specs.Coded.{Coded, code, coded}
-use Rattle.meaning.specs.Truth.{largeAt, someNode, overAt, someBelow, refused8, refused9}
+use Rattle.meaning.specs.Truth.{largeAt, refused8, refused9}
 use Rattle.question.specs.Question.{read, answer, askingLines, setLines, questionOf}
+use Rattle.question.specs.SizeLaws.{few-first}
 use Rattle.page.specs.LengthLaws.{line-stands}
 use Rattle.page.specs.Printed.{setRoom}
 
@@ -44,38 +44,8 @@ no-other {R} n p (l ∷ ls) r o e = by (l .meets) e (no-other n p ls r (o .1))
 
 -- ---- a set over the limit at the first record is refused by 8
 
-or-true : (a b : Bool) → a ≡ true → (a || b) ≡ true
-or-true a b e = ap (λ (x : Bool). x || b) e
-
-or-last : (a b : Bool) → b ≡ true → (a || b) ≡ true
-or-last true b e = refl
-or-last false b e = e
-
-root-node : (G : Text → Bool) (p : Text) → G p ≡ true → someNode G p ≡ true
-unfolding someNode
-root-node G (atom k) e = e
-root-node G (listed q) e = e
-root-node G (or p q) e = or-true (G (or p q)) _ e
-root-node G (and p q) e = or-true (G (and p q)) _ e
-root-node G (neg p) e = or-true (G (neg p)) _ e
-root-node G (finally p) e = or-true (G (finally p)) _ e
-root-node G (globally p) e = or-true (G (globally p)) _ e
-root-node G (next p) e = or-true (G (next p)) _ e
-root-node G (until p q) e = or-true (G (until p q)) _ e
-root-node G (weakUntil p q) e = or-true (G (weakUntil p q)) _ e
-
-first-below : (f : ℕ → Bool) (n : ℕ) → 0 < n → f 0 ≡ true → someBelow f n ≡ true
-first-below f zero h e = absurd (omega arith)
-first-below f (suc zero) h e = or-true (f zero) _ e
-first-below f (suc (suc n)) h e = or-last (f (suc n)) (someBelow f (suc n)) (first-below f (suc n) (omega arith) e)
-
 large-refused : (r : List Coded) (p : Text) → 0 < length r → largeAt r p 0 ≡ true → refused8 r p ≡ true
-unfolding refused8
-large-refused r p h e = by (temporal p) (root-node (λ q. largeAt r q 0) p e)
-  where
-    by : (b : Bool) → overAt r p 0 ≡ true → cond b (someBelow (overAt r p) (length r)) (overAt r p 0) ≡ true
-    by true o = first-below (overAt r p) (length r) h o
-    by false o = o
+large-refused r p h e = ⊎-elim (λ t. t) (λ f. absurd (true≢false (sym e ∙ few-first r p h f))) (true-or-false (refused8 r p))
 
 -- ---- the law
 

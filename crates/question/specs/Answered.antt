@@ -11,7 +11,7 @@ use Rattle.runset.specs.Set.{Represents}
 use Rattle.text.specs.Syntax.{Text}
 use Rattle.text.specs.Size.{mostNodes}
 use Rattle.text.specs.Table.{Falling}
-use Rattle.text.specs.Rows.{Holds}
+use Rattle.text.specs.Rows.{Laid}
 use Rattle.meaning.specs.Coded.{coded}
 use Rattle.meaning.specs.Truth.{val}
 use Rattle.evaluation.specs.Evaluation.{textOf}
@@ -25,7 +25,7 @@ pub record Ready (table : List ℕ) (count : ℕ) (bytes : List ℕ) : Type 0 wh
   pub accepted : Accepted bytes
   pub record-there : 0 < length (coded bytes)
   pub falling : Falling table count
-  pub holds : Holds table 0 count (textOf table count)
+  pub holds : Laid table 0 count (textOf table count)
   pub rows : 4 * count ≤ length table
   pub some : 0 < count
   pub few : count ≤ mostNodes

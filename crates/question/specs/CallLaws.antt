@@ -26,14 +26,14 @@ use Rattle.runset.specs.declared.RunSet.{RunSet}
 use Rattle.text.specs.Syntax.{Text}
 use Rattle.text.specs.Size.{tooDeep, mostNodes}
 use Rattle.text.specs.Table.{treeAt}
-use Rattle.text.specs.Rows.{Holds, leaf, unary, binary}
+use Rattle.text.specs.Rows.{Laid, leaf, unary, binary}
 use Rattle.text.specs.Parse.{Reading, one, none, reading}
 use Rattle.text.specs.Told.{textLines, nodesOf, Tabled}
 use Rattle.meaning.specs.Coded.{coded}
 use Rattle.meaning.specs.Truth.{val}
 use Rattle.evaluation.specs.Evaluation.{textOf}
 use Rattle.evaluation.specs.EvaluateLaws.{coded-length}
-use Rattle.question.specs.Question.{theText, read, answer, askingLines, setLines, writtenOf, questionOf}
+use Rattle.question.specs.Question.{theText, read, answer, askingLines, setLines, answerOf, writtenOf, questionOf}
 use Rattle.question.specs.Prepare.{preparedOf, Prepares}
 use Rattle.question.specs.Answered.{Ready, Gives}
 use Rattle.question.specs.declared.prepare.Prepared.{Prepared}
@@ -41,11 +41,6 @@ use Rattle.question.specs.declared.prepare.Prepared.the-variants as prep
 use Rattle.question.specs.declared.answered.Verdict.{Verdict}
 use Rattle.question.specs.declared.answered.Verdict.the-variants.{Fine, Refused}
 use Rattle.question.specs.declared.answered.Answered.{Answered}
-
--- the call on a text that was read
-abbrev pub answerOf : List ℕ → Text → ℕ → Outcome (List ℕ)
-answerOf bytes p room =
-    judged (setLines bytes p ++ (outputLine room (setBytes (λ n. val (coded bytes) n p 0)) ∷ [])) (setBytes (λ n. val (coded bytes) n p 0))
 
 -- ---- writing a set
 
@@ -82,7 +77,7 @@ module _ (bytes : List ℕ) (p : Text) (a : Answered) (g : Gives bytes p a) (old
 
 -- ---- the text that was read
 
-held-more : {table : List ℕ} {b m : ℕ} {t : Text} → Holds table b m t → b < m
+held-more : {table : List ℕ} {b m : ℕ} {t : Text} → Laid table b m t → b < m
 held-more (leaf k e) = omega arith
 held-more (unary k l h p e) = let x = held-more p in omega arith
 held-more (binary k l h p q e) = let x = held-more p in let y = held-more q in omega arith

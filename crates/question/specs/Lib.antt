@@ -1,4 +1,5 @@
 pub mod Question
+pub mod Meant
 pub mod Prepare
 pub mod Answered
 pub mod PrepareLaws
@@ -7,3 +8,4 @@ pub mod AnsweredLaws
 pub mod CallLaws
 pub mod AnswerLaws
 pub mod SizeLaws
+pub mod MeantLaws

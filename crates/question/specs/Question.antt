@@ -37,6 +37,11 @@ setLines bytes p = line 9 (refused9 (coded bytes) p) ∷ line 8 (refused8 (coded
 abbrev pub writtenOf : (ℕ → Bool) → ℕ → Outcome (List ℕ)
 writtenOf f room = judged (outputLine room (setBytes f) ∷ []) (setBytes f)
 
+-- 9, 8 and 10 of a text p that was read; else the bytes of its set at the first record
+abbrev pub answerOf : List ℕ → Text → ℕ → Outcome (List ℕ)
+answerOf bytes p room =
+    judged (setLines bytes p ++ (outputLine room (setBytes (λ n. val (coded bytes) n p 0)) ∷ [])) (setBytes (λ n. val (coded bytes) n p 0))
+
 -- THE QUESTION CALL: its refusals in the order 1 to 7, 9, 8, 10; else the bytes of the answered set
 unfoldable pub questionOf : List ℕ → List ℕ → ℕ → Outcome (List ℕ)
 questionOf bytes text room =

@@ -51,7 +51,7 @@ first-off f (suc zero) h e = left-off (f 0) false e
 first-off f (suc (suc n)) h e = first-off f (suc n) (omega arith) (right-off (f (suc n)) (someBelow f (suc n)) e)
 
 -- not refused by 8, a text has few runs at the first record
-few-first : (r : List Coded) (p : Text) → 0 < length r → refused8 r p ≡ false → largeAt r p 0 ≡ false
+pub few-first : (r : List Coded) (p : Text) → 0 < length r → refused8 r p ≡ false → largeAt r p 0 ≡ false
 unfolding refused8
 few-first r p h e = root-off (λ q. largeAt r q 0) p (by (temporal p) e)
   where
@@ -59,7 +59,7 @@ few-first r p h e = root-off (λ q. largeAt r q 0) p (by (temporal p) e)
     by true e = first-off (overAt r p) (length r) h e
     by false e = e
 
-some-record : (bytes : List ℕ) → noRecord bytes .meets ≡ false → 0 < length (coded bytes)
+pub some-record : (bytes : List ℕ) → noRecord bytes .meets ≡ false → 0 < length (coded bytes)
 some-record bytes e = by (ℕ-discrete (length (records bytes)) 0)
   where
     by : Dec (length (records bytes) ≡ 0) → 0 < length (coded bytes)

@@ -16,7 +16,7 @@ use Rattle.text.specs.Syntax.{Text}
 use Rattle.text.specs.Table.{row, rowAt}
 use Rattle.text.specs.Lexer.{byte, leafAt}
 use Rattle.text.specs.Parse.{Joiner, bars, ampersands, sign, Task, chain, more, not-at, prim-at, argument, part, joinKind, leafOf, node, Out, got, unread, after, opened, begun, closed, parse, rank}
-use Rattle.text.specs.Rows.{Put, Same, Holds, leaf, unary, binary, Room, Ahead, Onward, Within, Fits, Answers, AnswersMore, AnswersOpened}
+use Rattle.text.specs.Rows.{Put, Same, Laid, leaf, unary, binary, Room, Ahead, Onward, Within, Fits, Answers, AnswersMore, AnswersOpened}
 use Rattle.text.specs.WordLaws.{inside, bound}
 use Rattle.text.specs.LeafLaws.{Opening, round, single, double, open-held, leaf-held, leaf-low}
 use Rattle.text.specs.Unique.{longer, rank-part, rank-low, rank-high}
@@ -48,12 +48,12 @@ same-on n m l x y = record { row-at = λ j h. y .row-at j (omega arith) ∙ x .r
 put-same : {T U : List ℕ} {r : Row} (n : ℕ) → Put T n r U → Same n T U
 put-same n p = record { row-at = λ j h. p .others j (λ e. omega arith) }
 
-holds-above : {T : List ℕ} {b m : ℕ} {t : Text} → Holds T b m t → b < m
+holds-above : {T : List ℕ} {b m : ℕ} {t : Text} → Laid T b m t → b < m
 holds-above (leaf l e) = omega arith
 holds-above (unary k a c h e) = let x = holds-above h in omega arith
 holds-above (binary k a c h g e) = let x = holds-above h in let y = holds-above g in omega arith
 
-pub stays : {T U : List ℕ} {b m : ℕ} {t : Text} (n : ℕ) → m ≤ n → Same n T U → Holds T b m t → Holds U b m t
+pub stays : {T U : List ℕ} {b m : ℕ} {t : Text} (n : ℕ) → m ≤ n → Same n T U → Laid T b m t → Laid U b m t
 stays {U = U} {b = b} n l x (leaf k e) =
     let r = x .row-at b (omega arith) in
     leaf (subst (λ (y : Row). y .kind < 15) (sym r) k) (ap leafOf r ∙ e)
@@ -63,7 +63,7 @@ stays n l x (binary {m = m} {n = j} k a c h g e) =
     binary k a c (stays n (omega arith) x h) (stays n (omega arith) x g) (x .row-at j (omega arith) ∙ e)
 
 -- PARTS read one after the other
-then-fits : (T : List ℕ) (b e m : ℕ) (F : Out → Type 0) (p : Out) (k : Text → ℕ → Out) → Fits T b (Upto e m) p → ((t : Text) → Holds T b m t → F (k t e)) → F (after p k)
+then-fits : (T : List ℕ) (b e m : ℕ) (F : Out → Type 0) (p : Out) (k : Text → ℕ → Out) → Fits T b (Upto e m) p → ((t : Text) → Laid T b m t → F (k t e)) → F (after p k)
 then-fits T b e m F (got t j) k x h = subst (λ (i : ℕ). F (k t i)) (x .0) (h t (x .1))
 then-fits T b e m F unread k x h = absurd x
 
@@ -103,7 +103,7 @@ module _ {s : List ℕ} {at n : ℕ} {T U : List ℕ} {q : Got} (o : Joiner) (x 
 
 module _ (s : List ℕ) (at n : ℕ) {e m c : ℕ} {T U Y Z : List ℕ} {q r : Got} (o : Joiner) (i : c ≡ byte s at) (j : c ≡ sign o) (x : Answers s (part o (at + 1)) (at + 1) n T U q)
     (p : q ≡ Upto e m) (z : Put U m (row (joinKind o) (n - 1) (m - 1) 0) Y) (y : AnswersMore s o e (m + 1) Y Z r) where
-  more-fits : (t : Text) (b : ℕ) → Holds T b n t → (f : ℕ) → rank s (more o t at) < f → Fits Z b r (parse s f (more o t at))
+  more-fits : (t : Text) (b : ℕ) → Laid T b n t → (f : ℕ) → rank s (more o t at) < f → Fits Z b r (parse s f (more o t at))
   unfolding parse
   more-fits t b g zero h = absurd (omega arith)
   more-fits t b g (suc f) h =
@@ -126,7 +126,7 @@ module _ (s : List ℕ) (at n : ℕ) {e m c : ℕ} {T U Y Z : List ℕ} {q r : G
       }
 
 module _ (s : List ℕ) (at n : ℕ) {c : ℕ} {T U : List ℕ} {q : Got} (o : Joiner) (i : c ≡ byte s at) (j : c ≡ sign o) (x : Answers s (part o (at + 1)) (at + 1) n T U q) (p : q ≡ Unread) (l : at < length s) where
-  more-unread : (t : Text) (b : ℕ) → Holds T b n t → (f : ℕ) → rank s (more o t at) < f → Fits U b Unread (parse s f (more o t at))
+  more-unread : (t : Text) (b : ℕ) → Laid T b n t → (f : ℕ) → rank s (more o t at) < f → Fits U b Unread (parse s f (more o t at))
   unfolding parse
   more-unread t b g zero h = absurd (omega arith)
   more-unread t b g (suc f) h =
@@ -138,7 +138,7 @@ module _ (s : List ℕ) (at n : ℕ) {c : ℕ} {T U : List ℕ} {q : Got} (o : J
   more-none = record { onward = tt; same = x .same; fits = more-unread }
 
 module _ (s : List ℕ) (at n : ℕ) (T : List ℕ) {c : ℕ} (o : Joiner) (i : c ≡ byte s at) (j : c ≡ sign o → ⊥) (l : at ≤ length s) where
-  more-here : (t : Text) (b : ℕ) → Holds T b n t → (f : ℕ) → rank s (more o t at) < f → Fits T b (Upto at n) (parse s f (more o t at))
+  more-here : (t : Text) (b : ℕ) → Laid T b n t → (f : ℕ) → rank s (more o t at) < f → Fits T b (Upto at n) (parse s f (more o t at))
   unfolding parse
   more-here t b g zero h = absurd (omega arith)
   more-here t b g (suc f) h = rw (ne-eqb (byte s at) (sign o) (λ z. j (i ∙ z))) (refl, g)

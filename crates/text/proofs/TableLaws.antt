@@ -10,12 +10,12 @@ use borrow.Author.Tests.{ltb-true, ltb-false}
 use lib.ListN.{length, getD, set, length-set}
 use lib.Seq.{getD-set-same, getD-set-other}
 use Rattle.text.specs.declared.Row.{Row}
-use Rattle.text.specs.Table.{row, rowAt}
+use Rattle.text.specs.Table.{row, rowAt, some}
 use Rattle.text.specs.Classes.{within}
 use Rattle.text.specs.Syntax.{Text}
 use Rattle.text.specs.Size.{temporal, hasListed, mixed, nodes}
-use Rattle.text.specs.Rows.{Put, Holds}
-use Rattle.text.specs.TableLaws.{some, held-nodes, held-some, some-either, listedKind, temporalKind, listed-by-kind, temporal-by-kind}
+use Rattle.text.specs.Rows.{Put, Laid}
+use Rattle.text.specs.TableLaws.{held-nodes, held-some, some-either, listedKind, temporalKind, listed-by-kind, temporal-by-kind}
 
 pub same-row : {k a b n : ℕ} {r : Row} → k ≡ r .kind → a ≡ r .first → b ≡ r .second → n ≡ r .number → row k a b n ≡ r
 same-row p q u v = λ i. record { kind = p i; first = q i; second = u i; number = v i }
@@ -93,7 +93,7 @@ some-next P T i k t e q h g =
 pub some-end : (P : ℕ → Bool) (T : List ℕ) (i n : ℕ) → i ≤ n → n ≤ i → some P T 0 i ≡ false → false ≡ some P T 0 n
 some-end P T i n a b g = let z : i ≡ n = omega arith in sym (ap (some P T 0) (sym z) ∙ g)
 
-module _ (T : List ℕ) (n : ℕ) (t : Text) (h : Holds T 0 n t) where
+module _ (T : List ℕ) (n : ℕ) (t : Text) (h : Laid T 0 n t) where
   counted : n ≡ nodes t
   counted = let x = held-nodes h in omega arith
 

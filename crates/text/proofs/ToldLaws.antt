@@ -17,12 +17,12 @@ use Rattle.text.specs.Syntax.{Text}
 use Rattle.text.specs.Size.{mixed, nodes, tooDeep, mostBytes, mostNodes}
 use Rattle.text.specs.Table.{treeAt, Falling}
 use Rattle.text.specs.Parse.{Out, got, unread, chain, bars, parse, Reading, one, none, unmixed, atEnd, reading}
-use Rattle.text.specs.Rows.{Holds, Fits, Answers, judgedText}
+use Rattle.text.specs.Rows.{Laid, Fits, Answers, judgedText}
 use Rattle.text.specs.TableLaws.{decoded, held-falling, held-nodes}
 use Rattle.text.specs.Told.{badLength, noReading, tooLarge, textLines, nodesOf, outcomeOf, Tabled, Told}
 
 -- JUDGING a text whose tree is read
-module _ (s T : List ℕ) (n : ℕ) (t : Text) (h : Holds T 0 n t) where
+module _ (s T : List ℕ) (n : ℕ) (t : Text) (h : Laid T 0 n t) where
   counted : n ≡ nodes t
   counted = let x = held-nodes h in omega arith
 
@@ -48,9 +48,9 @@ pub told-none : (s T : List ℕ) → badLength s ≡ false → reading s ≡ non
 unfolding judged
 told-none s T e r = record { outcome = rw (e, r); tabled = λ n q. (let z : _≡_ {A = ℕ} 0 1 = cc in absurd (omega arith)) }
 
-module _ (s T : List ℕ) (n : ℕ) (t : Text) (h : Holds T 0 n t) (e : badLength s ≡ false) where
+module _ (s T : List ℕ) (n : ℕ) (t : Text) (h : Laid T 0 n t) (e : badLength s ≡ false) where
   tabled-one : reading s ≡ one t → Tabled s T n
-  tabled-one r = let d = decoded h in record { reads = r ∙ ap one (sym d); rows = subst (Holds T 0 n) (sym d) h; falling = held-falling h }
+  tabled-one r = let d = decoded h in record { reads = r ∙ ap one (sym d); rows = subst (Laid T 0 n) (sym d) h; falling = held-falling h }
 
   told-cases : (m l d : Bool) → mixed t ≡ m → ltb mostNodes (nodes t) ≡ l → tooDeep s ≡ d → reading s ≡ unmixed t → Told s T (judgedText s t)
   unfolding judged
@@ -91,11 +91,11 @@ module _ (s : List ℕ) {T U : List ℕ} {q : Got} (x : Answers s (chain bars 0)
   fuel : Fits U 0 q (parse s (5 * length s + 5) (chain bars 0))
   fuel = x .fits (5 * length s + 5) (omega arith)
 
-  pub read-whole : {n e : ℕ} → q ≡ Upto e n → e ≡ length s → (t : Text) × (Holds U 0 n t) × (reading s ≡ unmixed t)
+  pub read-whole : {n e : ℕ} → q ≡ Upto e n → e ≡ length s → (t : Text) × (Laid U 0 n t) × (reading s ≡ unmixed t)
   unfolding reading
   read-whole {n} {e} p l = go (parse s (5 * length s + 5) (chain bars 0)) (rw p at fuel)
     where
-      go : (o : Out) → Fits U 0 (Upto e n) o → (t : Text) × (Holds U 0 n t) × (atEnd s o ≡ unmixed t)
+      go : (o : Out) → Fits U 0 (Upto e n) o → (t : Text) × (Laid U 0 n t) × (atEnd s o ≡ unmixed t)
       go (got t j) f = (t, f .1, rw (eq-eqb j (length s) (sym (f .0) ∙ l)))
       go unread f = absurd f
 
@@ -115,5 +115,5 @@ module _ (s : List ℕ) {T U : List ℕ} {q : Got} (x : Answers s (chain bars 0)
       go (got t j) f = absurd f
       go unread f = refl
 
-  pub told-read : {n e : ℕ} → q ≡ Upto e n → e ≡ length s → badLength s ≡ false → (r : Answer) → ((t : Text) → Holds U 0 n t → r ≡ judgedText s t) → Told s U r
+  pub told-read : {n e : ℕ} → q ≡ Upto e n → e ≡ length s → badLength s ≡ false → (r : Answer) → ((t : Text) → Laid U 0 n t → r ≡ judgedText s t) → Told s U r
   told-read {n} p l b r f = let w = read-whole p l in subst (Told s U) (sym (f (w .0) (w .1))) (told-judged s U n (w .0) (w .1) b (w .2))

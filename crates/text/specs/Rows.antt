@@ -26,10 +26,10 @@ pub record Same (n : ℕ) (before now : List ℕ) : Type 0 where
   pub row-at : (m : ℕ) → m < n → rowAt now m ≡ rowAt before m
 
 -- the rows from b up to m hold the tree, the root last
-pub data Holds (table : List ℕ) : ℕ → ℕ → Text → Type 0 where
-  leaf : {b : ℕ} {t : Text} → rowAt table b .kind < 15 → leafOf (rowAt table b) ≡ t → Holds table b (b + 1) t
-  unary : {b m : ℕ} {p : Text} (k : ℕ) → 15 ≤ k → k < 19 → Holds table b m p → rowAt table m ≡ row k (m - 1) 0 0 → Holds table b (m + 1) (node k p p)
-  binary : {b m n : ℕ} {p q : Text} (k : ℕ) → 19 ≤ k → k < 23 → Holds table b m p → Holds table m n q → rowAt table n ≡ row k (m - 1) (n - 1) 0 → Holds table b (n + 1) (node k p q)
+pub data Laid (table : List ℕ) : ℕ → ℕ → Text → Type 0 where
+  leaf : {b : ℕ} {t : Text} → rowAt table b .kind < 15 → leafOf (rowAt table b) ≡ t → Laid table b (b + 1) t
+  unary : {b m : ℕ} {p : Text} (k : ℕ) → 15 ≤ k → k < 19 → Laid table b m p → rowAt table m ≡ row k (m - 1) 0 0 → Laid table b (m + 1) (node k p p)
+  binary : {b m n : ℕ} {p q : Text} (k : ℕ) → 19 ≤ k → k < 23 → Laid table b m p → Laid table m n q → rowAt table n ≡ row k (m - 1) (n - 1) 0 → Laid table b (n + 1) (node k p q)
 
 -- at `at`, with n rows made, each node that the text can still have has a row
 pub record Room (s table : List ℕ) (at n : ℕ) : Type 0 where
@@ -55,7 +55,7 @@ Within size at n Unread = Unit {0}
 
 -- the answer is the computed one, and its tree stands in the rows from b on
 abbrev pub Fits : List ℕ → ℕ → Got → Out → Type 0
-Fits table b (Upto e m) (got t j) = (e ≡ j) × Holds table b m t
+Fits table b (Upto e m) (got t j) = (e ≡ j) × Laid table b m t
 Fits table b (Upto e m) unread = ⊥
 Fits table b Unread (got t j) = ⊥
 Fits table b Unread unread = Unit {0}
@@ -70,7 +70,7 @@ pub record Answers (s : List ℕ) (g : Task) (at n : ℕ) (before now : List ℕ
 pub record AnswersMore (s : List ℕ) (o : Joiner) (at n : ℕ) (before now : List ℕ) (r : Got) : Type 0 where
   pub onward : Onward (length s) at n r
   pub same : Same n before now
-  pub fits : (t : Text) (b : ℕ) → Holds before b n t → (f : ℕ) → rank s (more o t at) < f → Fits now b r (parse s f (more o t at))
+  pub fits : (t : Text) (b : ℕ) → Laid before b n t → (f : ℕ) → rank s (more o t at) < f → Fits now b r (parse s f (more o t at))
 
 -- the same of what stands behind an opening of kind k
 pub record AnswersOpened (s : List ℕ) (k at n : ℕ) (before now : List ℕ) (r : Got) : Type 0 where

@@ -1,5 +1,6 @@
 -- The node table of a text: four numbers to a node, its row, and the tree that the rows stand for. The children of a node have smaller numbers.
 use Prim.Native.Nat.{ℕ, zero, suc, _+_, _*_, _<_, _≤_}
+use mathlib.Core.Bool.{Bool, false, _||_}
 use mathlib.Core.List.{List, [], _∷_, _++_}
 use lib.ListN.{getD}
 use Rattle.recording.specs.Reading.{Curve, A, B}
@@ -83,3 +84,8 @@ Falling table n =
     → (unaryFrom ≤ rowAt table m .kind → rowAt table m .first < m)
     × (binaryFrom ≤ rowAt table m .kind → rowAt table m .second < m)
     × (rowAt table m .kind < kinds)
+
+-- P holds of one of the n kinds from row b on
+abbrev pub some : (ℕ → Bool) → List ℕ → ℕ → ℕ → Bool
+some P table b zero = false
+some P table b (suc n) = some P table b n || P (rowAt table (b + n) .kind)

@@ -11,9 +11,9 @@ use Rattle.text.specs.declared.Row.{Row}
 use Rattle.text.specs.Syntax.{Text}
 use Rattle.text.specs.Size.{temporal, hasListed, nodes}
 use Rattle.text.specs.Classes.{within}
-use Rattle.text.specs.Table.{row, leaves, unaries, binaries, build, rowAt, tree, treeAt, Falling}
+use Rattle.text.specs.Table.{some, row, leaves, unaries, binaries, build, rowAt, tree, treeAt, Falling}
 use Rattle.text.specs.Parse.{leafOf, node}
-use Rattle.text.specs.Rows.{Holds, leaf, unary, binary}
+use Rattle.text.specs.Rows.{Laid, leaf, unary, binary}
 
 -- what holds of each number below n
 abbrev Each : ℕ → (ℕ → Type 0) → Type 0
@@ -53,12 +53,12 @@ build-binary : (k a b n : ℕ) (p q : Text) → 19 ≤ k → k < 23 → build (r
 build-binary k a b n p q = binary-kinds (λ j. build (row j a b n) p q ≡ node j p q) refl refl refl refl k
 
 -- THE DECODER gives the tree that the rows hold
-pub above : {T : List ℕ} {b m : ℕ} {t : Text} → Holds T b m t → b < m
+pub above : {T : List ℕ} {b m : ℕ} {t : Text} → Laid T b m t → b < m
 above (leaf l e) = omega arith
 above (unary k a c h e) = let x = above h in omega arith
 above (binary k a c h g e) = let x = above h in let y = above g in omega arith
 
-tree-held : {T : List ℕ} {b m : ℕ} {t : Text} → Holds T b m t → (r f : ℕ) → m ≡ r + 1 → r < f → tree T f r ≡ t
+tree-held : {T : List ℕ} {b m : ℕ} {t : Text} → Laid T b m t → (r f : ℕ) → m ≡ r + 1 → r < f → tree T f r ≡ t
 unfolding tree
 tree-held h r zero e l = absurd (omega arith)
 tree-held {T} (leaf {b} {t} k q) r (suc f) e l =
@@ -81,7 +81,7 @@ tree-held {T} (binary {b} {m} {n} {p} {q = u} k a c h g q) r (suc f) e l =
     ∙ ap (λ (z : Text). node k z (tree T f (n - 1))) (tree-held h (m - 1) f (omega arith) (omega arith))
     ∙ ap (λ (z : Text). node k p z) (tree-held g (n - 1) f (omega arith) (omega arith))
 
-pub decoded : {T : List ℕ} {b m : ℕ} {t : Text} → Holds T b m t → treeAt T (m - 1) ≡ t
+pub decoded : {T : List ℕ} {b m : ℕ} {t : Text} → Laid T b m t → treeAt T (m - 1) ≡ t
 unfolding treeAt
 decoded {m = m} h = let x = above h in tree-held h (m - 1) (suc (m - 1)) (omega arith) (omega arith)
 
@@ -93,7 +93,7 @@ falls-row : (T : List ℕ) (m k a b : ℕ) → rowAt T m ≡ row k a b 0 → k <
 falls-row T m k a b e h l g =
     subst (λ (r : Row). (15 ≤ r .kind → r .first < m) × (19 ≤ r .kind → r .second < m) × (r .kind < 23)) (sym e) ((λ x. l), g, h)
 
-held-falls : {T : List ℕ} {b m : ℕ} {t : Text} → Holds T b m t → (j : ℕ) → b ≤ j → j < m → Falls T j
+held-falls : {T : List ℕ} {b m : ℕ} {t : Text} → Laid T b m t → (j : ℕ) → b ≤ j → j < m → Falls T j
 held-falls {T} (leaf {b} k q) j l h =
     let x : b ≡ j = omega arith in
     subst (Falls T) x ((λ y. absurd (omega arith)), (λ y. absurd (omega arith)), omega arith)
@@ -118,7 +118,7 @@ held-falls {T} (binary {b} {m} {n} k a c h g q) j l u = go (ltb j m) (ltb j n) r
         let z : n ≡ j = omega arith in
         subst (Falls T) z (falls-row T n k (m - 1) (n - 1) q c (omega arith) (λ o. omega arith))
 
-pub held-falling : {T : List ℕ} {n : ℕ} {t : Text} → Holds T 0 n t → Falling T n
+pub held-falling : {T : List ℕ} {n : ℕ} {t : Text} → Laid T 0 n t → Falling T n
 unfolding Falling
 held-falling h m l = held-falls h m (omega arith) l
 
@@ -128,7 +128,7 @@ leaf-nodes r h =
     each 15 (λ k. nodes (leafOf (row k (r .first) (r .second) (r .number))) ≡ 1)
     (refl, (refl, (refl, (refl, (refl, (refl, (refl, (refl, (refl, (refl, (refl, (refl, (refl, (refl, (refl, tt))))))))))))))) (r .kind) h
 
-pub held-nodes : {T : List ℕ} {b m : ℕ} {t : Text} → Holds T b m t → m ≡ b + nodes t
+pub held-nodes : {T : List ℕ} {b m : ℕ} {t : Text} → Laid T b m t → m ≡ b + nodes t
 held-nodes {T} (leaf {b} {t} k q) = let x = leaf-nodes (rowAt T b) k in let y : nodes t ≡ 1 = ap nodes (sym q) ∙ x in omega arith
 held-nodes (unary {p = p} k a c h q) =
     let x = held-nodes h in
@@ -140,10 +140,7 @@ held-nodes (binary {p = p} {q = u} k a c h g q) =
     let y = binary-kinds (λ j. nodes (node j p u) ≡ nodes p + nodes u + 1) refl refl refl refl k a c in
     omega arith
 
--- SCANS over the kinds: whether P holds of one of the n kinds from b on
-abbrev pub some : (ℕ → Bool) → List ℕ → ℕ → ℕ → Bool
-some P T b zero = false
-some P T b (suc n) = some P T b n || P (rowAt T (b + n) .kind)
+-- ---- scans over the kinds
 
 some-split : (P : ℕ → Bool) (T : List ℕ) (b m n : ℕ) → some P T b (n + m) ≡ (some P T b n || some P T (b + n) m)
 some-split P T b zero n = let z : n + 0 ≡ n = omega arith in rw z (sym (or-false (some P T b n)))
@@ -161,7 +158,7 @@ pub record ByKind (P : ℕ → Bool) (F : Text → Bool) : Type 0 where
 some-kind : (P : ℕ → Bool) (T : List ℕ) (b n m k : ℕ) → b + n ≡ m → rowAt T m .kind ≡ k → some P T b (n + 1) ≡ (some P T b n || P k)
 some-kind P T b n m k e q = let z : n + 1 ≡ suc n = omega arith in rw (z, e, q)
 
-pub held-some : (P : ℕ → Bool) (F : Text → Bool) → ByKind P F → {T : List ℕ} {b m : ℕ} {t : Text} → Holds T b m t → F t ≡ some P T b (nodes t)
+pub held-some : (P : ℕ → Bool) (F : Text → Bool) → ByKind P F → {T : List ℕ} {b m : ℕ} {t : Text} → Laid T b m t → F t ≡ some P T b (nodes t)
 held-some P F h {T} (leaf {b} {t} k q) =
     let x : nodes t ≡ 1 = ap nodes (sym q) ∙ leaf-nodes (rowAt T b) k in
     let z : b + 0 ≡ b = omega arith in

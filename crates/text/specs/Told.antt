@@ -12,7 +12,7 @@ use Rattle.text.specs.declared.Answer.the-variants.{Nodes, Refused}
 use Rattle.text.specs.Size.{nodes, tooDeep, mostBytes, mostNodes}
 use Rattle.text.specs.Table.{treeAt, Falling}
 use Rattle.text.specs.Parse.{Reading, one, none, reading}
-use Rattle.text.specs.Rows.{Holds}
+use Rattle.text.specs.Rows.{Laid}
 
 -- 5: the text is empty or over 256 bytes long
 abbrev pub badLength : List ℕ → Bool
@@ -44,7 +44,7 @@ outcomeOf (Refused r) = refused (numberOf r) (placeOf r)
 -- the first n rows of the table stand for the one reading of the text: its root is node n − 1, and children have smaller numbers than their parent
 pub record Tabled (s table : List ℕ) (n : ℕ) : Type 0 where
   pub reads : reading s ≡ one (treeAt table (n - 1))
-  pub rows : Holds table 0 n (treeAt table (n - 1))
+  pub rows : Laid table 0 n (treeAt table (n - 1))
   pub falling : Falling table n
 
 -- WHAT THE READER ANSWERS

@@ -4,7 +4,7 @@ ghost use Prim.Native.Nat.{ℕ, _*_, _≤_};
 ghost use lib.ListN.{length};
 ghost use Rattle.text.specs.Size.{mostBytes};
 ghost use Rattle.text.specs.Syntax.{Text};
-ghost use Rattle.text.specs.Rows.{Holds, judgedText};
+ghost use Rattle.text.specs.Rows.{Laid, judgedText};
 ghost use Rattle.text.specs.Told.{Told};
 
 mod brackets;
@@ -71,7 +71,7 @@ pub enum Answer {
 // The answer for a text whose tree the first n rows hold.
 fn judge(text: &[u8], table: &[u32], n: usize) -> Answer
     requires { ⌜ 4 * n ≤ length (now table) ⌝ }
-    ensures { λ r. ⌜ ((t : Text) → Holds (now (table .entry)) 0 n t → r ≡ judgedText (now (text .entry)) t) ⌝ }
+    ensures { λ r. ⌜ ((t : Text) → Laid (now (table .entry)) 0 n t → r ≡ judgedText (now (text .entry)) t) ⌝ }
 {
     if table::is_mixed(table, n) {
         return Answer::Refused(Refusal::NoReading);

@@ -2,12 +2,11 @@
 ghost use mathlib.Core.Path.{_≡_};
 ghost use Prim.Native.Nat.{ℕ, _+_, _-_, _*_, _≤_, _<_};
 ghost use lib.ListN.{length};
-ghost use Rattle.text.specs.Table.{row, rowAt};
+ghost use Rattle.text.specs.Table.{row, rowAt, some};
 ghost use Rattle.text.specs.Classes.{within};
 ghost use Rattle.text.specs.Syntax.{Text};
 ghost use Rattle.text.specs.Size.{temporal, hasListed, mixed, mostBytes};
-ghost use Rattle.text.specs.Rows.{Put, Holds};
-ghost use Rattle.text.specs.TableLaws.{some};
+ghost use Rattle.text.specs.Rows.{Put, Laid};
 use crate::Row;
 use crate::kinds::GLOBALLY;
 use crate::kinds::HIGH;
@@ -121,7 +120,7 @@ fn some_kind(table: &[u32], n: usize, low: u32, high: u32) -> bool
 // Whether the text writes a listed name.
 pub fn has_listed(table: &[u32], n: usize) -> bool
     requires { ⌜ 4 * n ≤ length (now table) ⌝ }
-    ensures { λ r. ⌜ ((t : Text) → Holds (now (table .entry)) 0 n t → r ≡ hasListed t) ⌝ }
+    ensures { λ r. ⌜ ((t : Text) → Laid (now (table .entry)) 0 n t → r ≡ hasListed t) ⌝ }
 {
     some_kind(table, n, HIGH, LAG)
 }
@@ -129,7 +128,7 @@ pub fn has_listed(table: &[u32], n: usize) -> bool
 // Whether the text writes F, G, X, U or W.
 pub fn is_temporal(table: &[u32], n: usize) -> bool
     requires { ⌜ 4 * n ≤ length (now table) ⌝ }
-    ensures { λ r. ⌜ ((t : Text) → Holds (now (table .entry)) 0 n t → r ≡ temporal t) ⌝ }
+    ensures { λ r. ⌜ ((t : Text) → Laid (now (table .entry)) 0 n t → r ≡ temporal t) ⌝ }
 {
     if some_kind(table, n, NEXT, GLOBALLY) {
         return true;
@@ -140,7 +139,7 @@ pub fn is_temporal(table: &[u32], n: usize) -> bool
 // Whether the text writes a listed name beside F, G, X, U or W.
 pub fn is_mixed(table: &[u32], n: usize) -> bool
     requires { ⌜ 4 * n ≤ length (now table) ⌝ }
-    ensures { λ r. ⌜ ((t : Text) → Holds (now (table .entry)) 0 n t → r ≡ mixed t) ⌝ }
+    ensures { λ r. ⌜ ((t : Text) → Laid (now (table .entry)) 0 n t → r ≡ mixed t) ⌝ }
 {
     if has_listed(table, n) {
         return is_temporal(table, n);

@@ -1,4 +1,4 @@
--- The reader of texts behind the C boundary: what it returns, and what it leaves in the table.
+-- The reader of texts as tests from outside call it. It is no call of the library: what a refused text leaves in the table is not said.
 use Prim.Native.Nat.{ℕ, _*_, _<_}
 use mathlib.Core.Path.{_≡_}
 use mathlib.Core.Bool.{cond}
@@ -19,7 +19,7 @@ tableSize = 4 * mostBytes
 abbrev pub answerOf : List ℕ → ℕ → Outcome ℕ
 answerOf s room = cond (ltb room tableSize) (refused 255 0) (judged (textLines s) (nodesOf (reading s)))
 
--- THE COMPLETE OUTCOME of a reading, and the table, `old` before and `new` after
+-- what it returns, and the table of a text that was read, `old` before and `new` after
 pub record Reads (s old : List ℕ) (r : ℕ) (new : List ℕ) : Type 0 where
   pub returned : r ≡ packed (answerOf s (length old))
   pub tabled : (n : ℕ) → answerOf s (length old) ≡ result n → Tabled s new n
