@@ -1,13 +1,14 @@
 -- The degree call from its parts: a distance, a set, a text that was read, a target.
 use Prim.Native.Nat.{ℕ, _<_}
 use native.Mathlib.Omega.{arith}
-use mathlib.Core.Path.{_≡_, refl, sym, ap, _∙_}
-use mathlib.Core.Bool.{Bool, true, false, cond}
+use mathlib.Core.Path.{_≡_, refl, sym, ap, subst, _∙_}
+use mathlib.Core.Bool.{Bool, true, false, not, cond}
+use mathlib.Core.Logic.{_⊎_, inl, inr, ⊎-elim}
 use mathlib.Core.List.{List, [], _∷_, _++_}
-use lib.Dec.{ltb}
+use lib.Dec.{T, eqb, ltb}
 use lib.IntN.{ℤ, pos, negsuc}
-use lib.Ieee.{Float}
-use borrow.Author.Tests.{eq-eqb, ne-eqb}
+use lib.Ieee.{Float, isNan}
+use borrow.Author.Tests.{eq-eqb, ne-eqb, ltb-true}
 use Rattle.number.specs.Axis.{axis, origin, whole}
 use Rattle.refusal.specs.Outcome.{Outcome, result, refused, Line, judged, NoneMeets}
 use Rattle.refusal.specs.Numbers.{numberOf, placeOf}
@@ -32,6 +33,7 @@ use Rattle.question.specs.declared.prepare.Prepared.the-variants as prepared
 use Rattle.question.specs.declared.answered.Verdict.the-variants.{Fine, Refused}
 use Rattle.question.specs.declared.answered.Answered.{Answered}
 use Rattle.ratio.specs.Degree.{degreeOf}
+use Rattle.ratio.specs.DegreeLaws.{degree-number}
 use Rattle.targets.specs.Target.{Placed}
 use Rattle.targets.specs.declared.OnAxis.the-variants.{Index, Off}
 use Rattle.degree.specs.Degree.{Value, met, short, noValue, graded, valueOf, targetLine, nearnessOf}
@@ -123,3 +125,31 @@ module _ (bytes text table : List ℕ) (g : ℤ) (q : Prepared) (h : Prepares by
       w ∙ ap (λ (t : ℤ). judged (targetLine t ∷ setLines bytes (textOf table n)) (valueOf (λ k. val (coded bytes) k (textOf table n) 0) (index t))) same
       ∙ ap (λ (p : Text). judged (targetLine g ∷ setLines bytes p) (valueOf (λ k. val (coded bytes) k p 0) (index g))) is
       ∙ sym (judged-pass (askingLines bytes text) (targetLine g ∷ setLines bytes (read text)) (valueOf (answer bytes text) (index g)) passed)
+
+-- ---- the degree is a number
+
+short-is : (d d′ : ℕ) (k k′ : Float) → short d k ≡ short d′ k′ → (d ≡ d′) × (k ≡ k′)
+short-is d d′ k k′ e = (cc, cc)
+
+no-short : {C : Type 0} (x : Value) (d : ℕ) (k : Float) → ((x ≡ met) ⊎ (x ≡ noValue)) → x ≡ short d k → C
+no-short x d k h e = ⊎-elim (λ m. let z : _≡_ {A = ℕ} 0 1 = cc in absurd (bad z)) (λ m. let z : _≡_ {A = ℕ} 0 1 = cc in absurd (bad z)) h
+  where
+    bad : _≡_ {A = ℕ} 0 1 → ⊥
+    bad z = omega arith
+
+value-number : (f : ℕ → Bool) (v d : ℕ) (k : Float) → valueOf f v ≡ short d k → T (not (isNan k))
+value-number f v d k e = by (ltb (distance f v) axis) refl e
+  where
+    at : (b : Bool) → distance f v < axis → cond b met (short (distance f v) (degreeOf (distance f v))) ≡ short d k → T (not (isNan k))
+    at true h e = no-short met d k (inl refl) e
+    at false h e = subst (λ (x : Float). T (not (isNan x))) (short-is (distance f v) d (degreeOf (distance f v)) k e .1) (degree-number (distance f v) (omega arith))
+
+    by : (b : Bool) → ltb (distance f v) axis ≡ b → cond b (graded (distance f v)) noValue ≡ short d k → T (not (isNan k))
+    by true t e = at (eqb (distance f v) 0) (ltb-true (distance f v) axis t) e
+    by false t e = no-short noValue d k (inr refl) e
+
+pub short-number : (bytes text : List ℕ) (g : ℤ) (d : ℕ) (k : Float) → result (short d k) ≡ nearnessOf bytes text g → T (not (isNan k))
+unfolding nearnessOf
+short-number bytes text g d k e =
+    value-number (answer bytes text) (index g) d k
+    (result-none (askingLines bytes text ++ (targetLine g ∷ setLines bytes (read text))) (valueOf (answer bytes text) (index g)) (short d k) (sym e) .1)

@@ -3,7 +3,7 @@ use Prim.Native.Nat.{ℕ}
 use mathlib.Core.Path.{_≡_}
 use mathlib.Core.List.{List}
 use lib.IntN.{ℤ}
-use lib.Ieee.{Float}
+use lib.Ieee.{binary64, toBits}
 use Rattle.refusal.specs.Outcome.{Outcome, result, refused, judged, NoneMeets}
 use Rattle.recording.specs.Recording.{readings}
 use Rattle.recording.specs.Output.{counted, outputAfter}
@@ -35,14 +35,15 @@ distanceAfter (result (short d k)) old = d
 distanceAfter (result noValue) old = old
 distanceAfter (refused n p) old = old
 
-abbrev pub degreeAfter : Outcome Value → Float → Float
+-- the place of the degree holds its bits, so that nothing is left open of a place that held a NaN
+abbrev pub degreeAfter : Outcome Value → ℕ → ℕ
 degreeAfter (result met) old = old
-degreeAfter (result (short d k)) old = k
+degreeAfter (result (short d k)) old = toBits binary64 k
 degreeAfter (result noValue) old = old
 degreeAfter (refused n p) old = old
 
 -- THE COMPLETE OUTCOME of the degree call: what it returns, and the two places, `distance` and `degree` before, `first` and `second` after
-pub record Degrees (outcome : Outcome Value) (distance : ℕ) (degree : Float) (r : ℕ) (first : ℕ) (second : Float) : Type 0 where
+pub record Degrees (outcome : Outcome Value) (distance degree r first second : ℕ) : Type 0 where
   pub returned : r ≡ packed (valueTold outcome)
   pub first-place : first ≡ distanceAfter outcome distance
   pub second-place : second ≡ degreeAfter outcome degree

@@ -2,11 +2,12 @@
 use Prim.Native.Nat.{ℕ, suc, _*_, _/_, _≤_, _<_}
 use native.Mathlib.Omega.{arith}
 use mathlib.Core.Path.{_≡_, refl, sym, ap, _∙_, subst}
-use mathlib.Core.Bool.{Bool, true, false}
+use mathlib.Core.Bool.{Bool, true, false, not}
 use mathlib.Core.List.{List, [], _∷_, _++_}
 use lib.IntN.{ℤ}
-use lib.Ieee.{Float}
+use lib.Ieee.{Float, binary64, toBits, isNan}
 use lib.ListN.{length}
+use lib.Dec.{T}
 use borrow.Author.Tests.{ltb-false}
 use Rattle.refusal.specs.Outcome.{Outcome, result, refused, Line, judged}
 use Rattle.refusal.specs.Numbers.{numberOf, placeOf}
@@ -26,6 +27,7 @@ use Rattle.meaning.specs.Coded.{index}
 use Rattle.question.specs.Question.{answer, read, setLines, questionOf}
 use Rattle.question.specs.SizeLaws.{answered-few}
 use Rattle.degree.specs.Degree.{Value, valueOf, targetLine, nearnessOf, outcomeOf}
+use Rattle.degree.specs.CallLaws.{short-number}
 use Rattle.degree.specs.declared.Nearness.{Nearness}
 use Rattle.degree.specs.declared.Nearness.the-variants as nearness
 use Rattle.pair.specs.Pair.{Given, pairLines, acceptedLines}
@@ -40,7 +42,7 @@ pub writes : (outcome : Outcome (List ℕ)) (old : List ℕ) (w : Written) (new 
     → Writes outcome old r new
 writes outcome old w new r a e = record { returned = e ∙ ap packed (a .answer); output = a .output }
 
-module _ (o : Outcome Value) (n : Nearness) (answers : outcomeOf n ≡ o) (distance : ℕ) (degree : Float) where
+module _ (o : Outcome Value) (n : Nearness) (answers : outcomeOf n ≡ o) (distance degree : ℕ) where
   degrees-answer : (x : Outcome Value) → outcomeOf n ≡ x → Degrees o distance degree (packed (valueTold x)) (distanceAfter x distance) (degreeAfter x degree)
   degrees-answer x e =
       let q : x ≡ o = sym e ∙ answers in
@@ -53,8 +55,8 @@ module _ (o : Outcome Value) (n : Nearness) (answers : outcomeOf n ≡ o) (dista
   pub degrees-met : n ≡ nearness.Met → Degrees o distance degree 0 distance degree
   degrees-met e = degrees-answer (outcomeOf nearness.Met) (ap outcomeOf e)
 
-  pub degrees-short : (d : ℕ) (k : Float) → n ≡ nearness.Short d k → Degrees o distance degree 1 d k
-  degrees-short d k e = degrees-answer (outcomeOf (nearness.Short d k)) (ap outcomeOf e)
+  pub degrees-short : (d : ℕ) (k : Float) (bits : ℕ) → n ≡ nearness.Short d k → bits ≡ toBits binary64 k → Degrees o distance degree 1 d bits
+  degrees-short d k bits e h = subst (Degrees o distance degree 1 d) (sym h) (degrees-answer (outcomeOf (nearness.Short d k)) (ap outcomeOf e))
 
   pub degrees-none : n ≡ nearness.NoValue → Degrees o distance degree 2 distance degree
   degrees-none e = degrees-answer (outcomeOf nearness.NoValue) (ap outcomeOf e)
@@ -115,6 +117,10 @@ question-in-half bytes text room = go (questionOf bytes text room) refl
         place-below bytes (noRecord bytes ∷ textLines text ++ (setLines bytes (read text) ++ (outputLine room set ∷ []))) set n p
         (refl, (refl, (refl, (refl, (refl, (refl, (refl, tt))))))) e
     go (result written) e = omega (arith, answered-few bytes text room written e)
+
+-- a degree that is given is a number
+pub degree-given : (bytes text : List ℕ) (g : ℤ) (n : Nearness) (d : ℕ) (k : Float) → outcomeOf n ≡ nearnessOf bytes text g → n ≡ nearness.Short d k → T (not (isNan k))
+degree-given bytes text g n d k a e = short-number bytes text g d k (sym (ap outcomeOf e) ∙ a)
 
 pub degree-place : (bytes text : List ℕ) (g : ℤ) (n p : ℕ) → nearnessOf bytes text g ≡ refused n p → p < half
 unfolding nearnessOf

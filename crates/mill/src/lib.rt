@@ -1,4 +1,8 @@
 // The C boundary of the library.
+ghost use mathlib.Core.Path.{_≡_};
+ghost use mathlib.Core.Bool.{not};
+ghost use lib.Dec.{T};
+ghost use lib.Ieee.{binary64, toBits, isNan};
 ghost use lib.ListN.{length};
 ghost use Rattle.thin.specs.Thin.{thinOf};
 ghost use Rattle.question.specs.Question.{questionOf};
@@ -14,15 +18,23 @@ pub extern "C" fn mill_question(rec: &[u8], text: &[u8], out: &mut [u8]) -> u64
     reply::written(written)
 }
 
+// The bits of a number in binary64.
+fn bits(x: f64) -> u64
+    requires { ⌜ T (not (isNan x)) ⌝ }
+    ensures { λ r. ⌜ r ≡ toBits binary64 x ⌝ }
+{
+    f64::to_bits(x)
+}
+
 // THE DEGREE CALL. Returns 0 where the target is met, 1 where it is missed and its distance and degree are written, 2 where
-// there is no value, or the refusal.
+// there is no value, or the refusal. The degree is handed over by its bits: to C they are a double.
 #[no_mangle]
 pub extern "C" fn mill_degree(
     rec: &[u8],
     text: &[u8],
     target: i64,
     distance: &mut u32,
-    degree: &mut f64,
+    degree: &mut u64,
 ) -> u64
     ensures { λ r. ⌜ Degrees (nearnessOf (now (rec .entry)) (now (text .entry)) target) (now (distance .entry)) (now (degree .entry)) r (now (distance .exit)) (now (degree .exit)) ⌝ }
 {
@@ -31,7 +43,7 @@ pub extern "C" fn mill_degree(
         degree::Nearness::Met => 0,
         degree::Nearness::Short(d, k) => {
             *distance = d;
-            *degree = k;
+            *degree = bits(k);
             1
         }
         degree::Nearness::NoValue => 2,

@@ -1,11 +1,12 @@
 -- The sum of 1 and d is a float exactly, and the degree is the fraction 1 / (1 + d), rounded once to nearest.
 use mathlib.Core.Path.{_≡_, refl, sym, ap, _∙_, subst}
-use mathlib.Core.Bool.{Bool, true, false, true≢false, cond}
-use Prim.Native.Nat.{ℕ, _+_, _*_, _^_, _≤_, _<_}
+use mathlib.Core.Bool.{Bool, true, false, not, true≢false, cond}
+use Prim.Native.Nat.{ℕ, zero, suc, _+_, _*_, _^_, _≤_, _<_}
 use native.Mathlib.Nat.{zero-lt-suc, mul-one, one-mul, mul-pos, mul-comm, mul-assoc, add-mul, zero-mul, lt-irrefl}
 use native.Mathlib.Omega.{arith}
+use lib.Dec.{T, ltb}
 use lib.IntN.{pos}
-use lib.Ieee.{Float, nan, inf, fin, Format, binary64, up, down, round, sum, add, div, ofInt}
+use lib.Ieee.{Float, nan, inf, fin, Format, prec, emax, low, binary64, up, down, odd, units, round, sum, add, div, ofInt, isNan}
 use lib.Ieee.Fits.{down-pos}
 use lib.Ieee.Exact.{HasValue}
 use lib.Ieee.Scale.{round-same}
@@ -64,3 +65,25 @@ inverse-whole f (fin false m e) n p h =
 pub degree-is : (d : ℕ) → d < 2 ^ 53 → degreeOf d ≡ round binary64 false 1 (1 + d)
 unfolding degreeOf
 degree-is d h = inverse-whole binary64 (ofInt binary64 (pos (1 + d))) (1 + d) (omega arith) (int-exact (1 + d) (omega arith))
+
+-- ---- the degree is a number, so that its bits are fixed
+
+odd-number : (d : ℕ) (s : Bool) (q k l : ℕ) → T (not (isNan (odd d s q k l)))
+unfolding odd isNan
+odd-number d s zero k l = tt
+odd-number d s (suc q) k l = tt
+
+units-number : (f : Format) (s : Bool) (q k : ℕ) → T (not (isNan (units f s q k)))
+unfolding units isNan
+units-number f s q k = by (ltb (q * 2 ^ k) (2 ^ (low f + suc (emax f))))
+  where
+    by : (b : Bool) → T (not (isNan (cond b (odd (suc (prec f)) s q k (low f)) (inf s))))
+    by true = odd-number (suc (prec f)) s q k (low f)
+    by false = tt
+
+round-number : (f : Format) (s : Bool) (num den : ℕ) → T (not (isNan (round f s num den)))
+unfolding round
+round-number f s num den = units-number f s _ _
+
+pub degree-number : (d : ℕ) → d < 2 ^ 53 → T (not (isNan (degreeOf d)))
+degree-number d h = subst (λ (x : Float). T (not (isNan x))) (sym (degree-is d h)) (round-number binary64 false 1 (1 + d))

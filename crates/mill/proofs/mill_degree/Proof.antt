@@ -8,7 +8,7 @@ use mir.ValLaws.{toZ-ofZ}
 use Rattle.refusal.specs.Numbers.{numberOf, placeOf}
 use Rattle.degree.specs.Degree.{nearnessOf, outcomeOf}
 use Rattle.degree.specs.declared.Nearness.{Nearness}
-use Rattle.mill.specs.BoundaryLaws.{degree-place, degrees-met, degrees-short, degrees-none, degrees-refusal}
+use Rattle.mill.specs.BoundaryLaws.{degree-place, degree-given, degrees-met, degrees-short, degrees-none, degrees-refusal}
 use borrow.Author.Needs.{needs}
 use Rattle.mill.proofs.mill_degree.Statement.{statement}
 use Rattle.mill.proofs.mill_degree.Tie as tie
@@ -29,6 +29,14 @@ enum-told c = search needs
 
 enum-known-near : tie.Need-enum-known-near
 enum-known-near c = search needs
+
+bits-requires : tie.Need-bits-requires
+bits-requires c κs =
+    let s = c .before .before .before .before .before .before in
+    let t = c .before .before .before .degree in
+    let a = asked (s .args .rec .now) (s .args .text .now) (s .args .target) _ (t .result) (toZ-ofZ w64 (s .args .target) (s .fits .target)) (t .ensures) in
+    let z = c .before .near .given in
+    degree-given (s .args .rec .now) (s .args .text .now) (s .args .target) (t .result) (z .0 .0) (z .0 .1 .0) a (z .1)
 
 enum-told-2 : tie.Need-enum-told-2
 enum-told-2 c = search needs
@@ -53,11 +61,11 @@ returns c =
 
 returns-2 : tie.Need-returns-2
 returns-2 c =
-    let s = c .before .before .before .before .before .before in
-    let t = c .before .before .before .degree in
+    let s = c .before .before .before .before .before .before .before in
+    let t = c .before .before .before .before .degree in
     let a = asked (s .args .rec .now) (s .args .text .now) (s .args .target) _ (t .result) (toZ-ofZ w64 (s .args .target) (s .fits .target)) (t .ensures) in
-    let z = c .before .near .given in
-    degrees-short (nearnessOf (s .args .rec .now) (s .args .text .now) (s .args .target)) (t .result) a (s .args .distance .now) (s .args .degree .now) (z .0 .0) (z .0 .1 .0) (z .1)
+    let z = c .before .before .near .given in
+    degrees-short (nearnessOf (s .args .rec .now) (s .args .text .now) (s .args .target)) (t .result) a (s .args .distance .now) (s .args .degree .now) (z .0 .0) (z .0 .1 .0) (c .bits .result) (z .1) (c .bits .ensures)
 
 returns-3 : tie.Need-returns-3
 returns-3 c =
@@ -81,6 +89,7 @@ mill-degree-spec =
     degree-requires
     enum-told
     enum-known-near
+    bits-requires
     enum-told-2
     enum-known-near-2
     refused-requires
