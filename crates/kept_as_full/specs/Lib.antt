@@ -8,3 +8,5 @@ pub mod LastingLaws
 pub mod R1Lasting
 pub mod MarkedLines
 pub mod MarkedLinesLaws
+pub mod FirstSixAsked
+pub mod FirstSixAskedLaws
