@@ -6,3 +6,7 @@ pub mod PairAsFullLaws
 pub mod KeptAsFullLaws
 pub mod LastingLaws
 pub mod R1Lasting
+pub mod MarkedLines
+pub mod MarkedLinesLaws
+pub mod FirstSixAsked
+pub mod FirstSixAskedLaws

@@ -56,7 +56,7 @@ module _ {R : Type 0} where
       go false e rest = rest e
 
 -- two tests with the same meaning
-same-test : (e f : Bool) {P Q : Type 0} → So e ↔ P → P ↔ Q → So f ↔ Q → e ≡ f
+pub same-test : (e f : Bool) {P Q : Type 0} → So e ↔ P → P ↔ Q → So f ↔ Q → e ≡ f
 same-test e f p h q = same e f (λ t. q .1 (h .0 (p .0 t))) (λ t. p .1 (h .1 (q .0 t)))
 
 -- ---- the recording
@@ -67,7 +67,7 @@ kept-count marks [] = refl
 kept-count marks (x ∷ r) =
     ne-eqb (length (pick (on reading (keptFor marks)) (x ∷ r))) 0 (λ e. omega arith) ∙ sym (ne-eqb (length (x ∷ r)) 0 (λ e. omega arith))
 
-some-readings : (bytes : List ℕ) → noRecord bytes .meets ≡ false → 0 < length (readings bytes)
+pub some-readings : (bytes : List ℕ) → noRecord bytes .meets ≡ false → 0 < length (readings bytes)
 some-readings bytes h = by (decLt 0 (length (records bytes)))
   where
     by : Dec (0 < length (records bytes)) → 0 < length (readings bytes)
