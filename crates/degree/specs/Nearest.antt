@@ -4,7 +4,9 @@ use mathlib.Core.Path.{_≡_}
 use mathlib.Core.List.{List}
 use Rattle.number.specs.Axis.{axis, whole}
 use Rattle.recording.specs.Reading.{Reading}
+use Rattle.recording.specs.Recording.{readings}
 use Rattle.text.specs.Syntax.{Text}
+use Rattle.text.specs.Grammar.{ReadsWhole}
 use Rattle.meaning.specs.Meaning.{Holds}
 use Rattle.ratio.specs.Degree.{degreeOf}
 use Rattle.degree.specs.Degree.{Value, met, short, noValue}
@@ -31,3 +33,11 @@ module _ (r : List Reading) (p : Text) where
   Says v met = Member v
   Says v (short d k) = (0 < d) × Distance v d × (k ≡ degreeOf d)
   Says v noValue = (w : ℕ) → w < axis → Member w → ⊥
+
+-- DEMAND 2, of a value x that the degree call gives for the number at index v: the text has a reading under the printed rules, and no other, and x says
+-- so of that reading
+pub record Near (bytes text : List ℕ) (v : ℕ) (x : Value) : Type 0 where
+  pub tree : Text
+  pub reads : ReadsWhole text tree
+  pub only : (t : Text) → ReadsWhole text t → t ≡ tree
+  pub says : Says (readings bytes) tree v x

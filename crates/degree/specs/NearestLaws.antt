@@ -18,10 +18,11 @@ use Rattle.meaning.specs.Coded.{index}
 use Rattle.meaning.specs.RecordedLaws.{accepted-recorded}
 use Rattle.meaning.specs.TruthLaws.{val-holds}
 use Rattle.question.specs.Question.{read, answer, askingLines, setLines}
+use Rattle.question.specs.MeantLaws.{read-reads, reads-read}
 use Rattle.ratio.specs.Degree.{degreeOf}
 use Rattle.degree.specs.Degree.{Value, met, short, noValue, graded, valueOf, targetLine, nearnessOf}
 use Rattle.degree.specs.CallLaws.{index-whole}
-use Rattle.degree.specs.Nearest.{apart, Member, Distance, Says}
+use Rattle.degree.specs.Nearest.{apart, Member, Distance, Says, Near}
 
 module _ (bytes text : List ℕ) (a : Accepted bytes) (v : ℕ) (h : v < axis) where
   -- the answered set
@@ -66,9 +67,14 @@ module _ (bytes text : List ℕ) (a : Accepted bytes) (v : ℕ) (h : v < axis) w
       by false e = λ w hw m. omega (arith, ltb-false (distance set v) axis e, distance-least set v h w hw (member-true w m))
 
 -- DEMAND 2, of the degree call
-pub nearness-says : (bytes text : List ℕ) (v : ℕ) → v < axis → (x : Value) → nearnessOf bytes text (whole v) ≡ result x → Says (readings bytes) (read text) v x
+pub nearness-says : (bytes text : List ℕ) (v : ℕ) → v < axis → (x : Value) → nearnessOf bytes text (whole v) ≡ result x → Near bytes text v x
 unfolding nearnessOf
 nearness-says bytes text v h x e =
     let k = result-none (askingLines bytes text ++ (targetLine (whole v) ∷ setLines bytes (read text))) (valueOf (answer bytes text) (index (whole v))) x e in
-    let a : Accepted bytes = none-append (recordingLines bytes) (noRecord bytes ∷ textLines text) (none-append (askingLines bytes text) (targetLine (whole v) ∷ setLines bytes (read text)) (k .0) .0) .0 in
-    subst (Says (readings bytes) (read text) v) (ap (valueOf (answer bytes text)) (sym (index-whole v)) ∙ k .1) (value-says bytes text a v h)
+    let a = none-append (recordingLines bytes) (noRecord bytes ∷ textLines text) (none-append (askingLines bytes text) (targetLine (whole v) ∷ setLines bytes (read text)) (k .0) .0) in
+    record {
+      tree = read text;
+      reads = read-reads text (a .1 .1 .1 .0);
+      only = λ t r. sym (reads-read text t r);
+      says = subst (Says (readings bytes) (read text) v) (ap (valueOf (answer bytes text)) (sym (index-whole v)) ∙ k .1) (value-says bytes text (a .0) v h);
+    }

@@ -77,7 +77,7 @@ fn same_answers(random: &mut Random, records: &[Record], marks: &[i64], held: &[
     }
 }
 
-fn kept_as_full(random: &mut Random, records: &[Record]) -> u64 {
+fn promises(random: &mut Random, records: &[Record]) -> u64 {
     let full = bytes(records);
     let marks = recordings::marks(random, records);
     let (returned, kept) = bytes_of(&full, &mark_bytes(&marks), full.len(), mill_thin);
@@ -91,16 +91,16 @@ fn plain_questions_answer_alike_on_kept_readings() {
     let mut dropped = 0;
     cases("kept as full", 12_000, |random| {
         let records = recordings::any(random);
-        dropped += u64::from(kept_as_full(random, &records) > 0);
+        dropped += u64::from(promises(random, &records) > 0);
     });
     assert!(one_alone() || dropped > 3_000, "readings were dropped in {dropped} cases only");
     cases("kept as full, many tops", 600, |random| {
         let records = with_many_tops(random);
-        kept_as_full(random, &records);
+        promises(random, &records);
     });
     cases("kept as full, long", 40, |random| {
         let records = recordings::accepted(random, 4096);
-        kept_as_full(random, &records);
+        promises(random, &records);
     });
 }
 

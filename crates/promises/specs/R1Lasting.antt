@@ -36,9 +36,9 @@ use Rattle.question.specs.Question.{read, answer, askingLines, setLines, questi
 use Rattle.thin.specs.Thin.{marksOf}
 use Rattle.thin.specs.Book.{heldAfter}
 use Rattle.thin.specs.R1Calls.{R1-accepted, mark40, mark40-accepted, cuts, cuts-long-enough}
-use Rattle.kept_as_full.specs.KeptAsFull.{Askable}
-use Rattle.kept_as_full.specs.Lasting.{Lasting}
-use Rattle.kept_as_full.specs.LastingLaws.{lasting}
+use Rattle.promises.specs.KeptAsFull.{Askable}
+use Rattle.promises.specs.Lasting.{Lasting}
+use Rattle.promises.specs.LastingLaws.{lasting}
 
 -- a listed question asked alone
 listed-plain : (marks : List ℕ) (l : Listed) → ((k : ℕ) → List·Memᴰ k (afterTime l) → List·Memᴰ k (map markIndex marks)) → Plain marks (listed l)

@@ -45,7 +45,7 @@ use Rattle.meaning.specs.WholeLaws.{Stands, stands-whole, le-index}
 use Rattle.question.specs.Question.{theText, read, answer, askingLines, setLines, questionOf}
 use Rattle.thin.specs.Thin.{keptBytes, marksOf, marksLine, AcceptedMarks, thinOf}
 use Rattle.thin.specs.R1Calls.{R1-accepted}
-use Rattle.kept_as_full.specs.MarkedLines.{MarkedLine, markedLines, bytesOfRuns, bytesOfMarks, writtenIn, Asked, Thinned, Says}
+use Rattle.promises.specs.MarkedLines.{MarkedLine, markedLines, bytesOfRuns, bytesOfMarks, writtenIn, Asked, Thinned, Says}
 
 -- ---- the runs of a set fix its bytes
 

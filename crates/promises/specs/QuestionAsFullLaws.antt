@@ -38,8 +38,8 @@ use Rattle.thin.specs.Thin.{keptBytes, marksOf}
 use Rattle.thin.specs.BookLaws.{records-kept}
 use Rattle.thin.specs.CutLaws.{sound-thinned}
 use Rattle.thin.specs.KeptBytesLaws.{readings-kept}
-use Rattle.kept_as_full.specs.ObservationLaws.{kept-alike}
-use Rattle.kept_as_full.specs.KeptAsFull.{Askable}
+use Rattle.promises.specs.ObservationLaws.{kept-alike}
+use Rattle.promises.specs.KeptAsFull.{Askable}
 
 -- ---- lines judged
 

@@ -7,9 +7,9 @@ use Rattle.recording.specs.Recording.{Accepted}
 use Rattle.thin.specs.Thin.{keptBytes, marksOf, AcceptedMarks}
 use Rattle.pair.specs.declared.TopPair.{TopPair}
 use Rattle.pair.specs.Pair.{outcomeOf, Answers}
-use Rattle.kept_as_full.specs.KeptAsFull.{SameAnswers, found}
-use Rattle.kept_as_full.specs.QuestionAsFullLaws.{kept-question, kept-degree}
-use Rattle.kept_as_full.specs.PairAsFullLaws.{kept-pair, answers-agree}
+use Rattle.promises.specs.KeptAsFull.{SameAnswers, found}
+use Rattle.promises.specs.QuestionAsFullLaws.{kept-question, kept-degree}
+use Rattle.promises.specs.PairAsFullLaws.{kept-pair, answers-agree}
 
 -- for every accepted recording and accepted marks
 pub kept-as-full : (marks : List ℕ) → AcceptedMarks marks → (bytes : List ℕ) → Accepted bytes → SameAnswers marks (keptBytes (marksOf marks) bytes) bytes

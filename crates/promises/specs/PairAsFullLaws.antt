@@ -23,9 +23,9 @@ use Rattle.thin.specs.Thin.{keptBytes}
 use Rattle.thin.specs.KeptBytesLaws.{readings-kept}
 use Rattle.pair.specs.declared.TopPair.{TopPair}
 use Rattle.pair.specs.Pair.{timeAt, Given, times, none, OfTops, Right, badTarget, acceptedLines, pairLines, outcomeOf, Answers}
-use Rattle.kept_as_full.specs.KeptAsFull.{found}
-use Rattle.kept_as_full.specs.ObservationLaws.{includes-itself}
-use Rattle.kept_as_full.specs.QuestionAsFullLaws.{kept-accepted, kept-noRecord}
+use Rattle.promises.specs.KeptAsFull.{found}
+use Rattle.promises.specs.ObservationLaws.{includes-itself}
+use Rattle.promises.specs.QuestionAsFullLaws.{kept-accepted, kept-noRecord}
 
 -- ---- tops that are the same records
 

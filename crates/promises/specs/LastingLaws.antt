@@ -1,23 +1,20 @@
 -- Demand 3, end to end, proved: answers last, and they are the ones that demand 2 fixes for the whole recording.
-use Prim.Native.Nat.{ℕ, _<_}
+use Prim.Native.Nat.{ℕ}
 use mathlib.Core.Path.{_≡_, sym, _∙_, subst}
-use mathlib.Core.Logic.{_↔_}
 use mathlib.Core.List.{List, []}
-use Rattle.number.specs.Axis.{axis, whole}
 use Rattle.refusal.specs.Outcome.{result}
-use Rattle.recording.specs.Recording.{readings, Accepted}
-use Rattle.runset.specs.Written.{inBytes}
-use Rattle.meaning.specs.Meaning.{Holds}
-use Rattle.question.specs.Question.{read, questionOf}
-use Rattle.question.specs.AnswerLaws.{answered-holds}
+use Rattle.recording.specs.Recording.{Accepted}
+use Rattle.question.specs.Question.{questionOf}
+use Rattle.question.specs.Meant.{Meant}
+use Rattle.question.specs.MeantLaws.{answered-meant}
 use Rattle.thin.specs.Thin.{marksOf, AcceptedMarks}
 use Rattle.thin.specs.Book.{Call, heldAfter, joinAfter}
 use Rattle.thin.specs.Cut.{wholeFrom, CutBetween, LongEnough, AsTheWhole}
 use Rattle.thin.specs.BookLaws.{as-the-book}
 use Rattle.thin.specs.CutLaws.{as-the-whole}
-use Rattle.kept_as_full.specs.KeptAsFull.{Askable, SameAnswers}
-use Rattle.kept_as_full.specs.KeptAsFullLaws.{kept-as-full}
-use Rattle.kept_as_full.specs.Lasting.{Lasting}
+use Rattle.promises.specs.KeptAsFull.{Askable, SameAnswers}
+use Rattle.promises.specs.KeptAsFullLaws.{kept-as-full}
+use Rattle.promises.specs.Lasting.{Lasting}
 
 module _ (marks : List ℕ) (fine : AcceptedMarks marks) (cs : List Call) (accepted : Accepted (wholeFrom [] cs)) (cut : CutBetween cs)
     (long : LongEnough (marksOf marks) [] cs) where
@@ -30,11 +27,10 @@ module _ (marks : List ℕ) (fine : AcceptedMarks marks) (cs : List Call) (accep
         same = subst (λ (held : List ℕ). SameAnswers marks held (wholeFrom [] cs)) (sym (w .held)) (kept-as-full marks fine (wholeFrom [] cs) accepted);
       }
 
-  -- a number stands in the answer from the readings held if and only if the text holds of the whole recording with that number put in
-  pub held-holds : (text : List ℕ) → Askable marks text → (room : ℕ) (written : List ℕ) → questionOf (heldAfter marks [] cs) text room ≡ result written
-      → (n : ℕ) → n < axis → inBytes written (whole n) ↔ Holds (readings (wholeFrom [] cs)) (whole n) (read text) 0
-  held-holds text askable room written e =
-      answered-holds (wholeFrom [] cs) text room written (sym (lasting .same .question text askable room) ∙ e)
+  -- DEMAND 2, of the answer from the readings held: it is the meaning of the text's one reading, of the whole recording
+  pub held-meant : (text : List ℕ) → Askable marks text → (room : ℕ) (written : List ℕ) → questionOf (heldAfter marks [] cs) text room ≡ result written
+      → Meant (wholeFrom [] cs) text written
+  held-meant text askable room written e = answered-meant (wholeFrom [] cs) text room written (sym (lasting .same .question text askable room) ∙ e)
 
 -- AFTER ANY LIST OF CALLS, refused ones included, the readings held answer as the join of the pieces taken, where that is an accepted recording
 pub held-as-join : (marks : List ℕ) → AcceptedMarks marks → (cs : List Call) → Accepted (joinAfter (marksOf marks) [] cs)

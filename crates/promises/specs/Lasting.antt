@@ -5,7 +5,7 @@ use mathlib.Core.List.{List, []}
 use Rattle.thin.specs.Thin.{marksOf}
 use Rattle.thin.specs.Book.{Call, calls, heldAfter}
 use Rattle.thin.specs.Cut.{wholeFrom, allWritten}
-use Rattle.kept_as_full.specs.KeptAsFull.{SameAnswers}
+use Rattle.promises.specs.KeptAsFull.{SameAnswers}
 
 -- ANSWERS THAT LAST: no thinning call is refused, and the readings held after them answer as the whole recording
 pub record Lasting (marks : List ℕ) (cs : List Call) : Type 0 where

@@ -1,0 +1,1 @@
+// What holds over several calls: kept as full, end to end, the first six as their formulas, and the marked lines of R1. Statements and laws only.
