@@ -47,6 +47,28 @@ fn null_with_length_0_in_questions() {
     assert_eq!((whole, real, out), (77, 7.5, [9; 64]));
 }
 
+/// A place that holds a signalling NaN keeps every bit where nothing is written, and gets the degree's bits where it is.
+#[test]
+fn the_place_of_the_degree_by_its_bits() {
+    let r1 = r1_bytes();
+    let signalling = 0x7FF0_0000_0000_0001_u64;
+    for (text, target, returned, after) in [
+        ("high(A)", 0, 0, signalling),
+        ("lag", 0, 2, signalling),
+        ("F(A>v", 0, refusal(6), signalling),
+        ("high(A)", 2_000_000_001, refusal(12), signalling),
+        ("peaks(A)", 51, 1, 0.05f64.to_bits()),
+    ] {
+        let (mut distance, mut degree) = (77u32, signalling);
+        // SAFETY: the pointers lie before what their lengths say; 64 bits have the size and the alignment of a double.
+        let found = unsafe {
+            let place = (&raw mut degree).cast();
+            mill_degree(r1.as_ptr(), r1.len(), text.as_ptr(), text.len(), target, &mut distance, place)
+        };
+        assert_eq!((found, degree), (returned, after), "{text}");
+    }
+}
+
 #[test]
 fn inputs_may_overlap() {
     let r1 = r1_bytes();
