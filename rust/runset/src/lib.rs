@@ -62,17 +62,7 @@ pub fn runs(bytes: &[u8]) -> Vec<Run> {
 
 pub fn combine(op: Op, a: &[u8], b: &[u8], c: &[u8], out: &mut [u8]) -> u32 {
     unsafe {
-        runset_combine(
-            op as u32,
-            a.as_ptr(),
-            a.len(),
-            b.as_ptr(),
-            b.len(),
-            c.as_ptr(),
-            c.len(),
-            out.as_mut_ptr(),
-            out.len(),
-        )
+        runset_combine(op as u32, a.as_ptr(), a.len(), b.as_ptr(), b.len(), c.as_ptr(), c.len(), out.as_mut_ptr(), out.len())
     }
 }
 

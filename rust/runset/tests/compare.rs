@@ -138,7 +138,9 @@ fn apart(n: i64, from: i64, step: i64) -> Vec<Run> {
 #[test]
 fn the_limit_is_exact() {
     // 64 runs inside the axis have a complement of 65, with a run at an axis end of 64
-    for (set, over) in [(apart(64, 5, 10), true), (apart(64, LOW, 10), false), (apart(64, HIGH - 630, 10), false), (apart(63, 5, 10), false)] {
+    for (set, over) in
+        [(apart(64, 5, 10), true), (apart(64, LOW, 10), false), (apart(64, HIGH - 630, 10), false), (apart(63, 5, 10), false)]
+    {
         let mut out = [0u8; 512];
         assert_eq!(combine(Op::Not, &bytes(&set), &[], &[], &mut out) == OVER, over);
         check_all(&set, &apart(64, 10, 10), &apart(32, 0, 20));
