@@ -1,50 +1,40 @@
+-- The count and the cuts go to the slot, and all else stays.
 use native.Mathlib.Omega.{arith}
 use Prim.Native.Nat.{_*_}
 use mathlib.Core.Path.{_∙_}
 use lib.ListN.{length-set}
+use Rattle.evaluation.specs.Slots.{width}
 use Rattle.evaluation.specs.SlotsLaws.{stored}
 use borrow.Author.Needs.{needs}
 use Rattle.evaluation.proofs.slots.store.Statement.{statement}
 use Rattle.evaluation.proofs.slots.store.Tie as tie
-use Rattle.evaluation.proofs.slots.store.Reads as reads
-use Rattle.evaluation.proofs.slots.store.Lts as lts
-use Rattle.evaluation.proofs.slots.copy.Reads as copy-reads
 
--- src/slots.rt:54:23
 cast-sets : tie.Need-cast-sets
 cast-sets c = search needs
 
--- src/slots.rt:54:10
 mul-sets : tie.Need-mul-sets
 mul-sets c = search needs
 
--- src/slots.rt:54:5
 mul-sets-2 : tie.Need-mul-sets-2
 mul-sets-2 c = search needs
 
--- src/slots.rt:54:5
 slice-write-sets : tie.Need-slice-write-sets
 slice-write-sets c = search needs
 
--- src/slots.rt:55:16
 mul-copy : tie.Need-mul-copy
 mul-copy c = search needs
 
--- src/slots.rt:55:16
 add-copy : tie.Need-add-copy
 add-copy c = search needs
 
--- src/slots.rt:55:5
 copy-requires : tie.Need-copy-requires
 copy-requires c κs = (simp length-set (omega arith), search needs)
 
--- src/slots.rt:50:1
 same-length : tie.Need-same-length
 same-length c =
     let a = c .before .before .before .before .before .before .args in
-    c .before .before .copy .ensures .size ∙ length-set (a .sets .now) (129 * (a .m)) (a .n)
+    c .before .before .copy .ensures .size ∙ length-set (a .sets .now) (width * a .m) (a .n)
 
--- src/slots.rt:50:1
 returns : tie.Need-returns
 returns c =
     let s = c .before .before .before .before .before .before in
