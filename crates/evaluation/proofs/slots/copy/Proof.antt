@@ -15,50 +15,39 @@ Inv-loop sets₀ from cuts n i₀ sets i = (i ≤ n) × Copied sets₀ sets from
 abbrev μ-loop : tie.MeasureT-loop
 μ-loop sets₀ from cuts n i₀ sets i = n - i
 
--- src/slots.rt:43:5
 loop-holds : tie.Need-loop-holds Inv-loop μ-loop
 loop-holds c = (omega arith, copied-none (c .args .sets .now) (c .args .from) (c .args .cuts .now))
 
--- src/slots.rt:44:26
 mul-sets : tie.Need-mul-sets Inv-loop μ-loop
 mul-sets c = search needs
 
--- src/slots.rt:44:26
 shared-slice-read-sets : tie.Need-shared-slice-read-sets Inv-loop μ-loop
 shared-slice-read-sets c = search needs
 
--- src/slots.rt:44:14
 add-sets : tie.Need-add-sets Inv-loop μ-loop
 add-sets c = search needs
 
--- src/slots.rt:44:9
 mul-sets-2 : tie.Need-mul-sets-2 Inv-loop μ-loop
 mul-sets-2 c = search needs
 
--- src/slots.rt:44:9
 slice-write-sets : tie.Need-slice-write-sets Inv-loop μ-loop
 slice-write-sets c = search needs
 
--- src/slots.rt:45:9
 add-i : tie.Need-add-i Inv-loop μ-loop
 add-i c = search needs
 
--- src/slots.rt:43:5
 loop-less : tie.Need-loop-less Inv-loop μ-loop
 loop-less c = search needs
 
--- src/slots.rt:43:5
 loop-again : tie.Need-loop-again Inv-loop μ-loop
 loop-again c =
     let s = c .before .before .before in
     let l = c .before .before .loop in
     (omega arith, copied-more (s .args .sets .now) (l .sets) (s .args .from) (s .args .cuts .now) (l .i) (l .inv .1) (omega arith))
 
--- src/slots.rt:38:1
 same-length : tie.Need-same-length Inv-loop μ-loop
 same-length c = search needs
 
--- src/slots.rt:38:1
 returns : tie.Need-returns Inv-loop μ-loop
 returns c =
     let l = c .before .loop in

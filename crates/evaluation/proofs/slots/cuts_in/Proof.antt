@@ -17,77 +17,59 @@ use Rattle.evaluation.proofs.slots.size.Reads as size-reads
 part-of : (from n : ℕ) (l : List ℕ) → take (from + n - from) (drop from l) ≡ take n (drop from l)
 part-of from n l = let e : from + n - from ≡ n = omega arith in ap (λ (k : ℕ). take k (drop from l)) e
 
--- src/slots.rt:27:16
 mul-from : tie.Need-mul-from
 mul-from c = search needs
 
--- src/slots.rt:27:16
 add-from : tie.Need-add-from
 add-from c = search needs
 
--- src/slots.rt:28:23
 mul-size : tie.Need-mul-size
 mul-size c = search needs
 
--- src/slots.rt:28:18
 mul-size-2 : tie.Need-mul-size-2
 mul-size-2 c = search needs
 
--- src/slots.rt:28:18
 shared-slice-read-size : tie.Need-shared-slice-read-size
 shared-slice-read-size c = search needs
 
--- src/slots.rt:28:9
 size-requires : tie.Need-size-requires
 size-requires c κs = search needs
 
--- src/slots.rt:30:20
 add-full : tie.Need-add-full
 add-full c = search needs
 
--- src/slots.rt:31:16
 mul-result : tie.Need-mul-result
 mul-result c = search needs
 
--- src/slots.rt:31:16
 sub-result : tie.Need-sub-result
 sub-result c = search needs
 
--- src/slots.rt:31:16
 part-result-start : tie.Need-part-result-start
 part-result-start c = search needs
 
--- src/slots.rt:31:16
 part-result-end : tie.Need-part-result-end
 part-result-end c = search needs
 
--- src/slots.rt:31:9
 returns : tie.Need-returns
 returns c =
     let a = c .before .before .before .before .before .args in
     part-of (width * (a .m) + 1) (2 * mostRuns) (a .sets .now) ∙ slot-full (a .sets .now) (a .m) (omega (arith, c .before .before .size .ensures))
 
--- src/slots.rt:33:15
 add-end : tie.Need-add-end
 add-end c = search needs
 
--- src/slots.rt:34:5
 mul-result-2 : tie.Need-mul-result-2
 mul-result-2 c = search needs
 
--- src/slots.rt:34:5
 sub-result-2 : tie.Need-sub-result-2
 sub-result-2 c = search needs
 
--- src/slots.rt:34:5
 part-result-start-2 : tie.Need-part-result-start-2
 part-result-start-2 c = search needs
 
--- src/slots.rt:34:5
 part-result-end-2 : tie.Need-part-result-end-2
 part-result-end-2 c = search needs
 
--- src/slots.rt:23:1
 returns-2 : tie.Need-returns-2
 returns-2 c =
     let a = c .before .before .before .before .before .args in
