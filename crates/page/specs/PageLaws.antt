@@ -47,7 +47,7 @@ lines-fit (suc k) set = omega (arith, next-length k set, lines-fit k set, line-f
 
 pub set-fits : (set : List ℕ) → length set ≤ setRoom → length (page (result set)) ≤ pageSize
 set-fits set h =
-    let d : length (decimal (length set / 8)) ≤ 2 = decimal-fits (length set / 8) 1 (omega arith) in
+    let d : length (decimal (length set / 8)) ≤ 10 = decimal-fits (length set / 8) 9 (omega arith) in
     omega (arith, set-length set, lines-fit (length set / 8) set)
 
 -- the lines up to a run are no longer than all

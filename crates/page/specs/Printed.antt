@@ -12,9 +12,9 @@ use Rattle.page.specs.Typed.{withoutNewline}
 abbrev pub setRoom : ℕ
 setRoom = 8 * mostRuns
 
--- the longest page: `runs 64`, and for each run two numbers of at most 11 bytes, a blank and a newline
+-- room for the longest page: `runs `, a number of at most 10 digits and a newline, and for each run two numbers of at most 11 bytes, a blank and a newline
 abbrev pub pageSize : ℕ
-pageSize = 8 + 24 * mostRuns
+pageSize = 16 + 24 * mostRuns
 
 -- what is printed
 abbrev pub printed : List ℕ → List ℕ → List ℕ

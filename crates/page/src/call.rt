@@ -9,8 +9,9 @@ use recording::Written;
 // The output that the question call is given: 8 bytes for each run that a set may have.
 pub const SET_ROOM: usize = 8 * runset::MOST_RUNS;
 
-// The longest page: `runs 64`, and for each run two numbers of at most 11 bytes, a blank and a newline.
-pub const PAGE_SIZE: usize = 8 + 24 * runset::MOST_RUNS;
+// Room for the longest page: `runs `, a number of at most 10 digits and a newline, and for each run two numbers of at most
+// 11 bytes, a blank and a newline.
+pub const PAGE_SIZE: usize = 16 + 24 * runset::MOST_RUNS;
 
 const NEWLINE: u8 = 10;
 
