@@ -66,36 +66,29 @@ quiet Xor = refl
 
 -- an operation on two lists of cuts
 module _ (op : Op) (a b before after : List ℕ) (w : Filled) (ca : Canonical a) (cb : Canonical b) where
-  pub combined : length before ≡ 2 * mostRuns → Merged (mergeCuts (opOf op) false false (take (length a) a) (take (length b) b)) before after w
+  pub combined : length before ≡ 2 * mostRuns → Merged (mergeCuts (opOf op) false false a b) before after w
       → Fills (λ v. opOf op (inside a v) (inside b v)) after w
   combined room r =
       merged-fills (λ v. opOf op (inside a v) (inside b v)) (mergeCuts (opOf op) false false a b) before after w
-      (merged-canonical (opOf op) (quiet op) a b ca cb) (λ v h. merged-inside (opOf op) (quiet op) a b ca cb v) room
-      (subst (λ (l : List ℕ). Merged l before after w) (ap₂ (mergeCuts (opOf op) false false) (take-length a) (take-length b)) r)
+      (merged-canonical (opOf op) (quiet op) a b ca cb) (λ v h. merged-inside (opOf op) (quiet op) a b ca cb v) room r
 
 -- what two sets share, written where there is room for all its cuts
 module _ (a b before after : List ℕ) (w : Filled) (la : Lent a) (lb : Lent b) (room : length before ≡ 4 * mostRuns)
-    (r : Merged (mergeCuts _&&_ false false (take (length a) a) (take (length b) b)) before after w) where
-  m : List ℕ
-  m = mergeCuts _&&_ false false a b
-
-  written : Merged (mergeCuts _&&_ false false a b) before after w
-  written = subst (λ (l : List ℕ). Merged l before after w) (ap₂ (mergeCuts _&&_ false false) (take-length a) (take-length b)) r
-
+    (r : Merged (mergeCuts _&&_ false false a b) before after w) where
   short : length (mergeCuts _&&_ false false a b) ≤ 4 * mostRuns
   short = omega (arith, merge-length _&&_ false false a b, la .few, lb .few)
 
   fits : w .over ≡ false
-  fits = written .over ∙ le-ltb (length before) (length (mergeCuts _&&_ false false a b)) (omega (arith, short))
+  fits = r .over ∙ le-ltb (length before) (length (mergeCuts _&&_ false false a b)) (omega (arith, short))
 
   front : take (w .n) after ≡ mergeCuts _&&_ false false a b
-  front = ap₂ take (written .count fits) (written .filled fits) ∙ take-at (mergeCuts _&&_ false false a b) (drop (length (mergeCuts _&&_ false false a b)) before) (length (mergeCuts _&&_ false false a b)) refl
+  front = ap₂ take (r .count fits) (r .filled fits) ∙ take-at (mergeCuts _&&_ false false a b) (drop (length (mergeCuts _&&_ false false a b)) before) (length (mergeCuts _&&_ false false a b)) refl
 
   pub shared-there : w .n ≤ length after
-  shared-there = omega (arith, written .count fits, simp length-append at (ap length (written .filled fits)))
+  shared-there = omega (arith, r .count fits, simp length-append at (ap length (r .filled fits)))
 
   pub shared-short : w .n ≤ 4 * mostRuns
-  shared-short = omega (arith, written .count fits, short)
+  shared-short = omega (arith, r .count fits, short)
 
   pub shared-canonical : Canonical (take (w .n) after)
   shared-canonical = subst Canonical (sym front) (merged-canonical _&&_ refl a b (la .canonical) (lb .canonical))

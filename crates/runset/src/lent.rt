@@ -43,7 +43,7 @@ fn combine(op: Op, a: &[u32], b: &[u32], out: &mut [u32]) -> Filled
     requires { ⌜ Canonical (now a) × Canonical (now b) × (length (now a) ≤ 4 * mostRuns) × (length (now b) ≤ 4 * mostRuns) × (length (now out) ≡ 2 * mostRuns) ⌝ }
     ensures { λ r. ⌜ Fills (λ v. opOf op (inside (now (a .entry)) v) (inside (now (b .entry)) v)) (now (out .exit)) r ⌝ }
 {
-    crate::merge::merge(op, a, a.len(), b, b.len(), out)
+    crate::run::merge(op, a, b, out)
 }
 
 // What is in a or in b.
@@ -76,7 +76,7 @@ pub fn or_and(q: &[u32], p: &[u32], r: &[u32], shared: &mut [u32], out: &mut [u3
     requires { ⌜ Lent (now q) × Lent (now p) × Lent (now r) × (length (now shared) ≡ 4 * mostRuns) × (length (now out) ≡ 2 * mostRuns) ⌝ }
     ensures { λ m. ⌜ Fills (λ v. inside (now (q .entry)) v || (inside (now (p .entry)) v && inside (now (r .entry)) v)) (now (out .exit)) m ⌝ }
 {
-    let both = crate::merge::merge(Op::And, p, p.len(), r, r.len(), shared);
+    let both = crate::run::merge(Op::And, p, r, shared);
     let n = both.n;
     combine(Op::Or, q, &shared[..n], out)
 }

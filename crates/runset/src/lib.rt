@@ -1,6 +1,7 @@
 // Sets of numbers of the axis, with at most MOST_RUNS runs. A number is carried as its index on the axis.
 pub mod lent;
 pub mod merge;
+mod run;
 
 use merge::Op;
 ghost use mathlib.Core.Path.{_≡_};

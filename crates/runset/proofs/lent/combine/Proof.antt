@@ -1,4 +1,4 @@
--- The walk along both lists of cuts, whole.
+-- The cuts of the operation, whole.
 use native.Mathlib.Omega.{arith}
 use Rattle.runset.specs.LentLaws.{combined}
 use borrow.Author.Needs.{needs}
@@ -6,12 +6,12 @@ use Rattle.runset.proofs.lent.combine.Statement.{statement}
 use Rattle.runset.proofs.lent.combine.Tie as tie
 use Rattle.runset.proofs.lent.combine.Reads as reads
 use Rattle.runset.proofs.lent.combine.Lts as lts
-use Rattle.runset.proofs.merge.merge.Reads as merge-reads
+use Rattle.runset.proofs.run.merge.Reads as merge-reads
 
 merge-requires : tie.Need-merge-requires
 merge-requires c κs =
     let s = c .before .before .before .before in
-    (omega arith, omega arith, s .pre .2, s .pre .3)
+    (s .pre .0, s .pre .1, s .pre .2, s .pre .3, omega arith)
 
 same-length : tie.Need-same-length
 same-length c = search needs

@@ -12,10 +12,12 @@ use Rattle.runset.proofs.lent.or_and.Tie as tie
 use Rattle.runset.proofs.lent.or_and.Reads as reads
 use Rattle.runset.proofs.lent.or_and.Lts as lts
 use Rattle.runset.proofs.lent.combine.Reads as combine-reads
-use Rattle.runset.proofs.merge.merge.Reads as merge-reads
+use Rattle.runset.proofs.run.merge.Reads as merge-reads
 
 merge-requires : tie.Need-merge-requires
-merge-requires c κs = search needs
+merge-requires c κs =
+    let s = c .before .before .before .before .before .before in
+    (s .pre .1 .canonical, s .pre .2 .canonical, omega (arith, s .pre .1 .few), omega (arith, s .pre .2 .few), omega arith)
 
 slice-reshare-prefix-combine : tie.Need-slice-reshare-prefix-combine
 slice-reshare-prefix-combine c =
