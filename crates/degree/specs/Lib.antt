@@ -1,4 +1,4 @@
 pub mod Degree
-pub mod CallLaws
 pub mod Nearest
+pub mod CallLaws
 pub mod NearestLaws

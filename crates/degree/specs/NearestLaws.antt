@@ -1,13 +1,14 @@
 -- Demand 2, of the degree call: each value says what document 01 says of it, over the meaning of the text's one reading.
-use Prim.Native.Nat.{ℕ, _<_}
+use Prim.Native.Nat.{ℕ, suc, _+_, _-_, _≤_, _<_}
 use native.Mathlib.Omega.{arith}
 use mathlib.Core.Path.{_≡_, refl, sym, ap, subst, _∙_}
 use mathlib.Core.List.{List, _∷_, _++_}
 use mathlib.Core.Bool.{Bool, true, false, cond, So}
 use mathlib.Core.Logic.{_↔_}
 use lib.Dec.{eqb, ltb}
+use lib.IntN.{ℤ, pos, negsuc}
 use borrow.Author.Tests.{ltb-true, ltb-false, eqb-true, eqb-false}
-use Rattle.number.specs.Axis.{axis, whole}
+use Rattle.number.specs.Axis.{axis, origin, whole}
 use Rattle.refusal.specs.Outcome.{result, NoneMeets}
 use Rattle.recording.specs.Recording.{Accepted, readings, recordingLines, noRecord}
 use Rattle.recording.specs.OutcomeLaws.{result-none, none-append}
@@ -19,9 +20,11 @@ use Rattle.meaning.specs.RecordedLaws.{accepted-recorded}
 use Rattle.meaning.specs.TruthLaws.{val-holds}
 use Rattle.question.specs.Question.{read, answer, askingLines, setLines}
 use Rattle.question.specs.MeantLaws.{read-reads, reads-read}
+use Rattle.question.specs.SizeLaws.{left-off}
 use Rattle.ratio.specs.Degree.{degreeOf}
+use Rattle.targets.specs.Target.{offAxis}
+use Rattle.targets.specs.TargetLaws.{sub-above, sub-below}
 use Rattle.degree.specs.Degree.{Value, met, short, noValue, graded, valueOf, targetLine, nearnessOf}
-use Rattle.degree.specs.CallLaws.{index-whole}
 use Rattle.degree.specs.Nearest.{apart, Member, Distance, Says, Near}
 
 module _ (bytes text : List ℕ) (a : Accepted bytes) (v : ℕ) (h : v < axis) where
@@ -66,15 +69,31 @@ module _ (bytes text : List ℕ) (a : Accepted bytes) (v : ℕ) (h : v < axis) w
       by true e = graded-says (ltb-true (distance set v) axis e)
       by false e = λ w hw m. omega (arith, ltb-false (distance set v) axis e, distance-least set v h w hw (member-true w m))
 
--- DEMAND 2, of the degree call
-pub nearness-says : (bytes text : List ℕ) (v : ℕ) → v < axis → (x : Value) → nearnessOf bytes text (whole v) ≡ result x → Near bytes text v x
+-- a target that 12 does not refuse is a number of the axis
+on-axis : (g : ℤ) → offAxis g ≡ false → (index g < axis) × (whole (index g) ≡ g)
+on-axis (pos n) h =
+    let b : n ≤ origin = ltb-false origin n h in
+    let e : n + origin - origin ≡ n = omega arith in
+    (omega arith, sub-above (n + origin) origin (omega arith) ∙ ap pos e)
+on-axis (negsuc n) h =
+    let b : n ≤ 1999999999 = ltb-false 1999999999 n (left-off (ltb 1999999999 n) _ h) in
+    let e : origin - suc (origin - suc n) ≡ n = omega arith in
+    (omega arith, sub-below (origin - suc n) origin (omega arith) ∙ ap negsuc e)
+
+-- DEMAND 2, of the degree call: the target is a number of the axis, and the value says what it is to say of it
+pub nearness-says : (bytes text : List ℕ) (g : ℤ) (x : Value) → nearnessOf bytes text g ≡ result x → (index g < axis) × (whole (index g) ≡ g) × Near bytes text (index g) x
 unfolding nearnessOf
-nearness-says bytes text v h x e =
-    let k = result-none (askingLines bytes text ++ (targetLine (whole v) ∷ setLines bytes (read text))) (valueOf (answer bytes text) (index (whole v))) x e in
-    let a = none-append (recordingLines bytes) (noRecord bytes ∷ textLines text) (none-append (askingLines bytes text) (targetLine (whole v) ∷ setLines bytes (read text)) (k .0) .0) in
-    record {
-      tree = read text;
-      reads = read-reads text (a .1 .1 .1 .0);
-      only = λ t r. sym (reads-read text t r);
-      says = subst (Says (readings bytes) (read text) v) (ap (valueOf (answer bytes text)) (sym (index-whole v)) ∙ k .1) (value-says bytes text (a .0) v h);
-    }
+nearness-says bytes text g x e =
+    let k = result-none (askingLines bytes text ++ (targetLine g ∷ setLines bytes (read text))) (valueOf (answer bytes text) (index g)) x e in
+    let m = none-append (askingLines bytes text) (targetLine g ∷ setLines bytes (read text)) (k .0) in
+    let a = none-append (recordingLines bytes) (noRecord bytes ∷ textLines text) (m .0) in
+    let t = on-axis g (m .1 .0) in (
+      t .0,
+      t .1,
+      record {
+        tree = read text;
+        reads = read-reads text (a .1 .1 .1 .0);
+        only = λ u r. sym (reads-read text u r);
+        says = subst (Says (readings bytes) (read text) (index g)) (k .1) (value-says bytes text (a .0) (index g) (t .0));
+      },
+    )

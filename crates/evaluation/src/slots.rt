@@ -13,7 +13,7 @@ use runset::merge::Filled;
 pub const WIDTH: usize = 1 + runset::CUTS;
 
 // The numbers of a table: a slot for each node that a text may have.
-pub const TABLE: usize = WIDTH * 32;
+pub const TABLE: usize = WIDTH * text::MOST_NODES;
 
 pub fn size(n: u32) -> usize
     ensures { λ r. ⌜ r ≡ n ⌝ }

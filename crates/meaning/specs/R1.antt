@@ -60,7 +60,7 @@ p is l = record { text = p; runs = l }
 abbrev pub at : ℕ → ℕ
 at k = k + origin
 
--- THE MARKED LINES
+-- the marked lines for questions, by their trees; as texts, and with those of thinning, they stand in crate `promises`
 abbrev pub marked : List Line
 marked =
     listed (high A) is ((Lo to pos 90) ∷ [])

@@ -1,12 +1,12 @@
 pub mod KeptAsFull
 pub mod Lasting
+pub mod FirstSixAsked
+pub mod MarkedLines
 pub mod ObservationLaws
 pub mod QuestionAsFullLaws
 pub mod PairAsFullLaws
 pub mod KeptAsFullLaws
 pub mod LastingLaws
 pub mod R1Lasting
-pub mod MarkedLines
 pub mod MarkedLinesLaws
-pub mod FirstSixAsked
 pub mod FirstSixAskedLaws

@@ -1,4 +1,4 @@
--- Demand 2 and the table of document 01 over the grammar and the meaning alone: no reader and no evaluation is named.
+-- Demand 2 over the grammar and the meaning alone, and the lines of document 01's table that a call computes, by their meaning.
 use Prim.Native.Nat.{ℕ, _<_}
 use mathlib.Core.Path.{_≡_}
 use mathlib.Core.Bool.{So}

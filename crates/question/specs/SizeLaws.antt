@@ -23,7 +23,7 @@ use Rattle.meaning.specs.Truth.{someNode, overAt, someBelow, largeAt, refused8}
 use Rattle.evaluation.specs.EvaluateLaws.{coded-length}
 use Rattle.question.specs.Question.{read, answer, askingLines, setLines, questionOf}
 
-left-off : (a b : Bool) → (a || b) ≡ false → a ≡ false
+pub left-off : (a b : Bool) → (a || b) ≡ false → a ≡ false
 left-off false b e = refl
 left-off true b e = absurd (true≢false e)
 

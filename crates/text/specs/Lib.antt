@@ -4,6 +4,7 @@ pub mod Classes
 pub mod Size
 pub mod Grammar
 pub mod Table
+pub mod Rows
 pub mod Told
 pub mod Lexer
 pub mod Parse
@@ -11,7 +12,6 @@ pub mod WordLaws
 pub mod NumberLaws
 pub mod LeafLaws
 pub mod Unique
-pub mod Rows
 pub mod TableLaws
 pub mod ToldLaws
 pub mod Examples

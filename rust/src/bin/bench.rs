@@ -10,6 +10,7 @@ const RECORDS: usize = 4096;
 fn main() {
     println!("{:<52} {:>14} {:>12} {:>12} {:>7} {:>5}", "", "outcome", "library us", "plain us", "ratio", "aim");
     thinning();
+    thinning_of_fewer();
     listed();
     temporal();
     degrees();
@@ -24,6 +25,15 @@ fn thinning() {
             let name = format!("thin, {tops} tops, {} marks", marks.len() / 4);
             writing(&name, 1.2, |out| mill::thin_into(&recording, &marks, out), |out| plain::thin(&recording, &marks, out));
         }
+    }
+}
+
+/// The cost grows with the records: a quarter and half of them.
+fn thinning_of_fewer() {
+    for records in [RECORDS / 4, RECORDS / 2] {
+        let recording = bytes(&with_tops(&evenly(64, records), &[])[..records]);
+        let name = format!("thin, 64 tops, 0 marks, {records} records");
+        writing(&name, 1.2, |out| mill::thin_into(&recording, &[], out), |out| plain::thin(&recording, &[], out));
     }
 }
 
@@ -176,7 +186,5 @@ fn with_tops(of_a: &[usize], of_b: &[usize]) -> Vec<Reading> {
 }
 
 fn bytes(readings: &[Reading]) -> Vec<u8> {
-    let bytes: Vec<u8> = readings.iter().copied().flat_map(Reading::to_bytes).collect();
-    assert_eq!(bytes.len(), RECORDS * sys::MILL_RECORD_BYTES);
-    bytes
+    readings.iter().copied().flat_map(Reading::to_bytes).collect()
 }

@@ -203,7 +203,7 @@ fn deepest_texts_with_a_small_stack() {
 }
 
 #[test]
-fn peak_of_the_deepest_texts() {
+fn peak_stack_of_the_deepest_texts() {
     let mut most = 0;
     for text in deepest() {
         let mut table = vec![0; TABLE_SIZE];
