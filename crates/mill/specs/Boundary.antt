@@ -3,13 +3,16 @@ use Prim.Native.Nat.{ℕ}
 use mathlib.Core.Path.{_≡_}
 use mathlib.Core.List.{List}
 use lib.IntN.{ℤ}
+use lib.ListN.{length}
 use lib.Ieee.{binary64, toBits}
 use Rattle.refusal.specs.Outcome.{Outcome, result, refused, judged, NoneMeets}
 use Rattle.recording.specs.Recording.{readings}
 use Rattle.recording.specs.Output.{counted, outputAfter}
 use Rattle.tops.specs.Tops.{curveOf}
 use Rattle.pair.specs.Pair.{Given, times, none, Right, pairLines}
-use Rattle.degree.specs.Degree.{Value, met, short, noValue}
+use Rattle.degree.specs.Degree.{Value, met, short, noValue, nearnessOf}
+use Rattle.question.specs.Question.{questionOf}
+use Rattle.thin.specs.Thin.{thinOf}
 use Rattle.reply.specs.Reply.{packed}
 
 -- ---- thinning and the question
@@ -74,3 +77,17 @@ pub record Pairs (bytes : List ℕ) (curve : ℕ) (g : ℤ) (earlier later r fir
   pub returned : r ≡ packed (told (judged (pairLines bytes curve g) given))
   pub first-place : first ≡ earlierAfter (judged (pairLines bytes curve g) given) earlier
   pub second-place : second ≡ laterAfter (judged (pairLines bytes curve g) given) later
+
+-- ---- THE CONTRACT OF EACH CALL: what it is handed, what it returns (r), and the caller's memory after it
+
+abbrev pub QuestionCall : (recording text out : List ℕ) (r : ℕ) (after : List ℕ) → Type 0
+QuestionCall recording text out r after = Writes (questionOf recording text (length out)) out r after
+
+abbrev pub DegreeCall : (recording text : List ℕ) (target : ℤ) (distance degree r first second : ℕ) → Type 0
+DegreeCall recording text target distance degree r first second = Degrees (nearnessOf recording text target) distance degree r first second
+
+abbrev pub PairCall : (recording : List ℕ) (curve : ℕ) (target : ℤ) (earlier later r first second : ℕ) → Type 0
+PairCall recording curve target earlier later r first second = Pairs recording curve target earlier later r first second
+
+abbrev pub ThinCall : (recording marks out : List ℕ) (r : ℕ) (after : List ℕ) → Type 0
+ThinCall recording marks out r after = Writes (thinOf recording marks (length out)) out r after

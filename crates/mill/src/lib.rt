@@ -3,16 +3,12 @@ ghost use mathlib.Core.Path.{_≡_};
 ghost use mathlib.Core.Bool.{not};
 ghost use lib.Dec.{T};
 ghost use lib.Ieee.{binary64, toBits, isNan};
-ghost use lib.ListN.{length};
-ghost use Rattle.thin.specs.Thin.{thinOf};
-ghost use Rattle.question.specs.Question.{questionOf};
-ghost use Rattle.degree.specs.Degree.{nearnessOf};
-ghost use Rattle.mill.specs.Boundary.{Writes, Degrees, Pairs};
+ghost use Rattle.mill.specs.Boundary.{QuestionCall, DegreeCall, PairCall, ThinCall};
 
 // THE QUESTION CALL. Returns how many bytes of the output the answered set takes, or the refusal.
 #[no_mangle]
 pub extern "C" fn mill_question(rec: &[u8], text: &[u8], out: &mut [u8]) -> u64
-    ensures { λ r. ⌜ Writes (questionOf (now (rec .entry)) (now (text .entry)) (length (now (out .entry)))) (now (out .entry)) r (now (out .exit)) ⌝ }
+    ensures { λ r. ⌜ QuestionCall (now (rec .entry)) (now (text .entry)) (now (out .entry)) r (now (out .exit)) ⌝ }
 {
     let written = question::question(rec, text, out);
     reply::written(written)
@@ -36,7 +32,7 @@ pub extern "C" fn mill_degree(
     distance: &mut u32,
     degree: &mut u64,
 ) -> u64
-    ensures { λ r. ⌜ Degrees (nearnessOf (now (rec .entry)) (now (text .entry)) target) (now (distance .entry)) (now (degree .entry)) r (now (distance .exit)) (now (degree .exit)) ⌝ }
+    ensures { λ r. ⌜ DegreeCall (now (rec .entry)) (now (text .entry)) target (now (distance .entry)) (now (degree .entry)) r (now (distance .exit)) (now (degree .exit)) ⌝ }
 {
     let near = degree::degree(rec, text, target);
     match near {
@@ -54,7 +50,7 @@ pub extern "C" fn mill_degree(
 // THE THINNING CALL. Returns how many bytes of the output the kept readings take, or the refusal.
 #[no_mangle]
 pub extern "C" fn mill_thin(rec: &[u8], marks: &[u8], out: &mut [u8]) -> u64
-    ensures { λ r. ⌜ Writes (thinOf (now (rec .entry)) (now (marks .entry)) (length (now (out .entry)))) (now (out .entry)) r (now (out .exit)) ⌝ }
+    ensures { λ r. ⌜ ThinCall (now (rec .entry)) (now (marks .entry)) (now (out .entry)) r (now (out .exit)) ⌝ }
 {
     let written = thin::thin(rec, marks, out);
     reply::written(written)
@@ -69,7 +65,7 @@ pub extern "C" fn mill_pair(
     earlier: &mut u32,
     later: &mut u32,
 ) -> u64
-    ensures { λ r. ⌜ Pairs (now (rec .entry)) curve target (now (earlier .entry)) (now (later .entry)) r (now (earlier .exit)) (now (later .exit)) ⌝ }
+    ensures { λ r. ⌜ PairCall (now (rec .entry)) curve target (now (earlier .entry)) (now (later .entry)) r (now (earlier .exit)) (now (later .exit)) ⌝ }
 {
     let found = pair::pair(rec, curve, target);
     match found {

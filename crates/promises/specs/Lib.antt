@@ -1,7 +1,11 @@
+pub mod Table
+pub mod Demands
 pub mod KeptAsFull
 pub mod Lasting
 pub mod FirstSixAsked
 pub mod MarkedLines
+pub mod TableLaws
+pub mod CallLinesLaws
 pub mod ObservationLaws
 pub mod QuestionAsFullLaws
 pub mod PairAsFullLaws
@@ -10,3 +14,6 @@ pub mod LastingLaws
 pub mod R1Lasting
 pub mod MarkedLinesLaws
 pub mod FirstSixAskedLaws
+pub mod OperatorLaws
+pub mod DemandsLaws
+pub mod AskedOfKeptLaws

@@ -1,2 +1,3 @@
 pub mod Reply
 pub mod PlaceLaws
+pub mod UnpackedLaws

@@ -1,5 +1,7 @@
 -- Document 01, "When no result is given": an outcome as the one number that a call returns.
-use Prim.Native.Nat.{ℕ, _+_, _*_, _<_}
+use Prim.Native.Nat.{ℕ, _+_, _*_, _/_, _%_, _<_}
+use mathlib.Core.Bool.{cond}
+use lib.Dec.{eqb}
 use Rattle.refusal.specs.Outcome.{Outcome, result, refused}
 
 -- the size of either half of 64 bits
@@ -15,3 +17,16 @@ packed (refused k p) = k * half + p
 abbrev pub InHalf : Outcome ℕ → Type 0
 InHalf (result n) = n < half
 InHalf (refused k p) = p < half
+
+-- ---- what a caller reads off the number that was returned
+
+-- the high half: the refusal's number, 0 for a result
+abbrev pub numberIn : ℕ → ℕ
+numberIn r = r / half
+
+-- the low half: the result, or the refusal's place
+abbrev pub lowIn : ℕ → ℕ
+lowIn r = r % half
+
+abbrev pub unpacked : ℕ → Outcome ℕ
+unpacked r = cond (eqb (numberIn r) 0) (result (lowIn r)) (refused (numberIn r) (lowIn r))

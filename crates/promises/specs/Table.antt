@@ -1,0 +1,127 @@
+-- Document 01, "When no result is given": the table of refusals, each condition by its meaning, and the order of each call.
+use Prim.Native.Nat.{ℕ, _*_, _/_, _%_, _<_}
+use mathlib.Core.Path.{_≡_}
+use mathlib.Core.Bool.{Bool, true, false}
+use mathlib.Core.Logic.{_⊎_}
+use mathlib.Core.List.{List, [], _∷_, List·Memᴰ}
+use lib.IntN.{ℤ, pos, negsuc}
+use lib.ListN.{length}
+use lib.Signed.{_≤ℤ_}
+use Rattle.refusal.specs.Numbers.{numberOf, placeOf}
+use Rattle.refusal.specs.declared.Refusal.{Refusal}
+use Rattle.refusal.specs.declared.Refusal.the-variants.{PartialRecord, TooManyRecords, BadRecord, NoRecord, TextLength, NoReading, TextTooLarge, TooManyRuns, TooManyTops, ShortOutput, BadMarks, BadTarget}
+use Rattle.recording.specs.Condition.{pick}
+use Rattle.recording.specs.Reading.{top}
+use Rattle.recording.specs.Recording.{Raw, records, readings, lawful, mostRecords}
+use Rattle.runset.specs.Runs.{runCount}
+use Rattle.tops.specs.Tops.{curveOf, mostTops}
+use Rattle.text.specs.Syntax.{Text}
+use Rattle.text.specs.Grammar.{ReadsWhole}
+use Rattle.text.specs.Size.{nodes, openAt, mostBytes, mostNodes, mostOpen}
+use Rattle.meaning.specs.Overfull.{IsSet, Overfull, TooManyTops as OverTops}
+use Rattle.thin.specs.Thin.{keptBytes, marksOf, mostMarks, latestMark}
+
+-- what a call is handed; of an output its length
+pub data Request : Type 0 where
+  question : (recording text : List ℕ) (room : ℕ) → Request
+  degree : (recording text : List ℕ) (target : ℤ) → Request
+  pair : (recording : List ℕ) (curve : ℕ) (target : ℤ) → Request
+  thin : (recording marks : List ℕ) (room : ℕ) → Request
+
+abbrev pub recordingIn : Request → List ℕ
+recordingIn (question r t n) = r
+recordingIn (degree r t g) = r
+recordingIn (pair r c g) = r
+recordingIn (thin r m n) = r
+
+-- the text; a call that takes none has no line about it
+abbrev pub textIn : Request → List ℕ
+textIn (question r t n) = t
+textIn (degree r t g) = t
+textIn (pair r c g) = []
+textIn (thin r m n) = []
+
+-- a whole number from minus to plus two thousand million
+abbrev pub OfAxis : ℤ → Type 0
+OfAxis z = (negsuc 1999999999 ≤ℤ z) × (z ≤ℤ pos 2000000000)
+
+-- record i is the first out of its rules
+pub record FirstBroken (xs : List Raw) (i : ℕ) : Type 0 where
+  pub inside : i < length xs
+  pub broken : lawful xs i ≡ false
+  pub first : (j : ℕ) → j < i → lawful xs j ≡ true
+
+-- the text has a reading of which P holds
+abbrev pub ReadWith : List ℕ → (Text → Type 0) → Type 0
+ReadWith text P = (t : Text) × ReadsWhole text t × P t
+
+-- at some byte, over 16 brackets are still open
+abbrev pub OpenTooDeep : List ℕ → Type 0
+OpenTooDeep text = (i : ℕ) × (i < length text) × (mostOpen < openAt text i)
+
+-- the text's set at the first record has more runs than room for 8 bytes each
+abbrev pub SetLonger : List ℕ → ℕ → Text → Type 0
+SetLonger recording room t = (f : ℕ → Bool) × IsSet f (readings recording) t 0 × (room < 8 * runCount f)
+
+-- 9: over 256 tops of a curve between whose tops the text, or the pair call, takes differences
+abbrev pub TopsOver : Request → Type 0
+TopsOver (question r t n) = ReadWith t (OverTops (readings r))
+TopsOver (degree r t g) = ReadWith t (OverTops (readings r))
+TopsOver (pair r c g) = mostTops < length (pick (top (curveOf c)) (readings r))
+TopsOver (thin r m n) = ⊥
+
+-- 10: the output is shorter than the result
+abbrev pub OutputShort : Request → Type 0
+OutputShort (question r t n) = ReadWith t (SetLonger r n)
+OutputShort (degree r t g) = ⊥
+OutputShort (pair r c g) = ⊥
+OutputShort (thin r m n) = n < length (keptBytes (marksOf m) r)
+
+-- 11: the marks are not 4 bytes each, over 8, or too large
+abbrev pub MarksBad : Request → Type 0
+MarksBad (question r t n) = ⊥
+MarksBad (degree r t g) = ⊥
+MarksBad (pair r c g) = ⊥
+MarksBad (thin r m n) = ¬ (length m % 4 ≡ 0) ⊎ ((mostMarks < length m / 4) ⊎ ((k : ℕ) × List·Memᴰ k (marksOf m) × (latestMark < k)))
+
+-- 12: the target is off the axis, or the curve number is not 0 or 1
+abbrev pub TargetBad : Request → Type 0
+TargetBad (question r t n) = ⊥
+TargetBad (degree r t g) = ¬ OfAxis g
+TargetBad (pair r c g) = (1 < c) ⊎ ¬ OfAxis g
+TargetBad (thin r m n) = ⊥
+
+-- THE TABLE: the condition of each line is met by the request
+abbrev pub Met : Request → Refusal → Type 0
+Met q PartialRecord = ¬ (length (recordingIn q) % 16 ≡ 0)
+Met q TooManyRecords = mostRecords < length (recordingIn q) / 16
+Met q (BadRecord i) = FirstBroken (records (recordingIn q)) i
+Met q NoRecord = length (records (recordingIn q)) ≡ 0
+Met q TextLength = (length (textIn q) ≡ 0) ⊎ (mostBytes < length (textIn q))
+Met q NoReading = (t : Text) → ¬ ReadsWhole (textIn q) t
+Met q TextTooLarge = ReadWith (textIn q) (λ t. (mostNodes < nodes t) ⊎ OpenTooDeep (textIn q))
+Met q TooManyRuns = ReadWith (textIn q) (Overfull (readings (recordingIn q)))
+Met q TooManyTops = TopsOver q
+Met q ShortOutput = OutputShort q
+Met q BadMarks = MarksBad q
+Met q BadTarget = TargetBad q
+
+-- 4 to 10 in the question call's order: the lines for an accepted recording
+abbrev pub acceptedOrder : List ℕ
+acceptedOrder = 4 ∷ 5 ∷ 6 ∷ 7 ∷ 9 ∷ 8 ∷ 10 ∷ []
+
+-- THE ORDER of each call
+abbrev pub order : Request → List ℕ
+order (question r t n) = 1 ∷ 2 ∷ 3 ∷ acceptedOrder
+order (degree r t g) = 1 ∷ 2 ∷ 3 ∷ 4 ∷ 5 ∷ 6 ∷ 7 ∷ 12 ∷ 9 ∷ 8 ∷ []
+order (pair r c g) = 1 ∷ 2 ∷ 3 ∷ 4 ∷ 12 ∷ 9 ∷ []
+order (thin r m n) = 1 ∷ 2 ∷ 3 ∷ 11 ∷ 10 ∷ []
+
+-- no line of these numbers is met
+abbrev pub NoneMet : Request → List ℕ → Type 0
+NoneMet q ks = (x : Refusal) → List·Memᴰ (numberOf x) ks → ¬ Met q x
+
+-- x is the first line of these numbers, in their order, that is met
+abbrev pub FirstMet : Request → List ℕ → Refusal → Type 0
+FirstMet q [] x = ⊥
+FirstMet q (k ∷ ks) x = ((numberOf x ≡ k) × Met q x) ⊎ (((y : Refusal) → numberOf y ≡ k → ¬ Met q y) × FirstMet q ks x)
