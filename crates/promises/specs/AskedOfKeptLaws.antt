@@ -16,7 +16,7 @@ use Rattle.question.specs.Question.{read}
 use Rattle.question.specs.MeantLaws.{reads-read}
 use Rattle.thin.specs.R1Calls.{mark40}
 use Rattle.thin.specs.Thin.{marksOf}
-use Rattle.promises.specs.Demands.{Lasts}
+use Rattle.promises.specs.Demands.{operators, Lasts}
 
 -- a test for it, which is computed
 
@@ -33,7 +33,7 @@ allAmong [] l = true
 allAmong (b ∷ w) l = among b l && allAmong w l
 
 abbrev mayBeAsked : (marks text : List ℕ) → Bool
-mayBeAsked marks text = noneAmong text (bytes "FGXUW") && allAmong (afterTimes (read text)) (map markIndex (marksOf marks))
+mayBeAsked marks text = noneAmong text operators && allAmong (afterTimes (read text)) (map markIndex (marksOf marks))
 
 member-among : (b : ℕ) (l : List ℕ) → List·Memᴰ b l → among b l ≡ true
 member-among b [] m = absurd (List·Memᴰ·not-nil m)
@@ -68,9 +68,9 @@ asked-lasts : (marks text : List ℕ) → mayBeAsked marks text ≡ true → Las
 asked-lasts marks text e =
     let ks : List ℕ = map markIndex (marksOf marks) in
     record {
-      no-operator = none-among text (bytes "FGXUW") (and-left (noneAmong text (bytes "FGXUW")) (allAmong (afterTimes (read text)) ks) e);
+      no-operator = none-among text operators (and-left (noneAmong text operators) (allAmong (afterTimes (read text)) ks) e);
       marked = λ t r. subst (λ p. (k : ℕ) → List·Memᴰ k (afterTimes p) → List·Memᴰ k ks) (reads-read text t r)
-          (all-among (afterTimes (read text)) ks (and-right (noneAmong text (bytes "FGXUW")) (allAmong (afterTimes (read text)) ks) e));
+          (all-among (afterTimes (read text)) ks (and-right (noneAmong text operators) (allAmong (afterTimes (read text)) ks) e));
     }
 
 -- the ten listed questions, and texts made of them

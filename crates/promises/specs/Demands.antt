@@ -91,9 +91,12 @@ abbrev pub heldAt : List ℕ → List Returned → List ℕ
 heldAt held [] = held
 heldAt held (x ∷ xs) = heldAt (heldNext held (left x)) xs
 
+abbrev pub operators : List ℕ
+operators = bytes "FGXUW"
+
 -- "whose text writes none of F, G, X, U and W, and whose after-times are among the marks"
 pub record Lasts (marks text : List ℕ) : Type 0 where
-  pub no-operator : (b : ℕ) → List·Memᴰ b (bytes "FGXUW") → ¬ List·Memᴰ b text
+  pub no-operator : (b : ℕ) → List·Memᴰ b operators → ¬ List·Memᴰ b text
   pub marked : (t : Text) → ReadsWhole text t → (k : ℕ) → List·Memᴰ k (afterTimes t) → List·Memᴰ k (map markIndex (marksOf marks))
 
 -- a text asked of readings that stand for the recording `full`, of any length: the set that 2 fixes of `full`, or the refusal that the table
