@@ -55,6 +55,15 @@ fn without(text: &str, from: &str, to: &str) -> String {
     pieces.fold(first, |kept, piece| kept + " " + piece.split_once(to).expect(to).1)
 }
 
+/// The text without the comments of C, or of Rust and Rattle.
+fn c_code(text: &str) -> String {
+    without(text, "/*", "*/")
+}
+
+fn code(text: &str) -> String {
+    without(text, "//", "\n")
+}
+
 /// The words of a text, one blank between them.
 fn words(text: &str) -> String {
     text.split_whitespace().collect::<Vec<_>>().join(" ")
@@ -80,7 +89,7 @@ fn typed(declared: &str) -> (String, String) {
 
 /// The declarations of a C header, which has nothing else outside its comments and directives.
 fn in_c(text: &str) -> Vec<Call> {
-    let code = without(text, "/*", "*/");
+    let code = c_code(text);
     let code: Vec<&str> = code.lines().filter(|line| !line.starts_with('#')).collect();
     let code = code.join("\n").replacen("extern \"C\" {", "", 1).replacen('}', "", 1);
     let declarations = code.split(';').filter(|declaration| !declaration.trim().is_empty());
@@ -95,7 +104,7 @@ fn in_c(text: &str) -> Vec<Call> {
 
 /// The functions of a Rust file's `extern "C"` block.
 fn in_rust(text: &str) -> Vec<Call> {
-    let code = without(text, "//", "\n");
+    let code = code(text);
     let blocks: Vec<&str> = code.split("extern \"C\" {").skip(1).collect();
     assert_eq!(blocks.len(), 1, "one block");
     let block = blocks[0].split('}').next().unwrap();
@@ -112,7 +121,7 @@ fn in_rust(text: &str) -> Vec<Call> {
 
 /// The exported functions of a Rattle file.
 fn in_rattle(text: &str) -> Vec<Call> {
-    let code = without(text, "//", "\n");
+    let code = code(text);
     let functions: Vec<&str> = code.split("#[no_mangle]").skip(1).collect();
     assert_eq!(functions.len(), code.matches("extern \"C\"").count(), "each is exported by its name");
     functions
@@ -213,16 +222,17 @@ fn the_layers_are_declared_as_they_are() {
     }
 }
 
-/// The text with one change.
+/// The code with one change.
 #[track_caller]
-fn changed(text: &str, old: &str, new: &str) -> String {
-    let changed = text.replacen(old, new, 1);
-    assert_ne!(changed, text, "'{old}' is not there");
+fn changed(code: &str, old: &str, new: &str) -> String {
+    let changed = code.replacen(old, new, 1);
+    assert_ne!(changed, code, "'{old}' is not there");
     changed
 }
 
 #[test]
 fn a_difference_in_c_is_seen() {
+    let code = c_code(header::TEXT);
     for (old, new) in [
         ("uint64_t mill_pair(", "uint32_t mill_pair("),
         ("uint64_t mill_pair(", "uint64_t mill_pairs("),
@@ -243,12 +253,13 @@ fn a_difference_in_c_is_seen() {
         ("const uint8_t *marks, size_t marks_len", "size_t marks_len, const uint8_t *marks"),
         ("uint8_t *out, size_t", "const uint8_t *out, size_t"),
     ] {
-        assert!(!differences(&changed(header::TEXT, old, new), RUST, RATTLE).is_empty(), "'{new}' for '{old}'");
+        assert!(!differences(&changed(&code, old, new), RUST, RATTLE).is_empty(), "'{new}' for '{old}'");
     }
 }
 
 #[test]
 fn a_difference_in_rust_is_seen() {
+    let code = code(RUST);
     for (old, new) in [
         ("fn mill_thin(", "fn mill_thins("),
         ("curve: u32", "curve: u64"),
@@ -262,12 +273,13 @@ fn a_difference_in_rust_is_seen() {
         ("marks_len: usize,", ""),
         (") -> u64;", ") -> u32;"),
     ] {
-        assert!(!differences(header::TEXT, &changed(RUST, old, new), RATTLE).is_empty(), "'{new}' for '{old}'");
+        assert!(!differences(header::TEXT, &changed(&code, old, new), RATTLE).is_empty(), "'{new}' for '{old}'");
     }
 }
 
 #[test]
 fn a_difference_in_rattle_is_seen() {
+    let code = code(RATTLE);
     for (old, new) in [
         ("fn mill_thin(", "fn mill_thins("),
         ("curve: u32", "curve: u64"),
@@ -282,6 +294,6 @@ fn a_difference_in_rattle_is_seen() {
         ("marks: &[u8], out: &mut [u8]", "out: &mut [u8], marks: &[u8]"),
         (") -> u64\n    ensures", ") -> u32\n    ensures"),
     ] {
-        assert!(!differences(header::TEXT, RUST, &changed(RATTLE, old, new)).is_empty(), "'{new}' for '{old}'");
+        assert!(!differences(header::TEXT, RUST, &changed(&code, old, new)).is_empty(), "'{new}' for '{old}'");
     }
 }
