@@ -9,7 +9,11 @@
 #include <string.h>
 
 #define READINGS 8
-#define CAPACITY (MILL_MAX_RECORDS * MILL_RECORD_BYTES)
+
+/* Room for the seven readings that are kept, and for one more. */
+#ifndef CAPACITY
+#define CAPACITY (8 * MILL_RECORD_BYTES)
+#endif
 
 uint8_t recording[READINGS * MILL_RECORD_BYTES];
 size_t recording_len;
@@ -25,7 +29,7 @@ size_t next_piece(uint8_t *to, size_t room)
     if (length > 3 * MILL_RECORD_BYTES)
         length = 3 * MILL_RECORD_BYTES;
     if (length > room)
-        length = room;
+        length = room - room % MILL_RECORD_BYTES;
     memcpy(to, recording + taken, length);
     taken += length;
     return length;
