@@ -36,7 +36,8 @@ bits-requires c κs =
     let t = c .before .before .before .degree in
     let a = asked (s .args .rec .now) (s .args .text .now) (s .args .target) _ (t .result) (toZ-ofZ w64 (s .args .target) (s .fits .target)) (t .ensures) in
     let z = c .before .near .given in
-    short-given (s .args .rec .now) (s .args .text .now) (s .args .target) (t .result) (z .0 .0) (z .0 .1 .0) a (z .1) .0
+    let numbers = short-given (s .args .rec .now) (s .args .text .now) (s .args .target) (t .result) (z .0 .0) (z .0 .1 .0) a (z .1) in
+    search (needs, numbers)
 
 bits-requires-2 : tie.Need-bits-requires-2
 bits-requires-2 c κs =
@@ -44,7 +45,8 @@ bits-requires-2 c κs =
     let t = c .before .before .before .before .degree in
     let a = asked (s .args .rec .now) (s .args .text .now) (s .args .target) _ (t .result) (toZ-ofZ w64 (s .args .target) (s .fits .target)) (t .ensures) in
     let z = c .before .before .near .given in
-    short-given (s .args .rec .now) (s .args .text .now) (s .args .target) (t .result) (z .0 .0) (z .0 .1 .0) a (z .1) .1
+    let numbers = short-given (s .args .rec .now) (s .args .text .now) (s .args .target) (t .result) (z .0 .0) (z .0 .1 .0) a (z .1) in
+    search (needs, numbers)
 
 enum-told-2 : tie.Need-enum-told-2
 enum-told-2 c = search needs
