@@ -1,7 +1,7 @@
 /*
 ** Covers: the examples in the comments of mill.h, as they stand there. tests/c/run takes them out into examples.h, compiles them
 ** as C and as C++, and holds what is printed to examples.out. Here stands what they leave to their reader: the recording R1, the
-** mark 40, R1 in pieces of three readings, and what is done with a refusal.
+** mark 40, R1 in pieces of three readings, and what is done with a refusal. tests/c/run says what CAPACITY is.
 */
 #include "mill.h"
 
@@ -9,11 +9,6 @@
 #include <string.h>
 
 #define READINGS 8
-
-/* Room for the seven readings that are kept, and for one more. */
-#ifndef CAPACITY
-#define CAPACITY (8 * MILL_RECORD_BYTES)
-#endif
 
 uint8_t recording[READINGS * MILL_RECORD_BYTES];
 size_t recording_len;

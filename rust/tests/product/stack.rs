@@ -120,8 +120,8 @@ fn run(job: &Job, out: &mut [u8]) -> u64 {
                 mill_question(recording.as_ptr(), recording.len(), text.as_ptr(), text.len(), out.as_mut_ptr(), out.len())
             }
             Job::Degree(recording, text) => {
-                let mut real = 0f64;
-                mill_degree(recording.as_ptr(), recording.len(), text.as_ptr(), text.len(), 7, &mut one, &mut real)
+                let (mut distance, mut degree) = (0f64, 0f64);
+                mill_degree(recording.as_ptr(), recording.len(), text.as_ptr(), text.len(), 7, &mut distance, &mut degree)
             }
             Job::Pair(recording, target) => mill_pair(recording.as_ptr(), recording.len(), 0, *target, &mut one, &mut two),
             Job::Thin(recording) => {
