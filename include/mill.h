@@ -5,8 +5,8 @@
 ** refusal, for every input that can be handed in; a caller needs to test
 ** nothing first. A call reads only the bytes that it is given, keeps nothing
 ** from one call to the next, takes no memory from the heap, and may run in any
-** number of threads at once. Link with libmill.a, which needs memcpy and memset
-** of the C library and no other library.
+** number of threads at once. Link with libmill.a, which is for x86-64 and needs
+** memcpy and memset of the C library and no other library.
 **
 **
 ** RECORDING. Readings of MILL_RECORD_BYTES bytes each, no header, all numbers
@@ -59,11 +59,15 @@
 ** Bytes need no alignment; uint32_t and double are aligned as C has them.
 ** Inputs (recording, text, marks) may overlap each other in any way. An output
 ** (out, distance, degree, earlier, later) must not overlap an input nor another
-** output; where one does, nothing is promised.
+** output; where one does, nothing is promised. While a call runs, no other
+** thread may write an input or touch an output.
 **
 ** A null pointer with length 0 serves as an empty input or an empty output.
 ** This is tested, and it is not part of what is proved. distance, degree,
 ** earlier and later are never null.
+**
+** When a degree is asked for, round to nearest must be in force (FE_TONEAREST of
+** <fenv.h>), as it is when a program starts.
 **
 ** Results, refusals and what is written are proved of the source of the calls.
 ** That these declarations fit the archive, and the stack that a call needs, are
@@ -104,8 +108,8 @@ extern "C" {
 
 /*
 ** Bytes of stack with which each call does. Measured on x86-64 with the deepest
-** inputs known, and rounded up: 104,047 for questions and degrees (256 open
-** brackets), 1,175 for pairs, 8,311 for thinning. No proof bounds the stack.
+** inputs known, and rounded up: 104,063 for questions and degrees (256 open
+** brackets), 1,191 for pairs, 8,311 for thinning. No proof bounds the stack.
 */
 #define MILL_STACK_QUESTION 131072
 #define MILL_STACK_DEGREE 131072
@@ -170,8 +174,18 @@ uint64_t mill_question(const uint8_t *recording, size_t recording_len, const uin
 /*
 ** How near the text's set comes to target, a number of the axis.
 **
-** distance is the least distance from target to a member of the set, up to
-** 4,000,000,000; degree is 1 / (1 + distance), one binary64 division.
+** distance is the least distance from target to a member of the set, a whole
+** number up to 4,000,000,000, exactly; degree is 1 / (1 + distance), one binary64
+** division. How near the tops come to 51:
+**
+**     double distance, degree;
+**     uint64_t r = mill_degree(recording, recording_len, (const uint8_t *)"peaks(A)", 8, 51, &distance, &degree);
+**     if (MILL_NUMBER(r) != 0)
+**         return report(MILL_NUMBER(r), MILL_PLACE(r));
+**     if (r == MILL_SHORT)
+**         printf("distance %.0f, degree %g\n", distance, degree);
+**     else
+**         printf("%s\n", r == MILL_MET ? "met" : "no value");
 **
 ** Refusals, in order: 1, 2, 3, 4, 5, 6, 7, 12, 9, 8.
 */
@@ -179,13 +193,20 @@ uint64_t mill_question(const uint8_t *recording, size_t recording_len, const uin
 #define MILL_SHORT 1    /* it is not: distance and degree are written */
 #define MILL_NO_VALUE 2 /* the set is empty; nothing is written */
 uint64_t mill_degree(const uint8_t *recording, size_t recording_len, const uint8_t *text, size_t text_len,
-                     int64_t target, uint32_t *distance, double *degree);
+                     int64_t target, double *distance, double *degree);
 
 /*
 ** The times of two tops of a curve, later - earlier = target.
 **
 ** Where several pairs fit, any of them may be given. No pair fits a target of
-** 0 or less.
+** 0 or less. Two tops that lie 40 apart:
+**
+**     uint32_t earlier, later;
+**     uint64_t r = mill_pair(recording, recording_len, MILL_CURVE_A, 40, &earlier, &later);
+**     if (MILL_NUMBER(r) != 0)
+**         return report(MILL_NUMBER(r), MILL_PLACE(r));
+**     if (r == MILL_PAIR)
+**         printf("%lu %lu\n", (unsigned long)earlier, (unsigned long)later);
 **
 ** Refusals, in order: 1, 2, 3, 4, 12, 9.
 */
@@ -216,13 +237,23 @@ uint64_t mill_pair(const uint8_t *recording, size_t recording_len, uint32_t curv
 ** readings held with the next piece behind them, under the same marks. What is
 ** held in the end are the kept readings of all pieces taken, joined, though
 ** the join may pass MILL_MAX_RECORDS. A call that is refused takes no piece.
-** The readings held go into another place than out:
+** The readings held go into another place than out. Here next_piece puts whole
+** readings into the room that it is given and returns how many bytes they are,
+** 0 at the end of the input. It is never asked without room for a reading, so
+** that a full buffer is not taken for the end; CAPACITY is to have room for all
+** that is kept and for one reading more:
 **
 **     static uint8_t held[CAPACITY], out[CAPACITY];
 **     size_t held_len = 0, piece_len;
 **
-**     while ((piece_len = next_piece(held + held_len, CAPACITY - held_len)) > 0) {
-**         uint64_t r = mill_thin(held, held_len + piece_len, marks, marks_len, out, sizeof out);
+**     for (;;) {
+**         uint64_t r;
+**         if (CAPACITY - held_len < MILL_RECORD_BYTES)
+**             return report(MILL_SHORT_OUTPUT, 0);
+**         piece_len = next_piece(held + held_len, CAPACITY - held_len);
+**         if (piece_len == 0)
+**             break;
+**         r = mill_thin(held, held_len + piece_len, marks, marks_len, out, sizeof out);
 **         if (MILL_NUMBER(r) != 0)
 **             return report(MILL_NUMBER(r), MILL_PLACE(r));
 **         held_len = (size_t)r;

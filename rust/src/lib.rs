@@ -72,8 +72,8 @@ pub struct Run {
 pub enum Degree {
     /// The wanted number is in the set.
     Met,
-    /// It is not: the distance to the nearest member, and 1 / (1 + distance).
-    Short { distance: u32, degree: f64 },
+    /// It is not: the distance to the nearest member, a whole number, and 1 / (1 + distance).
+    Short { distance: f64, degree: f64 },
     /// The set is empty.
     NoValue,
 }
@@ -194,7 +194,7 @@ mod calls {
 
     /// How near the text's set comes to `target`.
     pub fn degree(recording: &[u8], text: &[u8], target: i64) -> Result<Degree, Refusal> {
-        let (mut distance, mut degree) = (0, 0.0);
+        let (mut distance, mut degree) = (0.0, 0.0);
         // SAFETY: each pointer is a live slice's with its own length, or a live number's.
         let returned = unsafe {
             sys::mill_degree(recording.as_ptr(), recording.len(), text.as_ptr(), text.len(), target, &mut distance, &mut degree)

@@ -36,7 +36,7 @@ pub fn question(recording: &[u8], text: &[u8], out: &mut [u8]) -> Result<usize, 
 }
 
 /// The distance and degree: none for the empty set, distance 0 where the target is met.
-pub fn degree(recording: &[u8], text: &[u8], target: i64) -> Result<Option<(u32, f64)>, Refused> {
+pub fn degree(recording: &[u8], text: &[u8], target: i64) -> Result<Option<(f64, f64)>, Refused> {
     let records = some_records(recording)?;
     let nodes = nodes(text)?;
     if !(i64::from(LOW)..=i64::from(HIGH)).contains(&target) {
@@ -44,7 +44,7 @@ pub fn degree(recording: &[u8], text: &[u8], target: i64) -> Result<Option<(u32,
     }
     let set = answer(&records, &nodes)?;
     let away = |(low, high): &(i32, i32)| (i64::from(*low) - target).max(target - i64::from(*high)).max(0);
-    Ok(set.iter().map(away).min().map(|d| (d as u32, 1.0 / (1.0 + d as f64))))
+    Ok(set.iter().map(away).min().map(|d| (d as f64, 1.0 / (1.0 + d as f64))))
 }
 
 /// The times of two tops that lie the target apart.

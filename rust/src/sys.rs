@@ -83,7 +83,7 @@ extern "C" {
         text: *const u8,
         text_len: usize,
         target: i64,
-        distance: *mut u32,
+        distance: *mut f64,
         degree: *mut f64,
     ) -> u64;
 

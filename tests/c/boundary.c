@@ -103,8 +103,7 @@ static void questions(void)
 static void degrees(void)
 {
     static const uint8_t peaks[] = {'p', 'e', 'a', 'k', 's', '(', 'A', ')'}, lag[] = {'l', 'a', 'g'};
-    uint32_t distance = 77;
-    double degree = 7.5;
+    double distance = 77, degree = 7.5;
     EXPECT(mill_degree(r1, R1_BYTES, peaks, 8, 30, &distance, &degree) == MILL_MET);
     EXPECT(mill_degree(r1, R1_BYTES, lag, 3, 30, &distance, &degree) == MILL_NO_VALUE);
     EXPECT(MILL_NUMBER(mill_degree(r1, R1_BYTES, lag, 3, INT64_MIN, &distance, &degree)) == MILL_BAD_TARGET);
@@ -210,16 +209,16 @@ static void refusals(void)
 static void nothing_at_all(void)
 {
     uint32_t one = 77, two = 78;
-    double real = 7.5;
+    double distance = 77, degree = 7.5;
     EXPECT(MILL_NUMBER(mill_question(NULL, 0, NULL, 0, NULL, 0)) == MILL_NO_RECORD);
     EXPECT(MILL_NUMBER(mill_question(r1, R1_BYTES, NULL, 0, NULL, 0)) == MILL_TEXT_LENGTH);
     EXPECT(ask("lag", NULL, 0) == 0);
     EXPECT(MILL_NUMBER(ask("cross", NULL, 0)) == MILL_SHORT_OUTPUT);
-    EXPECT(MILL_NUMBER(mill_degree(NULL, 0, NULL, 0, 0, &one, &real)) == MILL_NO_RECORD);
+    EXPECT(MILL_NUMBER(mill_degree(NULL, 0, NULL, 0, 0, &distance, &degree)) == MILL_NO_RECORD);
     EXPECT(MILL_NUMBER(mill_pair(NULL, 0, 0, 40, &one, &two)) == MILL_NO_RECORD);
     EXPECT(mill_thin(NULL, 0, NULL, 0, NULL, 0) == 0);
     EXPECT(MILL_NUMBER(mill_thin(r1, R1_BYTES, NULL, 0, NULL, 0)) == MILL_SHORT_OUTPUT);
-    EXPECT(one == 77 && two == 78);
+    EXPECT(one == 77 && two == 78 && distance == 77 && memcmp(&degree, &(double){7.5}, sizeof degree) == 0);
 }
 
 /* The times of kept readings. */

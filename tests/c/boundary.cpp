@@ -75,8 +75,7 @@ void questions()
 void degrees()
 {
     const uint8_t text[] = {'g', 'a', 'p', 's', '(', 'A', ')'};
-    uint32_t distance = 77;
-    double degree = 7.5;
+    double distance = 77, degree = 7.5;
     EXPECT(mill_degree(r1, length, text, sizeof text, 40, &distance, &degree) == MILL_MET && distance == 77);
     EXPECT(mill_degree(r1, length, text, sizeof text, 43, &distance, &degree) == MILL_SHORT && distance == 3);
     const double quarter = 0.25;

@@ -32,8 +32,8 @@ use Rattle.question.specs.declared.prepare.Prepared.{Prepared}
 use Rattle.question.specs.declared.prepare.Prepared.the-variants as prepared
 use Rattle.question.specs.declared.answered.Verdict.the-variants.{Fine, Refused}
 use Rattle.question.specs.declared.answered.Answered.{Answered}
-use Rattle.ratio.specs.Degree.{degreeOf}
-use Rattle.ratio.specs.DegreeLaws.{degree-number}
+use Rattle.ratio.specs.Degree.{distanceOf, degreeOf}
+use Rattle.ratio.specs.DegreeLaws.{distance-number, degree-number}
 use Rattle.targets.specs.Target.{Placed}
 use Rattle.targets.specs.declared.OnAxis.the-variants.{Index, Off}
 use Rattle.degree.specs.Degree.{Value, met, short, noValue, graded, valueOf, targetLine, nearnessOf}
@@ -41,11 +41,13 @@ use Rattle.degree.specs.Degree.{Value, met, short, noValue, graded, valu
 -- ---- a distance
 
 pub grade-met : (d : ℕ) → d ≡ 0 → result met ≡ result (graded d)
-grade-met d z = sym (ap (λ (b : Bool). result (cond b met (short d (degreeOf d)))) (eq-eqb d 0 z))
+grade-met d z = sym (ap (λ (b : Bool). result (cond b met (short (distanceOf d) (degreeOf d)))) (eq-eqb d 0 z))
 
-pub grade-short : (d : ℕ) (k : Float) → (d ≡ 0 → ⊥) → k ≡ degreeOf d → result (short d k) ≡ result (graded d)
-grade-short d k n e =
-    ap (λ (x : Float). result (short d x)) e ∙ sym (ap (λ (b : Bool). result (cond b met (short d (degreeOf d)))) (ne-eqb d 0 n))
+pub grade-short : (d : ℕ) (x k : Float) → (d ≡ 0 → ⊥) → x ≡ distanceOf d → k ≡ degreeOf d → result (short x k) ≡ result (graded d)
+grade-short d x k n p q =
+    ap (λ (y : Float). result (short y k)) p
+    ∙ ap (λ (y : Float). result (short (distanceOf d) y)) q
+    ∙ sym (ap (λ (b : Bool). result (cond b met (short (distanceOf d) (degreeOf d)))) (ne-eqb d 0 n))
 
 -- ---- a set
 
@@ -126,30 +128,38 @@ module _ (bytes text table : List ℕ) (g : ℤ) (q : Prepared) (h : Prepares by
       ∙ ap (λ (p : Text). judged (targetLine g ∷ setLines bytes p) (valueOf (λ k. val (coded bytes) k p 0) (index g))) is
       ∙ sym (judged-pass (askingLines bytes text) (targetLine g ∷ setLines bytes (read text)) (valueOf (answer bytes text) (index g)) passed)
 
--- ---- the degree is a number
+-- ---- the distance and the degree are numbers
 
-short-is : (d d′ : ℕ) (k k′ : Float) → short d k ≡ short d′ k′ → (d ≡ d′) × (k ≡ k′)
-short-is d d′ k k′ e = (cc, cc)
+-- the two floats are numbers
+abbrev pub Numbers : Float → Float → Type 0
+Numbers x k = T (not (isNan x)) × T (not (isNan k))
 
-no-short : {C : Type 0} (x : Value) (d : ℕ) (k : Float) → ((x ≡ met) ⊎ (x ≡ noValue)) → x ≡ short d k → C
-no-short x d k h e = ⊎-elim (λ m. let z : _≡_ {A = ℕ} 0 1 = cc in absurd (bad z)) (λ m. let z : _≡_ {A = ℕ} 0 1 = cc in absurd (bad z)) h
+short-is : (x x′ k k′ : Float) → short x k ≡ short x′ k′ → (x ≡ x′) × (k ≡ k′)
+short-is x x′ k k′ e = (cc, cc)
+
+no-short : {C : Type 0} (y : Value) (x k : Float) → ((y ≡ met) ⊎ (y ≡ noValue)) → y ≡ short x k → C
+no-short y x k h e = ⊎-elim (λ m. let z : _≡_ {A = ℕ} 0 1 = cc in absurd (bad z)) (λ m. let z : _≡_ {A = ℕ} 0 1 = cc in absurd (bad z)) h
   where
     bad : _≡_ {A = ℕ} 0 1 → ⊥
     bad z = omega arith
 
-value-number : (f : ℕ → Bool) (v d : ℕ) (k : Float) → valueOf f v ≡ short d k → T (not (isNan k))
-value-number f v d k e = by (ltb (distance f v) axis) refl e
+value-numbers : (f : ℕ → Bool) (v : ℕ) (x k : Float) → valueOf f v ≡ short x k → Numbers x k
+value-numbers f v x k e = by (ltb (distance f v) axis) refl e
   where
-    at : (b : Bool) → distance f v < axis → cond b met (short (distance f v) (degreeOf (distance f v))) ≡ short d k → T (not (isNan k))
-    at true h e = no-short met d k (inl refl) e
-    at false h e = subst (λ (x : Float). T (not (isNan x))) (short-is (distance f v) d (degreeOf (distance f v)) k e .1) (degree-number (distance f v) (omega arith))
+    at : (b : Bool) → distance f v < axis → cond b met (short (distanceOf (distance f v)) (degreeOf (distance f v))) ≡ short x k → Numbers x k
+    at true h e = no-short met x k (inl refl) e
+    at false h e =
+        let same = short-is (distanceOf (distance f v)) x (degreeOf (distance f v)) k e in (
+          subst (λ (y : Float). T (not (isNan y))) (same .0) (distance-number (distance f v)),
+          subst (λ (y : Float). T (not (isNan y))) (same .1) (degree-number (distance f v) (omega arith)),
+        )
 
-    by : (b : Bool) → ltb (distance f v) axis ≡ b → cond b (graded (distance f v)) noValue ≡ short d k → T (not (isNan k))
+    by : (b : Bool) → ltb (distance f v) axis ≡ b → cond b (graded (distance f v)) noValue ≡ short x k → Numbers x k
     by true t e = at (eqb (distance f v) 0) (ltb-true (distance f v) axis t) e
-    by false t e = no-short noValue d k (inr refl) e
+    by false t e = no-short noValue x k (inr refl) e
 
-pub short-number : (bytes text : List ℕ) (g : ℤ) (d : ℕ) (k : Float) → result (short d k) ≡ nearnessOf bytes text g → T (not (isNan k))
+pub short-numbers : (bytes text : List ℕ) (g : ℤ) (x k : Float) → result (short x k) ≡ nearnessOf bytes text g → Numbers x k
 unfolding nearnessOf
-short-number bytes text g d k e =
-    value-number (answer bytes text) (index g) d k
-    (result-none (askingLines bytes text ++ (targetLine g ∷ setLines bytes (read text))) (valueOf (answer bytes text) (index g)) (short d k) (sym e) .1)
+short-numbers bytes text g x k e =
+    value-numbers (answer bytes text) (index g) x k
+    (result-none (askingLines bytes text ++ (targetLine g ∷ setLines bytes (read text))) (valueOf (answer bytes text) (index g)) (short x k) (sym e) .1)

@@ -11,20 +11,20 @@ use Rattle.refusal.specs.Numbers.{numberOf, placeOf}
 use Rattle.runset.specs.Distance.{distance}
 use Rattle.meaning.specs.Coded.{index}
 use Rattle.question.specs.Question.{read, answer, askingLines, setLines}
-use Rattle.ratio.specs.Degree.{degreeOf}
+use Rattle.ratio.specs.Degree.{distanceOf, degreeOf}
 use Rattle.targets.specs.Target.{offAxis}
 use Rattle.degree.specs.declared.Nearness.{Nearness}
 use Rattle.degree.specs.declared.Nearness.the-variants as nearness
 
--- met; short, with the distance and the degree; or no value at all
+-- met; short, with the distance and the degree, both in binary64; or no value at all
 pub data Value : Type 0 where
   met : Value
-  short : (distance : ℕ) (degree : Float) → Value
+  short : (distance degree : Float) → Value
   noValue : Value
 
 -- a target at distance d: met means that d is 0
 abbrev pub graded : ℕ → Value
-graded d = cond (eqb d 0) met (short d (degreeOf d))
+graded d = cond (eqb d 0) met (short (distanceOf d) (degreeOf d))
 
 -- how near the members of f come to the number at index v; the distance is less than the size of the axis exactly where there is a member
 abbrev pub valueOf : (ℕ → Bool) → ℕ → Value
@@ -42,6 +42,6 @@ nearnessOf bytes text g =
 -- the number, the place and the values of each answer
 abbrev pub outcomeOf : Nearness → Outcome Value
 outcomeOf nearness.Met = result met
-outcomeOf (nearness.Short d k) = result (short d k)
+outcomeOf (nearness.Short x k) = result (short x k)
 outcomeOf nearness.NoValue = result noValue
 outcomeOf (nearness.Refused x) = refused (numberOf x) (placeOf x)

@@ -8,7 +8,7 @@ use Rattle.recording.specs.Recording.{readings}
 use Rattle.text.specs.Syntax.{Text}
 use Rattle.text.specs.Grammar.{ReadsWhole}
 use Rattle.meaning.specs.Meaning.{Holds}
-use Rattle.ratio.specs.Degree.{degreeOf}
+use Rattle.ratio.specs.Degree.{distanceOf, degreeOf}
 use Rattle.degree.specs.Degree.{Value, met, short, noValue}
 
 -- |v − w|
@@ -28,10 +28,11 @@ module _ (r : List Reading) (p : Text) where
     pub there : apart v nearest ≡ d
     pub least : (w : ℕ) → w < axis → Member w → d ≤ apart v w
 
-  -- met: the target is a member; short: none is nearer than the distance, which is not 0; no value at all: there is no member
+  -- met: the target is a member; short: no member is nearer than the distance d, which is not 0, and the floats are d and its degree; no value at all: there
+  -- is no member
   abbrev pub Says : ℕ → Value → Type 0
   Says v met = Member v
-  Says v (short d k) = (0 < d) × Distance v d × (k ≡ degreeOf d)
+  Says v (short x k) = (d : ℕ) × (0 < d) × Distance v d × (x ≡ distanceOf d) × (k ≡ degreeOf d)
   Says v noValue = (w : ℕ) → w < axis → Member w → ⊥
 
 -- DEMAND 2, of a value x that the degree call gives for the number at index v: the text has a reading under the printed rules, and no other, and x says

@@ -21,7 +21,7 @@ use Rattle.meaning.specs.TruthLaws.{val-holds}
 use Rattle.question.specs.Question.{read, answer, askingLines, setLines}
 use Rattle.question.specs.MeantLaws.{read-reads, reads-read}
 use Rattle.question.specs.SizeLaws.{left-off}
-use Rattle.ratio.specs.Degree.{degreeOf}
+use Rattle.ratio.specs.Degree.{distanceOf, degreeOf}
 use Rattle.targets.specs.Target.{offAxis}
 use Rattle.targets.specs.TargetLaws.{sub-above, sub-below}
 use Rattle.degree.specs.Degree.{Value, met, short, noValue, graded, valueOf, targetLine, nearnessOf}
@@ -45,12 +45,13 @@ module _ (bytes text : List ℕ) (a : Accepted bytes) (v : ℕ) (h : v < axis) w
       near : (w : ℕ) × (w < axis) × (set w ≡ true) × (apart v w ≡ distance set v)
       near = distance-reached set v h some
 
-      by : (b : Bool) → eqb (distance set v) 0 ≡ b → Says (readings bytes) (read text) v (cond b met (short (distance set v) (degreeOf (distance set v))))
+      by : (b : Bool) → eqb (distance set v) 0 ≡ b → Says (readings bytes) (read text) v (cond b met (short (distanceOf (distance set v)) (degreeOf (distance set v))))
       by true e =
           let z : distance set v ≡ 0 = eqb-true (distance set v) 0 e in
           let same : near .0 ≡ v = omega (arith, near .3, z) in
           true-member v (ap set (sym same) ∙ near .2)
       by false e = (
+        distance set v,
         omega (arith, eqb-false (distance set v) 0 e),
         record {
           nearest = near .0;
@@ -59,6 +60,7 @@ module _ (bytes text : List ℕ) (a : Accepted bytes) (v : ℕ) (h : v < axis) w
           there = near .3;
           least = λ w hw m. distance-least set v h w hw (member-true w m);
         },
+        refl,
         refl,
       )
 

@@ -24,7 +24,7 @@ pub enum Nearness {
     // The target is a member of the set.
     Met,
     // The distance to the nearest member, and its degree.
-    Short(u32, f64),
+    Short(f64, f64),
     // The set has no member.
     NoValue,
     Refused(Refusal),
@@ -37,8 +37,9 @@ fn grade(d: u32) -> Nearness
     if d == 0 {
         return Nearness::Met;
     }
+    let distance = ratio::distance_of(d);
     let degree = ratio::degree_of(d);
-    Nearness::Short(d, degree)
+    Nearness::Short(distance, degree)
 }
 
 // How near a set comes to the number at an index.

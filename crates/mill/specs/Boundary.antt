@@ -31,14 +31,14 @@ valueTold (result (short d k)) = result 1
 valueTold (result noValue) = result 2
 valueTold (refused n p) = refused n p
 
--- the distance and the degree of a target that is missed are written; else both places stay
+-- The distance and the degree of a target that is missed are written, each by its bits in binary64; else both places stay. Of bits nothing is left open
+-- where a place held a NaN.
 abbrev pub distanceAfter : Outcome Value → ℕ → ℕ
 distanceAfter (result met) old = old
-distanceAfter (result (short d k)) old = d
+distanceAfter (result (short d k)) old = toBits binary64 d
 distanceAfter (result noValue) old = old
 distanceAfter (refused n p) old = old
 
--- the place of the degree holds its bits, so that nothing is left open of a place that held a NaN
 abbrev pub degreeAfter : Outcome Value → ℕ → ℕ
 degreeAfter (result met) old = old
 degreeAfter (result (short d k)) old = toBits binary64 k

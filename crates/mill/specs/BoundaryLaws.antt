@@ -27,7 +27,7 @@ use Rattle.meaning.specs.Coded.{index}
 use Rattle.question.specs.Question.{answer, read, setLines, questionOf}
 use Rattle.question.specs.SizeLaws.{answered-few}
 use Rattle.degree.specs.Degree.{Value, valueOf, targetLine, nearnessOf, outcomeOf}
-use Rattle.degree.specs.CallLaws.{short-number}
+use Rattle.degree.specs.CallLaws.{Numbers, short-numbers}
 use Rattle.degree.specs.declared.Nearness.{Nearness}
 use Rattle.degree.specs.declared.Nearness.the-variants as nearness
 use Rattle.pair.specs.Pair.{Given, pairLines, acceptedLines}
@@ -55,8 +55,11 @@ module _ (o : Outcome Value) (n : Nearness) (answers : outcomeOf n ≡ o) (dista
   pub degrees-met : n ≡ nearness.Met → Degrees o distance degree 0 distance degree
   degrees-met e = degrees-answer (outcomeOf nearness.Met) (ap outcomeOf e)
 
-  pub degrees-short : (d : ℕ) (k : Float) (bits : ℕ) → n ≡ nearness.Short d k → bits ≡ toBits binary64 k → Degrees o distance degree 1 d bits
-  degrees-short d k bits e h = subst (Degrees o distance degree 1 d) (sym h) (degrees-answer (outcomeOf (nearness.Short d k)) (ap outcomeOf e))
+  pub degrees-short : (d k : Float) (first second : ℕ) → n ≡ nearness.Short d k → first ≡ toBits binary64 d → second ≡ toBits binary64 k
+      → Degrees o distance degree 1 first second
+  degrees-short d k first second e p q =
+      subst (λ (x : ℕ). Degrees o distance degree 1 x second) (sym p)
+      (subst (Degrees o distance degree 1 (toBits binary64 d)) (sym q) (degrees-answer (outcomeOf (nearness.Short d k)) (ap outcomeOf e)))
 
   pub degrees-none : n ≡ nearness.NoValue → Degrees o distance degree 2 distance degree
   degrees-none e = degrees-answer (outcomeOf nearness.NoValue) (ap outcomeOf e)
@@ -118,9 +121,9 @@ question-in-half bytes text room = go (questionOf bytes text room) refl
         (refl, (refl, (refl, (refl, (refl, (refl, (refl, tt))))))) e
     go (result written) e = omega (arith, answered-few bytes text room written e)
 
--- a degree that is given is a number
-pub degree-given : (bytes text : List ℕ) (g : ℤ) (n : Nearness) (d : ℕ) (k : Float) → outcomeOf n ≡ nearnessOf bytes text g → n ≡ nearness.Short d k → T (not (isNan k))
-degree-given bytes text g n d k a e = short-number bytes text g d k (sym (ap outcomeOf e) ∙ a)
+-- a distance and a degree that are given are numbers
+pub short-given : (bytes text : List ℕ) (g : ℤ) (n : Nearness) (d k : Float) → outcomeOf n ≡ nearnessOf bytes text g → n ≡ nearness.Short d k → Numbers d k
+short-given bytes text g n d k a e = short-numbers bytes text g d k (sym (ap outcomeOf e) ∙ a)
 
 pub degree-place : (bytes text : List ℕ) (g : ℤ) (n p : ℕ) → nearnessOf bytes text g ≡ refused n p → p < half
 unfolding nearnessOf

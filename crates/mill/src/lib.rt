@@ -23,13 +23,13 @@ fn bits(x: f64) -> u64
 }
 
 // THE DEGREE CALL. Returns 0 where the target is met, 1 where it is missed and its distance and degree are written, 2 where
-// there is no value, or the refusal. The degree is handed over by its bits: to C they are a double.
+// there is no value, or the refusal. Both are handed over by their bits: to C each is a double.
 #[no_mangle]
 pub extern "C" fn mill_degree(
     rec: &[u8],
     text: &[u8],
     target: i64,
-    distance: &mut u32,
+    distance: &mut u64,
     degree: &mut u64,
 ) -> u64
     ensures { λ r. ⌜ DegreeCall (now (rec .entry)) (now (text .entry)) target (now (distance .entry)) (now (degree .entry)) r (now (distance .exit)) (now (degree .exit)) ⌝ }
@@ -38,7 +38,7 @@ pub extern "C" fn mill_degree(
     match near {
         degree::Nearness::Met => 0,
         degree::Nearness::Short(d, k) => {
-            *distance = d;
+            *distance = bits(d);
             *degree = bits(k);
             1
         }

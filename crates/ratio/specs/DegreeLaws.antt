@@ -1,4 +1,4 @@
--- The sum of 1 and d is a float exactly, and the degree is the fraction 1 / (1 + d), rounded once to nearest.
+-- A distance is a float exactly, so is the sum of 1 and d, and the degree is the fraction 1 / (1 + d), rounded once to nearest.
 use mathlib.Core.Path.{_≡_, refl, sym, ap, _∙_, subst}
 use mathlib.Core.Bool.{Bool, true, false, not, true≢false, cond}
 use Prim.Native.Nat.{ℕ, zero, suc, _+_, _*_, _^_, _≤_, _<_}
@@ -12,12 +12,16 @@ use lib.Ieee.Exact.{HasValue}
 use lib.Ieee.Scale.{round-same}
 use lib.Ieee.Back.{round-whole}
 use borrow.Author.Tests.{ne-eqb}
-use Rattle.ratio.specs.Degree.{one, degreeOf}
+use Rattle.ratio.specs.Degree.{one, distanceOf, degreeOf}
 
 -- a whole number of at most 53 binary digits is a float exactly
 pub int-exact : (n : ℕ) → n ≤ 2 ^ 53 → HasValue (ofInt binary64 (pos n)) false n 1
 unfolding ofInt
 int-exact n h = round-whole binary64 false n h
+
+-- THE DISTANCE IS EXACT: up to the length of the axis its float is the whole number d, d / 1, with no minus sign
+pub distance-exact : (d : ℕ) → d ≤ 4000000000 → HasValue (distanceOf d) false d 1
+distance-exact d h = int-exact d (omega arith)
 
 -- M / e is the whole number a, and N / g the whole number b
 whole-sum : (M e N g a b : ℕ) → M * 1 ≡ a * e → N * 1 ≡ b * g → (M * g + N * e) * 1 ≡ (a + b) * (e * g)
@@ -66,7 +70,7 @@ pub degree-is : (d : ℕ) → d < 2 ^ 53 → degreeOf d ≡ round binary64 false
 unfolding degreeOf
 degree-is d h = inverse-whole binary64 (ofInt binary64 (pos (1 + d))) (1 + d) (omega arith) (int-exact (1 + d) (omega arith))
 
--- ---- the degree is a number, so that its bits are fixed
+-- ---- the distance and the degree are numbers, so that their bits are fixed
 
 odd-number : (d : ℕ) (s : Bool) (q k l : ℕ) → T (not (isNan (odd d s q k l)))
 unfolding odd isNan
@@ -84,6 +88,10 @@ units-number f s q k = by (ltb (q * 2 ^ k) (2 ^ (low f + suc (emax f))))
 round-number : (f : Format) (s : Bool) (num den : ℕ) → T (not (isNan (round f s num den)))
 unfolding round
 round-number f s num den = units-number f s _ _
+
+pub distance-number : (d : ℕ) → T (not (isNan (distanceOf d)))
+unfolding ofInt
+distance-number d = round-number binary64 false d 1
 
 pub degree-number : (d : ℕ) → d < 2 ^ 53 → T (not (isNan (degreeOf d)))
 degree-number d h = subst (λ (x : Float). T (not (isNan x))) (sym (degree-is d h)) (round-number binary64 false 1 (1 + d))

@@ -1,5 +1,24 @@
 //! The proved sets beside sets of another making: maps from numbers to membership, and maximal runs counted there.
+#[path = "../../tests/support/compared.rs"]
+mod compared;
+
 use runset_compare::*;
+
+/// Calls, each of them counted: every test compares what they give.
+fn combine(op: Op, a: &[u8], b: &[u8], c: &[u8], out: &mut [u8]) -> u32 {
+    compared::count();
+    runset_compare::combine(op, a, b, c, out)
+}
+
+fn has(a: &[u8], v: i64) -> u32 {
+    compared::count();
+    runset_compare::has(a, v)
+}
+
+fn distance(a: &[u8], v: i64) -> u32 {
+    compared::count();
+    runset_compare::distance(a, v)
+}
 
 struct Random(u64);
 

@@ -78,7 +78,7 @@ fn degrees() {
     for text in ["high(A)", "peaks(A)", "F(T=v&fall(A))"] {
         let library = || {
             mill::degree(&recording, text.as_bytes(), 77).map(|degree| match degree {
-                Degree::Met => Some((0, 1.0)),
+                Degree::Met => Some((0.0, 1.0)),
                 Degree::Short { distance, degree } => Some((distance, degree)),
                 Degree::NoValue => None,
             })

@@ -33,7 +33,7 @@ fn null_with_length_0() {
 fn null_with_length_0_in_questions() {
     let r1 = r1_bytes();
     let (recording, length) = (r1.as_ptr(), r1.len());
-    let (mut whole, mut real, mut out) = (77u32, 7.5f64, [9u8; 64]);
+    let (mut distance, mut degree, mut out) = (77.0, 7.5, [9u8; 64]);
     // SAFETY: each pointer lies before as many bytes as its length says; null goes with 0.
     unsafe {
         assert_eq!(mill_question(null(), 0, b"high(A)".as_ptr(), 7, out.as_mut_ptr(), 64), refusal(4));
@@ -41,31 +41,31 @@ fn null_with_length_0_in_questions() {
         assert_eq!(mill_question(recording, length, null(), 0, out.as_mut_ptr(), 64), refusal(5));
         assert_eq!(mill_question(recording, length, b"lag".as_ptr(), 3, null_mut(), 0), 0);
         assert_eq!(mill_question(recording, length, b"cross".as_ptr(), 5, null_mut(), 0), refusal(10));
-        assert_eq!(mill_degree(null(), 0, null(), 0, i64::MIN, &mut whole, &mut real), refusal(4));
-        assert_eq!(mill_degree(recording, length, null(), 0, 0, &mut whole, &mut real), refusal(5));
+        assert_eq!(mill_degree(null(), 0, null(), 0, i64::MIN, &mut distance, &mut degree), refusal(4));
+        assert_eq!(mill_degree(recording, length, null(), 0, 0, &mut distance, &mut degree), refusal(5));
     }
-    assert_eq!((whole, real, out), (77, 7.5, [9; 64]));
+    assert_eq!((distance, degree, out), (77.0, 7.5, [9; 64]));
 }
 
-/// A place that holds a signalling NaN keeps every bit where nothing is written, and gets the degree's bits where it is.
+/// Places that hold a signalling NaN keep every bit where nothing is written, and get the bits of the distance and the degree where they are.
 #[test]
-fn the_place_of_the_degree_by_its_bits() {
+fn the_places_of_distance_and_degree_by_their_bits() {
     let r1 = r1_bytes();
-    let signalling = 0x7FF0_0000_0000_0001_u64;
+    let nans = (0x7FF0_0000_0000_0001_u64, 0xFFF7_FFFF_FFFF_FFFF_u64);
     for (text, target, returned, after) in [
-        ("high(A)", 0, 0, signalling),
-        ("lag", 0, 2, signalling),
-        ("F(A>v", 0, refusal(6), signalling),
-        ("high(A)", 2_000_000_001, refusal(12), signalling),
-        ("peaks(A)", 51, 1, 0.05f64.to_bits()),
+        ("high(A)", 0, 0, nans),
+        ("lag", 0, 2, nans),
+        ("F(A>v", 0, refusal(6), nans),
+        ("high(A)", 2_000_000_001, refusal(12), nans),
+        ("peaks(A)", 51, 1, (19f64.to_bits(), 0.05f64.to_bits())),
     ] {
-        let (mut distance, mut degree) = (77u32, signalling);
+        let (mut distance, mut degree) = nans;
         // SAFETY: the pointers lie before what their lengths say; 64 bits have the size and the alignment of a double.
         let found = unsafe {
-            let place = (&raw mut degree).cast();
-            mill_degree(r1.as_ptr(), r1.len(), text.as_ptr(), text.len(), target, &mut distance, place)
+            let places = ((&raw mut distance).cast(), (&raw mut degree).cast());
+            mill_degree(r1.as_ptr(), r1.len(), text.as_ptr(), text.len(), target, places.0, places.1)
         };
-        assert_eq!((found, degree), (returned, after), "{text}");
+        assert_eq!((found, (distance, degree)), (returned, after), "{text}");
     }
 }
 
@@ -133,19 +133,19 @@ fn lengths_past_32_bits_in_questions() {
     let large = Guarded::output(WRAPPED + 4096);
     let at = large.place(WRAPPED + 4096, Against::Front);
     let r1 = r1_bytes();
-    let (mut whole, mut real, mut out) = (77u32, 7.5f64, [9u8; 64]);
+    let (mut distance, mut degree, mut out) = (77.0, 7.5, [9u8; 64]);
     // SAFETY: the pages are there, of zeros; they are taken only when touched.
     unsafe {
         let text = b"high(A)";
         for (length, number) in [(WRAPPED, 2), (WRAPPED + 16, 2), (WRAPPED + 128, 2), (WRAPPED + 1, 1), (WRAPPED - 16, 2)] {
             assert_eq!(mill_question(at, length, text.as_ptr(), 7, out.as_mut_ptr(), 64), refusal(number));
-            assert_eq!(mill_degree(at, length, text.as_ptr(), 7, 0, &mut whole, &mut real), refusal(number));
+            assert_eq!(mill_degree(at, length, text.as_ptr(), 7, 0, &mut distance, &mut degree), refusal(number));
         }
         for length in [WRAPPED, WRAPPED + 7, WRAPPED + 256] {
             assert_eq!(mill_question(r1.as_ptr(), 128, at, length, out.as_mut_ptr(), 64), refusal(5));
-            assert_eq!(mill_degree(r1.as_ptr(), 128, at, length, 0, &mut whole, &mut real), refusal(5));
+            assert_eq!(mill_degree(r1.as_ptr(), 128, at, length, 0, &mut distance, &mut degree), refusal(5));
         }
-        assert_eq!((whole, real, out), (77, 7.5, [9; 64]));
+        assert_eq!((distance, degree, out), (77.0, 7.5, [9; 64]));
         // An output of over 4 GiB is room enough.
         assert_eq!(mill_question(r1.as_ptr(), 128, text.as_ptr(), 7, at, WRAPPED), 8);
     }

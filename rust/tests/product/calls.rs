@@ -77,7 +77,7 @@ impl Desk {
         (returned, result)
     }
 
-    /// Places for a u32 and a u32 or f64, filled.
+    /// Places for two numbers of so many bytes, filled.
     fn number_places(&mut self, against: Against, size: usize) -> (*mut u8, *mut u8) {
         let turn = self.turn;
         let against = aligned(against);
@@ -85,7 +85,7 @@ impl Desk {
             let at = number.offset(16, against);
             number.bytes()[at..at + 16].fill(filler(turn));
         }
-        (self.numbers[0].place(4, against), self.numbers[1].place(size, against))
+        (self.numbers[0].place(size, against), self.numbers[1].place(size, against))
     }
 
     /// The bytes at the number places, and that the bytes beside them are untouched.
@@ -103,7 +103,7 @@ impl Desk {
             assert!(beside.iter().all(|byte| *byte == filler(turn)), "bytes beside a number were touched; {}", place());
             own.to_vec()
         };
-        (read(0, 4), read(1, size))
+        (read(0, size), read(1, size))
     }
 }
 
@@ -212,10 +212,10 @@ pub fn degree(recording: &[u8], text: &[u8], target: i64) -> u32 {
         let (distance, degree) = desk.numbers_after(output, 8);
         (returned, distance, degree, filler(desk.turn))
     });
-    let untouched = (vec![filler; 4], vec![filler; 8]);
+    let untouched = (vec![filler; 8], vec![filler; 8]);
     let (expected_return, (expected_distance, expected_degree)) = match expected {
         Ok(Degree::Met) => (0, untouched),
-        Ok(Degree::Short { distance, degree }) => (1, (distance.to_le_bytes().to_vec(), degree.to_bits().to_le_bytes().to_vec())),
+        Ok(Degree::Short { distance, degree }) => (1, (distance.to_le_bytes().to_vec(), degree.to_le_bytes().to_vec())),
         Ok(Degree::NoValue) => (2, untouched),
         Err(refused) => (refused.returned(), untouched),
     };

@@ -82,7 +82,7 @@ fn degrees_bit_by_bit() {
         let target = HIGH - i64::from(away);
         assert_eq!(degree(&recording, b"T=v", target), 0);
         match mill::degree(&recording, b"T=v", target) {
-            Ok(Degree::Short { distance, degree }) => assert_eq!((distance, degree.to_bits()), (away, bits)),
+            Ok(Degree::Short { distance, degree }) => assert_eq!((distance, degree.to_bits()), (f64::from(away), bits)),
             other => panic!("{other:?} at {away}"),
         }
     }

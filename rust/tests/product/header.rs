@@ -1,26 +1,9 @@
 //! Covers: that `include/mill.h` and the declarations in Rust name the same numbers, the numbers of the scope.
 
+use crate::support::header::numbers;
 use mill::reference;
 use mill::sys::*;
 use std::collections::BTreeMap;
-
-/// The named numbers of the header.
-fn header() -> BTreeMap<String, i64> {
-    let path = concat!(env!("CARGO_MANIFEST_DIR"), "/../include/mill.h");
-    let text = std::fs::read_to_string(path).expect(path);
-    let mut found = BTreeMap::new();
-    for line in text.lines().filter_map(|line| line.strip_prefix("#define MILL_")) {
-        let mut words = line.split_whitespace();
-        let (name, value) = (words.next().unwrap(), words.next());
-        let number = value.and_then(|value| value.trim_matches(|c| c == '(' || c == ')').parse().ok());
-        // `MILL_H` has no value, and MILL_NUMBER and MILL_PLACE take one.
-        match number {
-            Some(number) => assert_eq!(found.insert(format!("MILL_{name}"), number), None, "{name} twice"),
-            None => assert!(name == "H" || name.starts_with("NUMBER(") || name.starts_with("PLACE("), "{line}"),
-        }
-    }
-    found
-}
 
 #[test]
 fn the_header_and_the_declarations_agree() {
@@ -34,21 +17,12 @@ fn the_header_and_the_declarations_agree() {
         MILL_FLAT MILL_RISING MILL_CURVE_A MILL_CURVE_B MILL_MET MILL_SHORT MILL_NO_VALUE MILL_NO_PAIR MILL_PAIR
         MILL_PARTIAL_RECORD MILL_TOO_MANY_RECORDS MILL_BAD_RECORD MILL_NO_RECORD MILL_TEXT_LENGTH MILL_NO_READING
         MILL_TEXT_TOO_LARGE MILL_TOO_MANY_RUNS MILL_TOO_MANY_TOPS MILL_SHORT_OUTPUT MILL_BAD_MARKS MILL_BAD_TARGET);
-    assert_eq!(header(), declared);
-}
-
-/// The calls that the header declares are those that can be linked.
-#[test]
-fn the_header_declares_the_calls() {
-    let text = std::fs::read_to_string(concat!(env!("CARGO_MANIFEST_DIR"), "/../include/mill.h")).unwrap();
-    let calls: Vec<&str> =
-        text.lines().filter_map(|line| line.strip_prefix("uint64_t ")).map(|line| line.split('(').next().unwrap()).collect();
-    assert_eq!(calls, ["mill_question", "mill_degree", "mill_pair", "mill_thin"]);
+    assert_eq!(numbers(), declared);
 }
 
 #[test]
 fn the_header_and_the_independent_implementation_agree() {
-    let header = header();
+    let header = numbers();
     for (name, number) in [
         ("MILL_AXIS_LOW", reference::set::LOW),
         ("MILL_AXIS_HIGH", reference::set::HIGH),

@@ -43,11 +43,11 @@ fn askable(text: &[u8], marks: &[i64]) -> bool {
     })
 }
 
-/// An answer to the degree call, its number by the bits.
-fn degree_of(recording: &[u8], text: &[u8], target: i64) -> Result<(u8, u32, u64), Refusal> {
+/// An answer to the degree call, its numbers by their bits.
+fn degree_of(recording: &[u8], text: &[u8], target: i64) -> Result<(u8, u64, u64), Refusal> {
     mill::degree(recording, text, target).map(|degree| match degree {
         Degree::Met => (0, 0, 0),
-        Degree::Short { distance, degree } => (1, distance, degree.to_bits()),
+        Degree::Short { distance, degree } => (1, distance.to_bits(), degree.to_bits()),
         Degree::NoValue => (2, 0, 0),
     })
 }

@@ -6,6 +6,7 @@ mod support;
 mod boundary;
 mod calls;
 mod damaged;
+mod declarations;
 mod degree;
 mod edges;
 mod exhaustive;

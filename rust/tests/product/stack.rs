@@ -1,15 +1,13 @@
-//! Covers: the stack that the calls need: each on the deepest and widest inputs in a thread with a small stack, and the peak of
-//! each measured on a painted one (`cargo test --release stack -- --nocapture` prints it).
+//! Covers: the stack that the calls need: each on the deepest and widest inputs on a stack of just the bytes that the header names
+//! for it, and the peak of each measured on a painted one (`cargo test --release stack -- --nocapture` prints it).
 
 use crate::support::cases::begin;
-use crate::support::painted;
 use crate::support::recordings::{flat, put_top, with_tops};
+use crate::support::small_stack::on_stack_of;
+use crate::support::{header, painted};
 use mill::reference::recording::bytes;
-use mill::sys::*;
+use mill::sys::{mill_degree, mill_pair, mill_question, mill_thin};
 use std::collections::BTreeMap;
-
-/// The stack with which every call must do.
-const SMALL_STACK: usize = 256 * 1024;
 
 /// A recording of 4,096 readings under which sets grow to about 60 runs.
 fn wide() -> Vec<u8> {
@@ -86,6 +84,18 @@ enum Job {
     Thin(Vec<u8>),
 }
 
+impl Job {
+    /// The call's name, and the bytes of stack that the header names for it.
+    fn call(&self) -> (&'static str, usize) {
+        match self {
+            Job::Question(..) => ("mill_question", header::stack("QUESTION")),
+            Job::Degree(..) => ("mill_degree", header::stack("DEGREE")),
+            Job::Pair(..) => ("mill_pair", header::stack("PAIR")),
+            Job::Thin(_) => ("mill_thin", header::stack("THIN")),
+        }
+    }
+}
+
 fn jobs() -> Vec<Job> {
     let mut jobs = Vec::new();
     for recording in recordings() {
@@ -110,8 +120,8 @@ fn run(job: &Job, out: &mut [u8]) -> u64 {
                 mill_question(recording.as_ptr(), recording.len(), text.as_ptr(), text.len(), out.as_mut_ptr(), out.len())
             }
             Job::Degree(recording, text) => {
-                let mut real = 0f64;
-                mill_degree(recording.as_ptr(), recording.len(), text.as_ptr(), text.len(), 7, &mut one, &mut real)
+                let (mut distance, mut degree) = (0f64, 0f64);
+                mill_degree(recording.as_ptr(), recording.len(), text.as_ptr(), text.len(), 7, &mut distance, &mut degree)
             }
             Job::Pair(recording, target) => mill_pair(recording.as_ptr(), recording.len(), 0, *target, &mut one, &mut two),
             Job::Thin(recording) => {
@@ -122,22 +132,20 @@ fn run(job: &Job, out: &mut [u8]) -> u64 {
 }
 
 #[test]
-fn every_call_with_a_small_stack() {
+fn every_call_on_the_stack_that_the_header_names() {
     crate::guarded::say_the_case_on_faults();
-    let jobs = jobs();
-    let expected: Vec<u64> = jobs.iter().map(|job| run(job, &mut vec![0; 65_536])).collect();
-    let small = std::thread::Builder::new().stack_size(SMALL_STACK);
-    let in_small = small
-        .spawn(move || {
-            let mut out = vec![0; 65_536];
-            let each = jobs.iter().enumerate().map(|(case, job)| {
-                begin("every call with a small stack", case as u64);
-                run(job, &mut out)
-            });
-            each.collect::<Vec<u64>>()
-        })
-        .unwrap();
-    assert_eq!(in_small.join().unwrap(), expected);
+    let mut expected = Vec::new();
+    for (case, job) in jobs().iter().enumerate() {
+        begin("every call on the stack that the header names", case as u64);
+        let (mut out, mut again) = (vec![0; 65_536], vec![0; 65_536]);
+        let returned = run(job, &mut out);
+        let (call, bytes) = job.call();
+        let mut found = None;
+        on_stack_of(bytes, &mut || found = Some(run(job, &mut again)));
+        assert_eq!(found, Some(returned), "{call}, case {case}");
+        assert!(out == again, "{call}, case {case}: the output");
+        expected.push(returned);
+    }
     assert!(expected.iter().any(|returned| *returned == 1) && expected.iter().any(|returned| *returned > 1_000));
     let refused = |number: u64| expected.iter().filter(|returned| **returned >> 32 == number).count();
     assert!(refused(0) > 40 && refused(7) > 20 && refused(8) > 4, "the jobs reach results and refusals 7 and 8");
@@ -152,18 +160,46 @@ fn peak_of_every_call() {
         let peak = painted::peak(&mut || {
             run(job, &mut out);
         });
-        let (call, said) = match job {
-            Job::Question(..) => ("mill_question", MILL_STACK_QUESTION),
-            Job::Degree(..) => ("mill_degree", MILL_STACK_DEGREE),
-            Job::Pair(..) => ("mill_pair", MILL_STACK_PAIR),
-            Job::Thin(_) => ("mill_thin", MILL_STACK_THIN),
-        };
+        let (call, said) = job.call();
         let (most, _) = peaks.entry(call).or_insert((0, said));
         *most = peak.max(*most);
     }
     for (call, (peak, said)) in peaks {
         println!("{call}: {peak} bytes of stack at most, {said} in the header");
         assert!(peak > 0 && peak <= said, "{call} needs {peak} bytes of stack, and the header says {said}");
+    }
+}
+
+/// The limit is real: a child process in which a call has less stack than it needs dies, and says at which case.
+#[test]
+fn a_stack_that_is_too_small_is_seen() {
+    const LESS: &str = "MILL_LESS_STACK";
+    let recording = bytes(&flat(1));
+    let jobs = [
+        (Job::Question(recording.clone(), "(".repeat(256)), 65_536),
+        (Job::Degree(recording.clone(), "(".repeat(256)), 65_536),
+        (Job::Pair(recording.clone(), 16), 512),
+        (Job::Thin(recording), 4_096),
+    ];
+    if let Ok(which) = std::env::var(LESS) {
+        let which: usize = which.parse().unwrap();
+        crate::guarded::say_the_case_on_faults();
+        begin("too small a stack", which as u64);
+        let (job, bytes) = &jobs[which];
+        on_stack_of(*bytes, &mut || {
+            run(job, &mut [0; 16]);
+        });
+        return;
+    }
+    for (which, (job, _)) in jobs.iter().enumerate() {
+        let child = std::process::Command::new(std::env::current_exe().unwrap())
+            .args(["stack::a_stack_that_is_too_small_is_seen", "--exact", "--nocapture", "--test-threads=1"])
+            .env(LESS, which.to_string())
+            .output()
+            .unwrap();
+        let said = String::from_utf8_lossy(&child.stderr).into_owned();
+        assert_eq!(child.status.code(), Some(101), "{}: {said}", job.call().0);
+        assert!(said.contains(&format!("in case 'too small a stack:{which}'")), "{}: {said}", job.call().0);
     }
 }
 

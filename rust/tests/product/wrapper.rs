@@ -37,7 +37,7 @@ fn r1_lines() {
     assert_eq!(mill::pair(&recording, Curve::A, 41), Ok(None));
     assert_eq!(mill::pair(&recording, Curve::B, 40), Ok(None));
     assert_eq!(mill::degree(&recording, b"peaks(A)", 30), Ok(Degree::Met));
-    assert_eq!(mill::degree(&recording, b"peaks(A)", 51), Ok(Degree::Short { distance: 19, degree: 0.05 }));
+    assert_eq!(mill::degree(&recording, b"peaks(A)", 51), Ok(Degree::Short { distance: 19.0, degree: 0.05 }));
     assert_eq!(mill::degree(&recording, b"lag", 30), Ok(Degree::NoValue));
 }
 

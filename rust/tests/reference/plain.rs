@@ -27,7 +27,7 @@ fn plain_rust_answers_alike() {
         let target = texts::number(random, &records) * random.pick(&[1, 1, 1, 3]);
         let plain = mill::plain::degree(&recording, &text, target);
         let degree = reference::degree(&recording, &text, target).map(|degree| match degree {
-            Degree::Met => Some((0, 1.0)),
+            Degree::Met => Some((0.0, 1.0)),
             Degree::Short { distance, degree } => Some((distance, degree)),
             Degree::NoValue => None,
         });

@@ -76,9 +76,9 @@ fn table_examples() {
 fn degrees_and_pairs() {
     let r1 = r1_bytes();
     assert_eq!(degree(&r1, b"peaks(A)", 30), Ok(Degree::Met));
-    assert_eq!(degree(&r1, b"peaks(A)", 51), Ok(Degree::Short { distance: 19, degree: 0.05 }));
+    assert_eq!(degree(&r1, b"peaks(A)", 51), Ok(Degree::Short { distance: 19.0, degree: 0.05 }));
     assert_eq!(degree(&r1, b"lag", 0), Ok(Degree::NoValue));
-    assert_eq!(degree(&r1, b"high(A)", HIGH), Ok(Degree::Short { distance: 1_999_999_910, degree: 1.0 / 1_999_999_911.0 }));
+    assert_eq!(degree(&r1, b"high(A)", HIGH), Ok(Degree::Short { distance: 1_999_999_910.0, degree: 1.0 / 1_999_999_911.0 }));
     assert_eq!(pairs(&r1, 0, 40), Ok(vec![(30, 70)]));
     assert_eq!(pairs(&r1, 0, 39), Ok(vec![]));
     assert_eq!(pairs(&r1, 0, 0), Ok(vec![]));

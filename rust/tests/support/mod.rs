@@ -3,8 +3,10 @@
 
 pub mod cases;
 pub mod compared;
+pub mod header;
 pub mod painted;
 pub mod r1;
 pub mod random;
 pub mod recordings;
+pub mod small_stack;
 pub mod texts;

@@ -7,7 +7,8 @@ mod support;
 use mill::reference::splits::readings;
 use mill::reference::text::{accepted, most_open_brackets, Node, MOST_BRACKETS, MOST_NODES};
 use support::cases::{begin, cases, one_alone};
-use support::{compared, painted, r1, texts};
+use support::small_stack::on_stack_of;
+use support::{compared, header, painted, r1, texts};
 use text_compare::{read, SHORT_TABLE, TABLE_SIZE};
 
 /// The number of nodes, or refusal 5, 6 or 7, held to the independent reader.
@@ -187,19 +188,19 @@ fn deepest() -> Vec<String> {
     ]
 }
 
-/// The stack with which every reading must do.
-const SMALL_STACK: usize = 128 * 1024;
-
+/// A reading is a part of the question call, and does with the stack that the header names for that.
 #[test]
-fn deepest_texts_with_a_small_stack() {
-    let (texts, again) = (deepest(), deepest());
-    let expected: Vec<_> = texts.iter().map(|text| read(text.as_bytes(), &mut vec![0; TABLE_SIZE])).collect();
-    let small = std::thread::Builder::new().stack_size(SMALL_STACK);
-    let in_small = small
-        .spawn(move || again.iter().map(|text| read(text.as_bytes(), &mut vec![0; TABLE_SIZE])).collect::<Vec<_>>())
-        .unwrap();
-    assert_eq!(in_small.join().unwrap(), expected);
-    assert!(expected.contains(&Err(7)) && expected.contains(&Err(6)) && expected.contains(&Ok(1)));
+fn deepest_texts_on_the_stack_that_the_header_names() {
+    let mut seen = Vec::new();
+    for text in deepest() {
+        let (mut table, mut again) = (vec![0; TABLE_SIZE], vec![0; TABLE_SIZE]);
+        let expected = read(text.as_bytes(), &mut table);
+        let mut found = None;
+        on_stack_of(header::stack("QUESTION"), &mut || found = Some(read(text.as_bytes(), &mut again)));
+        assert_eq!((found, again), (Some(expected), table), "{text}");
+        seen.push(expected);
+    }
+    assert!(seen.contains(&Err(7)) && seen.contains(&Err(6)) && seen.contains(&Ok(1)));
 }
 
 #[test]
@@ -215,5 +216,5 @@ fn peak_stack_of_the_deepest_texts() {
         most = most.max(peak);
     }
     println!("text_read: {most} bytes of stack at most");
-    assert!(most > 0 && most < SMALL_STACK, "{most} bytes of stack");
+    assert!(most > 0 && most <= header::stack("QUESTION"), "{most} bytes of stack");
 }

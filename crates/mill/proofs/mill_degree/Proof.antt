@@ -8,7 +8,7 @@ use mir.ValLaws.{toZ-ofZ}
 use Rattle.refusal.specs.Numbers.{numberOf, placeOf}
 use Rattle.degree.specs.Degree.{nearnessOf, outcomeOf}
 use Rattle.degree.specs.declared.Nearness.{Nearness}
-use Rattle.mill.specs.BoundaryLaws.{degree-place, degree-given, degrees-met, degrees-short, degrees-none, degrees-refusal}
+use Rattle.mill.specs.BoundaryLaws.{degree-place, short-given, degrees-met, degrees-short, degrees-none, degrees-refusal}
 use borrow.Author.Needs.{needs}
 use Rattle.mill.proofs.mill_degree.Statement.{statement}
 use Rattle.mill.proofs.mill_degree.Tie as tie
@@ -36,7 +36,17 @@ bits-requires c κs =
     let t = c .before .before .before .degree in
     let a = asked (s .args .rec .now) (s .args .text .now) (s .args .target) _ (t .result) (toZ-ofZ w64 (s .args .target) (s .fits .target)) (t .ensures) in
     let z = c .before .near .given in
-    degree-given (s .args .rec .now) (s .args .text .now) (s .args .target) (t .result) (z .0 .0) (z .0 .1 .0) a (z .1)
+    let numbers = short-given (s .args .rec .now) (s .args .text .now) (s .args .target) (t .result) (z .0 .0) (z .0 .1 .0) a (z .1) in
+    search (needs, numbers)
+
+bits-requires-2 : tie.Need-bits-requires-2
+bits-requires-2 c κs =
+    let s = c .before .before .before .before .before .before .before in
+    let t = c .before .before .before .before .degree in
+    let a = asked (s .args .rec .now) (s .args .text .now) (s .args .target) _ (t .result) (toZ-ofZ w64 (s .args .target) (s .fits .target)) (t .ensures) in
+    let z = c .before .before .near .given in
+    let numbers = short-given (s .args .rec .now) (s .args .text .now) (s .args .target) (t .result) (z .0 .0) (z .0 .1 .0) a (z .1) in
+    search (needs, numbers)
 
 enum-told-2 : tie.Need-enum-told-2
 enum-told-2 c = search needs
@@ -61,11 +71,12 @@ returns c =
 
 returns-2 : tie.Need-returns-2
 returns-2 c =
-    let s = c .before .before .before .before .before .before .before in
-    let t = c .before .before .before .before .degree in
+    let s = c .before .before .before .before .before .before .before .before in
+    let t = c .before .before .before .before .before .degree in
     let a = asked (s .args .rec .now) (s .args .text .now) (s .args .target) _ (t .result) (toZ-ofZ w64 (s .args .target) (s .fits .target)) (t .ensures) in
-    let z = c .before .before .near .given in
-    degrees-short (nearnessOf (s .args .rec .now) (s .args .text .now) (s .args .target)) (t .result) a (s .args .distance .now) (s .args .degree .now) (z .0 .0) (z .0 .1 .0) (c .bits .result) (z .1) (c .bits .ensures)
+    let z = c .before .before .before .near .given in
+    degrees-short (nearnessOf (s .args .rec .now) (s .args .text .now) (s .args .target)) (t .result) a (s .args .distance .now) (s .args .degree .now) (z .0 .0) (z .0 .1 .0)
+    (c .before .bits .result) (c .bits2 .result) (z .1) (c .before .bits .ensures) (c .bits2 .ensures)
 
 returns-3 : tie.Need-returns-3
 returns-3 c =
@@ -90,6 +101,7 @@ mill-degree-spec =
     enum-told
     enum-known-near
     bits-requires
+    bits-requires-2
     enum-told-2
     enum-known-near-2
     refused-requires
