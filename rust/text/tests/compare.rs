@@ -8,17 +8,15 @@ use mill::reference::splits::readings;
 use mill::reference::text::{accepted, most_open_brackets, Node, MOST_BRACKETS, MOST_NODES};
 use support::cases::{begin, cases, one_alone};
 use support::{compared, painted, r1, texts};
-use text_compare::{read, SHORT_TABLE, TABLE_SIZE};
+use text_compare::read;
 
 /// The number of nodes, or refusal 5, 6 or 7, held to the independent reader.
 #[track_caller]
 fn agree(text: &[u8]) -> Result<usize, u32> {
     compared::count();
-    let mut table = [0xA5A5_A5A5; TABLE_SIZE + 2];
-    let found = read(text, &mut table[1..=TABLE_SIZE]);
+    let found = read(text);
     let expected = accepted(text).map(|node| node.parts().len()).map_err(|refused| refused.number);
     assert_eq!(found, expected, "'{}' in case {:?}", text.escape_ascii(), support::cases::current());
-    assert_eq!((table[0], table[TABLE_SIZE + 1]), (0xA5A5_A5A5, 0xA5A5_A5A5), "numbers beside the table were touched");
     found
 }
 
@@ -156,18 +154,6 @@ fn limits() {
     assert_eq!(agree(&vec![b'('; 100_000]), Err(5));
 }
 
-#[test]
-fn short_tables_are_refused_and_stay() {
-    for size in [0, 1, 4, TABLE_SIZE - 4, TABLE_SIZE - 1] {
-        let mut table = vec![7; size];
-        assert_eq!(read(b"A=v", &mut table), Err(SHORT_TABLE));
-        assert_eq!(table, vec![7; size]);
-    }
-    for size in [TABLE_SIZE, TABLE_SIZE + 1] {
-        assert_eq!(read(b"A=v|B=v", &mut vec![7; size]), Ok(3));
-    }
-}
-
 /// The deepest texts: read whole before they are refused.
 fn deepest() -> Vec<String> {
     vec![
@@ -193,11 +179,9 @@ const SMALL_STACK: usize = 128 * 1024;
 #[test]
 fn deepest_texts_with_a_small_stack() {
     let (texts, again) = (deepest(), deepest());
-    let expected: Vec<_> = texts.iter().map(|text| read(text.as_bytes(), &mut vec![0; TABLE_SIZE])).collect();
+    let expected: Vec<_> = texts.iter().map(|text| read(text.as_bytes())).collect();
     let small = std::thread::Builder::new().stack_size(SMALL_STACK);
-    let in_small = small
-        .spawn(move || again.iter().map(|text| read(text.as_bytes(), &mut vec![0; TABLE_SIZE])).collect::<Vec<_>>())
-        .unwrap();
+    let in_small = small.spawn(move || again.iter().map(|text| read(text.as_bytes())).collect::<Vec<_>>()).unwrap();
     assert_eq!(in_small.join().unwrap(), expected);
     assert!(expected.contains(&Err(7)) && expected.contains(&Err(6)) && expected.contains(&Ok(1)));
 }
@@ -206,9 +190,8 @@ fn deepest_texts_with_a_small_stack() {
 fn peak_stack_of_the_deepest_texts() {
     let mut most = 0;
     for text in deepest() {
-        let mut table = vec![0; TABLE_SIZE];
         let peak = painted::peak(&mut || {
-            let _ = read(text.as_bytes(), &mut table);
+            let _ = read(text.as_bytes());
         });
         let shown = if text.len() > 12 { format!("{}..", &text[..12]) } else { text.clone() };
         println!("text_read of {shown} ({} bytes): {peak} bytes of stack", text.len());
