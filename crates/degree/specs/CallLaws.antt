@@ -40,14 +40,19 @@ use Rattle.degree.specs.Degree.{Value, met, short, noValue, graded, valu
 
 -- ---- a distance
 
+is-met : (x : Value) (b : Bool) → b ≡ true → met ≡ cond b met x
+is-met x b e = sym (ap (λ (c : Bool). cond c met x) e)
+
+is-short : (x : Value) (b : Bool) → b ≡ false → x ≡ cond b met x
+is-short x b e = sym (ap (λ (c : Bool). cond c met x) e)
+
 pub grade-met : (d : ℕ) → d ≡ 0 → result met ≡ result (graded d)
-grade-met d z = sym (ap (λ (b : Bool). result (cond b met (short (distanceOf d) (degreeOf d)))) (eq-eqb d 0 z))
+grade-met d z = ap result (is-met _ (eqb d 0) (eq-eqb d 0 z))
 
 pub grade-short : (d : ℕ) (x k : Float) → (d ≡ 0 → ⊥) → x ≡ distanceOf d → k ≡ degreeOf d → result (short x k) ≡ result (graded d)
 grade-short d x k n p q =
-    ap (λ (y : Float). result (short y k)) p
-    ∙ ap (λ (y : Float). result (short (distanceOf d) y)) q
-    ∙ sym (ap (λ (b : Bool). result (cond b met (short (distanceOf d) (degreeOf d)))) (ne-eqb d 0 n))
+    let same : short x k ≡ short (distanceOf d) (degreeOf d) = ap (λ (y : Float). short y k) p ∙ ap (short (distanceOf d)) q in
+    ap result (same ∙ is-short _ (eqb d 0) (ne-eqb d 0 n))
 
 -- ---- a set
 

@@ -7,13 +7,17 @@ use mathlib.Core.Bool.{Bool, true, false, cond, So}
 use mathlib.Core.Logic.{_↔_}
 use lib.Dec.{eqb, ltb}
 use lib.IntN.{ℤ, pos, negsuc}
+use lib.Ieee.{Float}
+use lib.Ieee.Exact.{HasValue}
 use borrow.Author.Tests.{ltb-true, ltb-false, eqb-true, eqb-false}
 use Rattle.number.specs.Axis.{axis, origin, whole}
 use Rattle.refusal.specs.Outcome.{result, NoneMeets}
+use Rattle.recording.specs.Reading.{Reading}
 use Rattle.recording.specs.Recording.{Accepted, readings, recordingLines, noRecord}
 use Rattle.recording.specs.OutcomeLaws.{result-none, none-append}
 use Rattle.runset.specs.Distance.{distance}
 use Rattle.runset.specs.DistanceLaws.{distance-least, distance-reached}
+use Rattle.text.specs.Syntax.{Text}
 use Rattle.text.specs.Told.{textLines}
 use Rattle.meaning.specs.Coded.{index}
 use Rattle.meaning.specs.RecordedLaws.{accepted-recorded}
@@ -22,6 +26,7 @@ use Rattle.question.specs.Question.{read, answer, askingLines, setLines}
 use Rattle.question.specs.MeantLaws.{read-reads, reads-read}
 use Rattle.question.specs.SizeLaws.{left-off}
 use Rattle.ratio.specs.Degree.{distanceOf, degreeOf}
+use Rattle.ratio.specs.DegreeLaws.{distance-exact}
 use Rattle.targets.specs.Target.{offAxis}
 use Rattle.targets.specs.TargetLaws.{sub-above, sub-below}
 use Rattle.degree.specs.Degree.{Value, met, short, noValue, graded, valueOf, targetLine, nearnessOf}
@@ -99,3 +104,8 @@ nearness-says bytes text g x e =
         says = subst (Says (readings bytes) (read text) (index g)) (k .1) (value-says bytes text (a .0) (index g) (t .0));
       },
     )
+
+-- THE DISTANCE OF A MISSED TARGET IS EXACT: the float is the whole number
+pub short-exact : (r : List Reading) (p : Text) (v : ℕ) → v < axis → (x k : Float) → Says r p v (short x k) → (d : ℕ) × Distance r p v d × HasValue x false d 1
+short-exact r p v h x k (d, above, far, same, of) =
+    (d, far, subst (λ (y : Float). HasValue y false d 1) (sym same) (distance-exact d (omega (arith, far .on-axis, far .there))))
