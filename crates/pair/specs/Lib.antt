@@ -1,3 +1,4 @@
 pub mod Pair
 pub mod Search
+pub mod SearchLaws
 pub mod PairLaws
