@@ -15,19 +15,19 @@ use Rattle.pair.proofs.search.Statement.{statement}
 use Rattle.pair.proofs.search.Tie as tie
 
 abbrev Inv-loop : tie.InvT-loop
-Inv-loop times n g i j₀ sought j = (i < j) × (j ≤ n) × ((b : ℕ) → b < j → Spaced times n g i b → ⊥)
+Inv-loop times n g i j₀ sought j = (i < j) × ((b : ℕ) → b < j → Spaced times n g i b → ⊥)
 
 abbrev μ-loop : tie.MeasureT-loop
 μ-loop times n g i j₀ sought j = n - j
 
 abbrev Inv-earlier : tie.InvT-earlier
-Inv-earlier times n g i₀ j₀ i j = (i ≤ n) × ((a : ℕ) → a < i → (b : ℕ) → Spaced times n g a b → ⊥)
+Inv-earlier times n g i₀ j₀ i j = (a : ℕ) → a < i → (b : ℕ) → Spaced times n g a b → ⊥
 
 abbrev μ-earlier : tie.MeasureT-earlier
 μ-earlier times n g i₀ j₀ i j = n - i
 
 earlier-holds : tie.Need-earlier-holds Inv-loop μ-loop Inv-earlier μ-earlier
-earlier-holds c = (omega arith, below-none _)
+earlier-holds c = below-none _
 
 mul-wide : tie.Need-mul-wide Inv-loop μ-loop Inv-earlier μ-earlier
 mul-wide c = search needs
@@ -48,7 +48,7 @@ add-j : tie.Need-add-j Inv-loop μ-loop Inv-earlier μ-earlier
 add-j c = search needs
 
 loop-holds : tie.Need-loop-holds Inv-loop μ-loop Inv-earlier μ-earlier
-loop-holds c = (omega arith, omega arith, λ b h a. omega arith)
+loop-holds c = (omega arith, λ b h a. omega arith)
 
 mul-wide-2 : tie.Need-mul-wide-2 Inv-loop μ-loop Inv-earlier μ-earlier
 mul-wide-2 c = search needs
@@ -76,7 +76,7 @@ loop-again c =
     let later : c .before .wide3 .result ≡ getD times j 0 = c .before .wide3 .ensures .0 in
     let earlier : h .before .before .wide .result ≡ getD times i 0 = h .before .before .wide .ensures .0 in
     let more : h .before .wide2 .result ≡ args .g = h .before .wide2 .ensures .0 in
-    (omega arith, omega arith, below-more _ j (h .loop .inv .2) (λ (a : Spaced times (args .n) (args .g) i j). c .if1 .left (omega arith)))
+    (omega arith, below-more _ j (h .loop .inv .1) (λ (a : Spaced times (args .n) (args .g) i j). c .if1 .left (omega arith)))
 
 add-i : tie.Need-add-i Inv-loop μ-loop Inv-earlier μ-earlier
 add-i c = search needs
@@ -87,7 +87,7 @@ earlier-less c = search needs
 earlier-again : tie.Need-earlier-again Inv-loop μ-loop Inv-earlier μ-earlier
 earlier-again c =
     let h = c .before .before .before .before .before .before in
-    (omega arith, below-more _ (h .earlier .i) (h .earlier .inv .1) (λ b a. c .before .loop .inv .2 b (omega arith) a))
+    below-more _ (h .earlier .i) (h .earlier .inv) (λ b a. c .before .loop .inv .1 b (omega arith) a)
 
 -- none of the places before i, nor of those before j behind i, is one of two that are g apart
 foremost : (times : List ℕ) (n g i j : ℕ) → ((a : ℕ) → a < i → (b : ℕ) → Spaced times n g a b → ⊥) → ((b : ℕ) → b < j → Spaced times n g i b → ⊥)
@@ -119,7 +119,7 @@ found c =
     let at : c .before .earlier-test .j ≡ j = w .9 in
     subst (λ (k : ℕ). Spaced times (args .n) (args .g) i k × ((a b : ℕ) → Spaced times (args .n) (args .g) a b → (i < a) ⊎ ((i ≡ a) × (k ≤ b)))) (sym at) (
       record { order = w .4 .inv .0; inside = w .5 .taken; sum = omega arith },
-      foremost times (args .n) (args .g) i j (h .earlier .inv .1) (w .4 .inv .2),
+      foremost times (args .n) (args .g) i j (h .earlier .inv) (w .4 .inv .1),
     ))
     (c .before .earlier-test .came)
 
@@ -145,7 +145,7 @@ returns-2 : tie.Need-returns-2 Inv-loop μ-loop Inv-earlier μ-earlier
 returns-2 c =
     let h = c .before .before in
     let args = h .before .before .args in
-    ap result (sym (found-none (args .times .now) (args .n) (h .before .before .pre) (args .g) (λ a b p. let o = p .order in let l = p .inside in h .earlier .inv .1 a (omega arith) b p)))
+    ap result (sym (found-none (args .times .now) (args .n) (h .before .before .pre) (args .g) (λ a b p. let o = p .order in let l = p .inside in h .earlier .inv a (omega arith) b p)))
 
 pub search-spec : {M : Type 1} → statement M
 search-spec =
