@@ -93,10 +93,12 @@ fn degrees() {
 fn pairs() {
     let recording = bytes(&with_tops(&evenly(256, RECORDS), &[]));
     for (name, target) in [("one there is", 15 * 100), ("none there is", 17)] {
-        let library = || mill::pair(&recording, Curve::A, target).map(|pair| pair.is_some());
-        let plain = || plain::pair(&recording, 0, target).map(|pair| pair.is_some());
+        let library = || mill::pair(&recording, Curve::A, target).map(|pair| pair.map(|pair| (pair.earlier, pair.later)));
+        let plain = || plain::pair(&recording, 0, target);
         assert_eq!(library().map_err(|refusal| (refusal.number(), refusal.place())), plain(), "{name}");
-        row(&format!("pair, 256 tops, {name}"), &format!("{:?}", library()), best(&library, &plain), None);
+        let outcome =
+            library().map_or_else(|refusal| refusal.to_string(), |pair| pair.map_or("none".into(), |pair| format!("{pair:?}")));
+        row(&format!("pair, 256 tops, {name}"), &outcome, best(&library, &plain), None);
     }
 }
 
