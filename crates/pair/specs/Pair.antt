@@ -1,4 +1,4 @@
--- Document 01, "Degree and pair": the pair call.
+-- Document 01, "Degree and pair": the pair call. Which pair it gives: document 02, Paper 2.
 use Prim.Native.Nat.{ℕ, _≤_, _<_}
 use mathlib.Core.Path.{_≡_}
 use mathlib.Core.Bool.{Bool, true, false, cond, _||_}

@@ -53,7 +53,7 @@ fn search(times: &[u32], n: usize, g: u32) -> TopPair
     }
 }
 
-// Two tops of a curve whose times are the number at `index` apart.
+// The first two tops of a curve whose times are the number at `index` apart.
 fn tops_apart(rec: &[u8], n: usize, curve: usize, index: u32) -> TopPair
     requires { ⌜ Accepted (now rec) × (n ≡ length (now rec) / 16) × (curve < 2) ⌝ }
     ensures { λ r. ⌜ outcomeOf r ≡ judged (tooManyTops (now (rec .entry)) curve ∷ []) (firstPair (readings (now (rec .entry))) (curveOf curve) (whole index)) ⌝ }
