@@ -198,8 +198,9 @@ uint64_t mill_degree(const uint8_t *recording, size_t recording_len, const uint8
 /*
 ** The times of two tops of a curve, later - earlier = target.
 **
-** Where several pairs fit, any of them may be given. No pair fits a target of
-** 0 or less. Two tops that lie 40 apart:
+** Where several pairs fit it is the first: the one of least earlier time, and of
+** these the one of least later time. No pair fits a target of 0 or less. The
+** first two tops that lie 40 apart:
 **
 **     uint32_t earlier, later;
 **     uint64_t r = mill_pair(recording, recording_len, MILL_CURVE_A, 40, &earlier, &later);
@@ -230,8 +231,8 @@ uint64_t mill_pair(const uint8_t *recording, size_t recording_len, uint32_t curv
 ** Kept readings answer as the recording does: every question that writes none
 ** of F, G, X, U and W and whose after-times (the k of lowafter and capafter)
 ** are among the marks gets the same bytes or the same refusal, in mill_degree
-** too; mill_pair finds a pair in one where it does in the other. Other
-** questions may be asked of kept readings and are answered of those alone.
+** too; mill_pair gives the same two times. Other questions may be asked of kept
+** readings and are answered of those alone.
 **
 ** A recording may be thinned piece by piece, cut between readings: hand in the
 ** readings held with the next piece behind them, under the same marks. What is

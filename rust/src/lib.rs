@@ -208,7 +208,7 @@ mod calls {
         }
     }
 
-    /// Two tops of the curve whose times lie `target` apart, if there are any.
+    /// The first two tops of the curve whose times lie `target` apart, if there are any: least earlier time, then least later time.
     pub fn pair(recording: &[u8], curve: Curve, target: i64) -> Result<Option<Pair>, Refusal> {
         let curve = match curve {
             Curve::A => sys::MILL_CURVE_A,

@@ -47,7 +47,7 @@ pub fn degree(recording: &[u8], text: &[u8], target: i64) -> Result<Option<(f64,
     Ok(set.iter().map(away).min().map(|d| (d as f64, 1.0 / (1.0 + d as f64))))
 }
 
-/// The times of two tops that lie the target apart.
+/// The times of the first two tops that lie the target apart: the later one is sought for each earlier one in turn.
 pub fn pair(recording: &[u8], curve: u32, target: i64) -> Result<Option<(u32, u32)>, Refused> {
     let records = some_records(recording)?;
     if curve > 1 || !(i64::from(LOW)..=i64::from(HIGH)).contains(&target) {

@@ -126,6 +126,27 @@ static void pairs(void)
     EXPECT(earlier == 30 && later == 70);
 }
 
+/* Tops of A at 10, 20, 40 and 50: (10, 40) and (20, 50) lie 30 apart. The second record is the one that is not kept. */
+static void first_of_several_pairs(void)
+{
+    static const uint32_t tops[] = {10, 20, 40, 50};
+    uint8_t recording[10 * MILL_RECORD_BYTES], kept[9 * MILL_RECORD_BYTES];
+    uint32_t earlier = 77, later = 78;
+    size_t i;
+    for (i = 0; i < 2; i++)
+        put_record(recording + MILL_RECORD_BYTES * i, (uint32_t)i, 0, 0, MILL_FLAT, MILL_FLAT);
+    for (i = 0; i < 4; i++) {
+        put_record(recording + MILL_RECORD_BYTES * (2 * i + 2), tops[i] - 1, 0, 0, MILL_RISING, MILL_FLAT);
+        put_record(recording + MILL_RECORD_BYTES * (2 * i + 3), tops[i], 0, 0, MILL_FALLING, MILL_FLAT);
+    }
+    EXPECT(mill_pair(recording, sizeof recording, MILL_CURVE_A, 30, &earlier, &later) == MILL_PAIR);
+    EXPECT(earlier == 10 && later == 40);
+    EXPECT(mill_thin(recording, sizeof recording, NULL, 0, kept, sizeof kept) == sizeof kept);
+    earlier = later = 77;
+    EXPECT(mill_pair(kept, sizeof kept, MILL_CURVE_A, 30, &earlier, &later) == MILL_PAIR);
+    EXPECT(earlier == 10 && later == 40);
+}
+
 static uint8_t large[(MILL_MAX_RECORDS + 1) * MILL_RECORD_BYTES];
 
 /* MILL_MAX_RECORDS records with so many tops of A. */
@@ -277,6 +298,7 @@ int main(void)
     degrees();
     refused_questions();
     pairs();
+    first_of_several_pairs();
     refusals();
     nothing_at_all();
     thinning();

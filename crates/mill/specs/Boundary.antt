@@ -5,11 +5,9 @@ use mathlib.Core.List.{List}
 use lib.IntN.{ℤ}
 use lib.ListN.{length}
 use lib.Ieee.{binary64, toBits}
-use Rattle.refusal.specs.Outcome.{Outcome, result, refused, judged, NoneMeets}
-use Rattle.recording.specs.Recording.{readings}
+use Rattle.refusal.specs.Outcome.{Outcome, result, refused}
 use Rattle.recording.specs.Output.{counted, outputAfter}
-use Rattle.tops.specs.Tops.{curveOf}
-use Rattle.pair.specs.Pair.{Given, times, none, Right, pairLines}
+use Rattle.pair.specs.Pair.{Given, times, none, pairOf}
 use Rattle.degree.specs.Degree.{Value, met, short, noValue, nearnessOf}
 use Rattle.question.specs.Question.{questionOf}
 use Rattle.thin.specs.Thin.{thinOf}
@@ -71,12 +69,10 @@ laterAfter (result none) old = old
 laterAfter (refused n p) old = old
 
 -- THE COMPLETE OUTCOME of the pair call: what it returns, and the two places, `earlier` and `later` before, `first` and `second` after
-pub record Pairs (bytes : List ℕ) (curve : ℕ) (g : ℤ) (earlier later r first second : ℕ) : Type 0 where
-  pub given : Given
-  pub right : NoneMeets (pairLines bytes curve g) → Right (readings bytes) (curveOf curve) g given
-  pub returned : r ≡ packed (told (judged (pairLines bytes curve g) given))
-  pub first-place : first ≡ earlierAfter (judged (pairLines bytes curve g) given) earlier
-  pub second-place : second ≡ laterAfter (judged (pairLines bytes curve g) given) later
+pub record Pairs (outcome : Outcome Given) (earlier later r first second : ℕ) : Type 0 where
+  pub returned : r ≡ packed (told outcome)
+  pub first-place : first ≡ earlierAfter outcome earlier
+  pub second-place : second ≡ laterAfter outcome later
 
 -- ---- THE CONTRACT OF EACH CALL: what it is handed, what it returns (r), and the caller's memory after it
 
@@ -87,7 +83,7 @@ abbrev pub DegreeCall : (recording text : List ℕ) (target : ℤ) (distance deg
 DegreeCall recording text target distance degree r first second = Degrees (nearnessOf recording text target) distance degree r first second
 
 abbrev pub PairCall : (recording : List ℕ) (curve : ℕ) (target : ℤ) (earlier later r first second : ℕ) → Type 0
-PairCall recording curve target earlier later r first second = Pairs recording curve target earlier later r first second
+PairCall recording curve target earlier later r first second = Pairs (pairOf recording curve target) earlier later r first second
 
 abbrev pub ThinCall : (recording marks out : List ℕ) (r : ℕ) (after : List ℕ) → Type 0
 ThinCall recording marks out r after = Writes (thinOf recording marks (length out)) out r after

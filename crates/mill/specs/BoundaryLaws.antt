@@ -13,7 +13,7 @@ use Rattle.refusal.specs.Outcome.{Outcome, result, refused, Line, judged}
 use Rattle.refusal.specs.Numbers.{numberOf, placeOf}
 use Rattle.refusal.specs.declared.Refusal.{Refusal}
 use Rattle.recording.specs.Condition.{Condition, pick, pickFrom, when, on}
-use Rattle.recording.specs.Recording.{Raw, records, reading, recordingLines, noRecord, mostRecords}
+use Rattle.recording.specs.Recording.{Raw, records, reading, readings, recordingLines, noRecord, mostRecords}
 use Rattle.recording.specs.Output.{Answers, reported, counted, outputLine}
 use Rattle.recording.specs.declared.Written.{Written}
 use Rattle.recording.specs.RecordLaws.{length-flat, length-records}
@@ -21,6 +21,7 @@ use Rattle.recording.specs.OutcomeLaws.{result-none, none-append}
 use Rattle.kept.specs.Kept.{keptFor}
 use Rattle.thin.specs.Thin.{keptBytes, marksOf, marksLine, thinOf}
 use Rattle.thin.specs.BookLaws.{kept-sixteens}
+use Rattle.tops.specs.Tops.{curveOf}
 use Rattle.runset.specs.Runs.{setBytes}
 use Rattle.text.specs.Told.{textLines}
 use Rattle.meaning.specs.Coded.{index}
@@ -30,7 +31,7 @@ use Rattle.degree.specs.Degree.{Value, valueOf, targetLine, nearnessOf, outcome
 use Rattle.degree.specs.CallLaws.{Numbers, short-numbers}
 use Rattle.degree.specs.declared.Nearness.{Nearness}
 use Rattle.degree.specs.declared.Nearness.the-variants as nearness
-use Rattle.pair.specs.Pair.{Given, pairLines, acceptedLines}
+use Rattle.pair.specs.Pair.{firstPair, acceptedLines, pairOf}
 use Rattle.reply.specs.Reply.{half, packed, InHalf}
 use Rattle.reply.specs.PlaceLaws.{place-below}
 use Rattle.mill.specs.Boundary.{Writes, valueTold, distanceAfter, degreeAfter, Degrees}
@@ -131,5 +132,7 @@ degree-place bytes text g n p e =
     place-below bytes (noRecord bytes ∷ textLines text ++ (targetLine g ∷ setLines bytes (read text))) (valueOf (answer bytes text) (index g)) n p
     (refl, (refl, (refl, (refl, (refl, (refl, (refl, tt))))))) e
 
-pub pair-place : (bytes : List ℕ) (curve : ℕ) (g : ℤ) (given : Given) (n p : ℕ) → judged (pairLines bytes curve g) given ≡ refused n p → p < half
-pair-place bytes curve g given n p e = place-below bytes (acceptedLines bytes curve g) given n p (refl, (refl, (refl, tt))) e
+pub pair-place : (bytes : List ℕ) (curve : ℕ) (g : ℤ) (n p : ℕ) → pairOf bytes curve g ≡ refused n p → p < half
+unfolding pairOf
+pair-place bytes curve g n p e =
+    place-below bytes (acceptedLines bytes curve g) (firstPair (readings bytes) (curveOf curve) g) n p (refl, (refl, (refl, tt))) e

@@ -56,7 +56,7 @@ pub extern "C" fn mill_thin(rec: &[u8], marks: &[u8], out: &mut [u8]) -> u64
     reply::written(written)
 }
 
-// THE PAIR CALL. Returns 1 where the times of a pair are written, 0 where there is none, or the refusal.
+// THE PAIR CALL. Returns 1 where the times of the first pair that fits are written, 0 where none fits, or the refusal.
 #[no_mangle]
 pub extern "C" fn mill_pair(
     rec: &[u8],

@@ -2,12 +2,13 @@
 ghost use mathlib.Core.Path.{_≡_};
 ghost use mathlib.Core.List.{[], _∷_};
 ghost use Prim.Native.Nat.{_/_, _≤_, _<_};
-ghost use lib.ListN.{length};
+ghost use lib.IntN.{pos};
+ghost use lib.ListN.{length, take};
 ghost use Rattle.number.specs.Axis.{whole};
 ghost use Rattle.recording.specs.Recording.{readings, Accepted};
 ghost use Rattle.tops.specs.Tops.{curveOf};
-ghost use Rattle.pair.specs.Pair.{tooManyTops, acceptedLines, Answering, Answers};
-ghost use Rattle.pair.specs.Search.{Sought};
+ghost use Rattle.refusal.specs.Outcome.{result, judged};
+ghost use Rattle.pair.specs.Pair.{pairsOf, firstApart, firstPair, tooManyTops, acceptedLines, outcomeOf, pairOf};
 
 // The answer of the pair call.
 pub enum TopPair {
@@ -25,10 +26,10 @@ fn wide(x: u32) -> u64
     x as u64
 }
 
-// Two of the first n times that differ by g: the later one is sought for each earlier one in turn.
+// The first two of the first n times that differ by g: the later one is sought for each earlier one in turn.
 fn search(times: &[u32], n: usize, g: u32) -> TopPair
     requires { ⌜ n ≤ length (now times) ⌝ }
-    ensures { λ r. ⌜ Sought (now (times .entry)) n g r ⌝ }
+    ensures { λ r. ⌜ outcomeOf r ≡ result (firstApart (pos g) (pairsOf (take n (now (times .entry))))) ⌝ }
 {
     let mut i: usize = 0;
     let mut j: usize = 0;
@@ -52,10 +53,10 @@ fn search(times: &[u32], n: usize, g: u32) -> TopPair
     }
 }
 
-// Two tops of a curve whose times are the number at `index` apart.
+// The first two tops of a curve whose times are the number at `index` apart.
 fn tops_apart(rec: &[u8], n: usize, curve: usize, index: u32) -> TopPair
     requires { ⌜ Accepted (now rec) × (n ≡ length (now rec) / 16) × (curve < 2) ⌝ }
-    ensures { λ r. ⌜ Answering (tooManyTops (now (rec .entry)) curve ∷ []) (readings (now (rec .entry))) (curveOf curve) (whole index) r ⌝ }
+    ensures { λ r. ⌜ outcomeOf r ≡ judged (tooManyTops (now (rec .entry)) curve ∷ []) (firstPair (readings (now (rec .entry))) (curveOf curve) (whole index)) ⌝ }
 {
     let mut times = [0u32; tops::MOST_TOPS];
     let count = tops::top_times(rec, n, curve, &mut times);
@@ -71,7 +72,7 @@ fn tops_apart(rec: &[u8], n: usize, curve: usize, index: u32) -> TopPair
 // The pair call on an accepted recording of n records.
 fn in_accepted(rec: &[u8], n: usize, curve: u32, target: i64) -> TopPair
     requires { ⌜ Accepted (now rec) × (n ≡ length (now rec) / 16) ⌝ }
-    ensures { λ r. ⌜ Answering (acceptedLines (now (rec .entry)) curve target) (readings (now (rec .entry))) (curveOf curve) target r ⌝ }
+    ensures { λ r. ⌜ outcomeOf r ≡ judged (acceptedLines (now (rec .entry)) curve target) (firstPair (readings (now (rec .entry))) (curveOf curve) target) ⌝ }
 {
     if n == 0 {
         return TopPair::Refused(refusal::Refusal::NoRecord);
@@ -86,10 +87,9 @@ fn in_accepted(rec: &[u8], n: usize, curve: u32, target: i64) -> TopPair
     }
 }
 
-// THE PAIR CALL: the times of two tops of the curve, 0 for A and 1 for B, whose later time minus the earlier is the target.
-// Which two, where several fit, is left open.
+// THE PAIR CALL: the times of the first two tops of the curve, 0 for A and 1 for B, whose later time minus the earlier is the target.
 pub fn pair(rec: &[u8], curve: u32, target: i64) -> TopPair
-    ensures { λ r. ⌜ Answers (now (rec .entry)) curve target r ⌝ }
+    ensures { λ r. ⌜ outcomeOf r ≡ pairOf (now (rec .entry)) curve target ⌝ }
 {
     let checked = recording::check(rec);
     match checked {

@@ -35,7 +35,8 @@ use Rattle.question.specs.AnswerLaws.{answered-accepted}
 use Rattle.question.specs.MeantLaws.{read-reads, reads-read}
 use Rattle.degree.specs.Degree.{Value, met, short, noValue, valueOf, targetLine, nearnessOf}
 use Rattle.meaning.specs.Coded.{index}
-use Rattle.pair.specs.Pair.{Given, times, none, pairLines}
+use Rattle.pair.specs.Pair.{Given, times, none, firstPair, pairLines, pairOf}
+use Rattle.tops.specs.Tops.{curveOf}
 use Rattle.thin.specs.Thin.{keptBytes, marksOf, marksLine, AcceptedMarks, thinOf}
 use Rattle.thin.specs.Book.{Call, Left, leaves, thinned, heldNext, calls, heldAfter, entry, joinNext, book, joinAfter}
 use Rattle.thin.specs.BookLaws.{kept-join, taken, whole-next, as-the-book}
@@ -142,22 +143,27 @@ degree-answered bytes text target distance degree′ r first second d =
     go (refused n i) e t p f s =
         record { judged = judged-number q (order q) (refused n i) r p (degree-place bytes text target n i e) t; unwritten = λ k. ap₂ (λ (x y : ℕ). x ∷ y ∷ []) f s }
 
+pair-told : (bytes : List ℕ) (curve : ℕ) (target : ℤ) → Told (pair bytes curve target) (order (pair bytes curve target)) (pairOf bytes curve target)
+unfolding pairOf
+pair-told bytes curve target =
+    judged-told (pair bytes curve target) (pairLines bytes curve target) (order (pair bytes curve target)) (firstPair (readings bytes) (curveOf curve) target)
+    (agree-pair bytes curve target)
+
 -- and of the pair call
 pair-answered : (bytes : List ℕ) (curve : ℕ) (target : ℤ) (earlier later r first second : ℕ) → PairCall bytes curve target earlier later r first second
     → Answered (pair bytes curve target) r (earlier ∷ later ∷ []) (first ∷ second ∷ [])
 pair-answered bytes curve target earlier later r first second c =
-    go (judged (pairLines bytes curve target) (c .given)) refl
-    (judged-told q (pairLines bytes curve target) (order q) (c .given) (agree-pair bytes curve target)) (c .returned) (c .first-place) (c .second-place)
+    go (pairOf bytes curve target) refl (pair-told bytes curve target) (c .returned) (c .first-place) (c .second-place)
   where
     q : Request
     q = pair bytes curve target
 
-    go : (o : Outcome Given) → judged (pairLines bytes curve target) (c .given) ≡ o → Told q (order q) o → r ≡ packed (told o) → first ≡ earlierAfter o earlier
+    go : (o : Outcome Given) → pairOf bytes curve target ≡ o → Told q (order q) o → r ≡ packed (told o) → first ≡ earlierAfter o earlier
         → second ≡ laterAfter o later → Answered q r (earlier ∷ later ∷ []) (first ∷ second ∷ [])
     go (result (times t u)) e h p f s = record { judged = judged-number q (order q) (result 1) r p (omega arith) h; unwritten = λ k. absurd (k (ap numberIn p)) }
     go (result none) e h p f s = record { judged = judged-number q (order q) (result 0) r p (omega arith) h; unwritten = λ k. absurd (k (ap numberIn p)) }
     go (refused n i) e h p f s =
-        record { judged = judged-number q (order q) (refused n i) r p (pair-place bytes curve target (c .given) n i e) h; unwritten = λ k. ap₂ (λ (x y : ℕ). x ∷ y ∷ []) f s }
+        record { judged = judged-number q (order q) (refused n i) r p (pair-place bytes curve target n i e) h; unwritten = λ k. ap₂ (λ (x y : ℕ). x ∷ y ∷ []) f s }
 
 demand-1 : Demand1
 demand-1 = record {

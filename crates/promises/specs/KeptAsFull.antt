@@ -1,18 +1,15 @@
 -- Demand 3, its last sentence: what a question gets from the kept readings is what it gets from the full recording.
 use Prim.Native.Nat.{ℕ}
 use mathlib.Core.Path.{_≡_}
-use mathlib.Core.Bool.{Bool, true, false}
-use mathlib.Core.Logic.{_↔_}
 use mathlib.Core.List.{List}
 use lib.IntN.{ℤ}
-use Rattle.refusal.specs.Outcome.{Outcome, result, refused, NoneMeets}
+use Rattle.refusal.specs.Outcome.{NoneMeets}
 use Rattle.text.specs.Told.{textLines}
 use Rattle.meaning.specs.Alike.{Plain}
 use Rattle.question.specs.Question.{read, questionOf}
 use Rattle.degree.specs.Degree.{nearnessOf}
 use Rattle.thin.specs.Thin.{marksOf}
-use Rattle.pair.specs.declared.TopPair.{TopPair}
-use Rattle.pair.specs.Pair.{Given, times, none, Answers}
+use Rattle.pair.specs.Pair.{pairOf}
 
 -- A text that may be asked of kept readings: where none of 5, 6 and 7 refuses it, it writes none of F, G, X, U and W, and its after-times
 -- are among the marks. The marks are given by their bytes, as a thinning call takes them.
@@ -25,11 +22,5 @@ pub record SameAnswers (marks held full : List ℕ) : Type 0 where
   pub question : (text : List ℕ) → Askable marks text → (room : ℕ) → questionOf held text room ≡ questionOf full text room
   -- met, the same distance and degree, no value, or the same refusal
   pub degree : (text : List ℕ) → Askable marks text → (target : ℤ) → nearnessOf held text target ≡ nearnessOf full text target
-  -- which pair is given is left open, so: what is a right answer from the one is a right answer from the other
-  pub pair : (curve : ℕ) (g : ℤ) (p : TopPair) → Answers held curve g p ↔ Answers full curve g p
-
--- whether a pair was found, or the refusal
-abbrev pub found : Outcome Given → Outcome Bool
-found (result (times t u)) = result true
-found (result none) = result false
-found (refused n p) = refused n p
+  -- the same two times, none, or the same refusal
+  pub pair : (curve : ℕ) (target : ℤ) → pairOf held curve target ≡ pairOf full curve target

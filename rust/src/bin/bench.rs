@@ -91,12 +91,17 @@ fn degrees() {
 }
 
 fn pairs() {
-    let recording = bytes(&with_tops(&evenly(256, RECORDS), &[]));
-    for (name, target) in [("one there is", 15 * 100), ("none there is", 17)] {
-        let library = || mill::pair(&recording, Curve::A, target).map(|pair| pair.is_some());
-        let plain = || plain::pair(&recording, 0, target).map(|pair| pair.is_some());
+    // 15 apart, the last two 16.
+    let mut tops = evenly(256, RECORDS);
+    tops[255] += 1;
+    let recording = bytes(&with_tops(&tops, &[]));
+    for (name, target) in [("found from the first", 15 * 100), ("found at the last two", 16), ("none", 17)] {
+        let library = || mill::pair(&recording, Curve::A, target).map(|pair| pair.map(|pair| (pair.earlier, pair.later)));
+        let plain = || plain::pair(&recording, 0, target);
         assert_eq!(library().map_err(|refusal| (refusal.number(), refusal.place())), plain(), "{name}");
-        row(&format!("pair, 256 tops, {name}"), &format!("{:?}", library()), best(&library, &plain), None);
+        let outcome =
+            library().map_or_else(|refusal| refusal.to_string(), |pair| pair.map_or("none".into(), |pair| format!("{pair:?}")));
+        row(&format!("pair, 256 tops, {name}"), &outcome, best(&library, &plain), Some(1.2));
     }
 }
 

@@ -236,11 +236,11 @@ pub fn degree(recording: &[u8], text: &[u8], target: i64) -> u32 {
     number_of(&expected)
 }
 
-/// Asks for a pair and holds it to its property; the outcome's number.
+/// Asks for a pair and compares the two times; the outcome's number.
 #[track_caller]
 pub fn pair(recording: &[u8], curve: u32, target: i64) -> u32 {
     count();
-    let expected = reference::pairs(recording, curve, target);
+    let expected = reference::pair(recording, curve, target);
     let (returned, earlier, later, filler) = DESK.with_borrow_mut(|desk| {
         let [first, _, output] = desk.turn();
         let recording_at = desk.recording.put(recording, first);
@@ -254,12 +254,12 @@ pub fn pair(recording: &[u8], curve: u32, target: i64) -> u32 {
     let time = |bytes: &[u8]| u32::from_le_bytes(bytes.try_into().unwrap());
     let fits = match &expected {
         Err(refused) => returned == refused.returned() && untouched,
-        Ok(fitting) if fitting.is_empty() => returned == 0 && untouched,
-        Ok(fitting) => returned == 1 && fitting.contains(&(time(&earlier), time(&later))),
+        Ok(None) => returned == 0 && untouched,
+        Ok(Some(times)) => returned == 1 && *times == (time(&earlier), time(&later)),
     };
     if !fits {
         panic!(
-            "{}\nexpected one of {expected:?}\nfound    {} {} {}\nin mill_pair of curve {curve}, target {target}\n{}",
+            "{}\nexpected {expected:?}\nfound    {} {} {}\nin mill_pair of curve {curve}, target {target}\n{}",
             place(),
             outcome(returned),
             hex(&earlier),

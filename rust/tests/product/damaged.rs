@@ -4,7 +4,7 @@
 use crate::calls::{degree, pair, question, thin, Tally};
 use crate::support::cases::{begin, cases};
 use crate::support::r1::r1_bytes;
-use crate::support::recordings::{self, damaged};
+use crate::support::recordings::{self, damaged, with_tops_at};
 use mill::reference::recording::{bytes, Record};
 
 /// All calls; the number of the pair call's outcome.
@@ -26,6 +26,18 @@ fn every_bit_flipped() {
         tally.add(all_calls(&recording));
     }
     tally.saw(&[0, 3], 100);
+}
+
+#[test]
+fn every_bit_flipped_where_several_pairs_fit() {
+    let several = with_tops_at([&[10, 20, 40, 50, 80], &[]]);
+    for bit in 0..8 * several.len() {
+        begin("every bit flipped where several pairs fit", bit as u64);
+        let mut recording = several.clone();
+        recording[bit / 8] ^= 1 << (bit % 8);
+        pair(&recording, 0, 30);
+        pair(&recording, 0, 40);
+    }
 }
 
 #[test]

@@ -1,4 +1,4 @@
-//! Covers: every recording of up to three records over a small field set with all slopes.
+//! Covers: every recording of up to three records over a small field set with all slopes; every pair of tops of nine records.
 
 use crate::calls::{degree, pair, question, thin};
 use crate::support::cases::begin;
@@ -67,6 +67,24 @@ fn every_recording_of_three_records() {
         for two in &records {
             for three in &records {
                 all_calls(&at_times(&[*one, *two, *three], &[0, 1, 3]));
+            }
+        }
+    }
+}
+
+#[test]
+fn every_pair_of_tops_of_nine_records() {
+    for code in 0..1 << 9 {
+        begin("every pair of tops of nine records", code);
+        let falls = |index: u32| (code >> index & 1) as u8;
+        // A falls where the code says, B where it does not.
+        let slope = |index: u32| [2 - 2 * falls(index), falls(index)];
+        let records: Vec<Record> = (0..9).map(|index| Record { time: 0, value: [0, 0], slope: slope(index) }).collect();
+        for times in [[0, 1, 2, 3, 4, 5, 6, 7, 8], [1, 2, 4, 5, 6, 8, 9, 10, 12]] {
+            let recording = at_times(&records, &times);
+            for target in -1..=12 {
+                pair(&recording, 0, target);
+                pair(&recording, 1, target);
             }
         }
     }

@@ -52,7 +52,7 @@ fn degree_of(recording: &[u8], text: &[u8], target: i64) -> Result<(u8, u64, u64
     })
 }
 
-/// Four texts asked of the readings held as of the full recording, a degree, and whether there is a pair.
+/// Four texts asked of the readings held as of the full recording, a degree, and the pair at a target and at a gap that there is.
 fn same_answers(random: &mut Random, records: &[Record], marks: &[i64], held: &[u8], full: &[u8]) {
     for _ in 0..4 {
         let size = random.pick(&[1, 1, 2, 3, 5]);
@@ -71,8 +71,9 @@ fn same_answers(random: &mut Random, records: &[Record], marks: &[i64], held: &[
         degree(full, &text, target);
         assert_eq!(degree_of(full, &text, target), degree_of(held, &text, target), "{}", case());
         for curve in [Curve::A, Curve::B] {
-            let has_pair = |recording: &[u8]| mill::pair(recording, curve, target).map(|pair| pair.is_some());
-            assert_eq!(has_pair(full), has_pair(held), "{}", case());
+            for target in [target, recordings::gap(random, records, curve as usize)] {
+                assert_eq!(mill::pair(full, curve, target), mill::pair(held, curve, target), "{target}: {}", case());
+            }
         }
     }
 }

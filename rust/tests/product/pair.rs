@@ -1,12 +1,13 @@
-//! Covers: the pair call by its property: a pair that fits, or none exactly when there is none; all curve numbers and targets; that
-//! kept readings have a pair where the full ones have.
+//! Covers: the pair call: the first pair that fits, among many that do, or none; all curve numbers and targets; that kept readings
+//! give the same two times.
 
 use crate::calls::{pair, Tally};
 use crate::support::cases::{begin, cases, one_alone};
 use crate::support::r1::r1_bytes;
-use crate::support::recordings::{self, with_many_tops, with_tops_at};
+use crate::support::recordings::{self, gap, with_many_tops, with_tops_at, with_tops_on_a_grid};
 use crate::support::texts::target;
-use mill::reference::recording::{bytes, top_times, MOST_TIME};
+use mill::reference::fitting_pairs;
+use mill::reference::recording::{bytes, top_times, Record, MOST_TIME};
 use mill::reference::set::{HIGH, LOW};
 use mill::{Curve, Pair};
 
@@ -45,14 +46,60 @@ fn every_gap_of_small_recordings() {
     });
 }
 
-/// The one fitting pair is found wherever it stands.
+/// This pair is given for its gap, wherever it stands.
 #[track_caller]
-fn the_only_pair(recording: &[u8], curve: Curve, earlier: i64, later: i64) {
+fn gives(recording: &[u8], curve: Curve, earlier: i64, later: i64) {
     let (number, gap) = (curve as u32, later - earlier);
     assert_eq!(pair(recording, number, gap), 0);
-    let only = Pair { earlier: earlier as u32, later: later as u32 };
-    assert_eq!(mill::pair(recording, curve, gap), Ok(Some(only)));
+    let given = Pair { earlier: earlier as u32, later: later as u32 };
+    assert_eq!(mill::pair(recording, curve, gap), Ok(Some(given)));
     assert_eq!(mill::pair(recording, curve, -gap), Ok(None));
+}
+
+/// Whether several pairs of tops fit.
+fn several_fit(records: &[Record], curve: usize, target: i64) -> bool {
+    fitting_pairs(&top_times(records, curve), target).len() > 1
+}
+
+#[test]
+fn the_first_of_several_pairs() {
+    begin("the first of several pairs", 0);
+    // 30 apart are (10, 40) and (20, 50) of A, (20, 50) and (40, 70) of B; 10 apart (10, 20) and (40, 50) of A, (40, 50) of B.
+    let both = with_tops_at([&[10, 20, 40, 50], &[20, 40, 50, 70]]);
+    for (curve, earlier, later) in [(Curve::A, 10, 40), (Curve::B, 20, 50), (Curve::A, 10, 20), (Curve::B, 40, 50)] {
+        gives(&both, curve, earlier, later);
+    }
+    // Evenly spaced: always from the first top.
+    let times: Vec<i64> = (1..=256).map(|place| 16 * place).collect();
+    let even = with_tops_at([&times, &times[128..]]);
+    for later in 1..256 {
+        gives(&even, Curve::A, times[0], times[later]);
+    }
+    for later in 129..256 {
+        gives(&even, Curve::B, times[128], times[later]);
+    }
+    // Steps of 17, and of 16 from some top on: from that top.
+    for first in [1, 2, 100, 253, 254] {
+        let times: Vec<i64> = (0..256).map(|place| 1 + 16 * place + place.min(first)).collect();
+        let first = first as usize;
+        gives(&with_tops_at([&times, &[]]), Curve::A, times[first], times[first + 1]);
+    }
+}
+
+#[test]
+fn tops_on_a_grid() {
+    let mut several = 0;
+    cases("tops on a grid", 4_000, |random| {
+        let records = with_tops_on_a_grid(random);
+        let recording = bytes(&records);
+        for curve in 0..2 {
+            let target = gap(random, &records, curve);
+            several += u64::from(several_fit(&records, curve, target));
+            assert_eq!(pair(&recording, curve as u32, target), 0);
+            assert_eq!(pair(&recording, curve as u32, -target), 0);
+        }
+    });
+    assert!(one_alone() || several > 4_000, "several pairs fit in {several} cases only");
 }
 
 #[test]
@@ -63,7 +110,7 @@ fn every_pair_of_tops_whose_gaps_differ() {
     for (curve, recording) in recordings {
         for (place, earlier) in times.iter().enumerate() {
             for later in &times[place + 1..] {
-                the_only_pair(&recording, curve, *earlier, *later);
+                gives(&recording, curve, *earlier, *later);
             }
             // From a top to itself is no pair.
             assert_eq!(mill::pair(&recording, curve, 0), Ok(None));
@@ -73,8 +120,8 @@ fn every_pair_of_tops_whose_gaps_differ() {
     let times: Vec<i64> = (1..=256).map(|i| 1_000_000 * i + i * (i - 1) / 2).collect();
     let recording = with_tops_at([&times, &times]);
     for (i, j) in [(0, 1), (0, 255), (254, 255), (127, 128), (0, 254), (1, 255), (63, 64), (31, 192)] {
-        the_only_pair(&recording, Curve::A, times[i], times[j]);
-        the_only_pair(&recording, Curve::B, times[i], times[j]);
+        gives(&recording, Curve::A, times[i], times[j]);
+        gives(&recording, Curve::B, times[i], times[j]);
     }
 }
 
@@ -83,7 +130,7 @@ fn ends_of_every_range() {
     begin("ends of every range", 0);
     let ends = with_tops_at([&[1, 3, MOST_TIME - 2, MOST_TIME], &[1, MOST_TIME]]);
     for (curve, earlier, later) in [(Curve::A, 1, MOST_TIME), (Curve::A, 3, MOST_TIME - 2), (Curve::B, 1, MOST_TIME)] {
-        the_only_pair(&ends, curve, earlier, later);
+        gives(&ends, curve, earlier, later);
     }
     for end in [LOW, 0, 2, MOST_TIME - 5, MOST_TIME - 1, HIGH] {
         for target in end - 2..=end + 2 {
@@ -109,20 +156,27 @@ fn every_kind_of_curve_number() {
     }
 }
 
-/// Whether there is a pair shows alike on kept and on full readings, and so does each refusal.
+/// Kept readings give the same two times as full ones, none where they give none, and the same refusal.
 #[test]
-fn kept_readings_have_the_same_pairs() {
-    let mut dropped = 0;
-    cases("kept readings have the same pairs", 12_000, |random| {
-        let records = if random.once_in(10) { with_many_tops(random) } else { recordings::any(random) };
+fn kept_readings_give_the_same_pair() {
+    let (mut dropped, mut several) = (0, 0);
+    cases("kept readings give the same pair", 12_000, |random| {
+        let records = match random.below(10) {
+            0 => with_many_tops(random),
+            1..=3 => with_tops_on_a_grid(random),
+            _ => recordings::any(random),
+        };
         let full = bytes(&records);
         let kept = mill::thin(&full, &[]).unwrap();
         dropped += u64::from(kept.len() < full.len());
         for curve in [Curve::A, Curve::B] {
-            let target = target(random, &records);
-            let has_pair = |recording: &[u8]| mill::pair(recording, curve, target).map(|pair| pair.is_some());
-            assert_eq!(has_pair(&full), has_pair(&kept), "curve {curve:?}, target {target} of {records:?}");
+            for target in [target(random, &records), gap(random, &records, curve as usize)] {
+                several += u64::from(kept.len() < full.len() && several_fit(&records, curve as usize, target));
+                let pair = |recording: &[u8]| mill::pair(recording, curve, target);
+                assert_eq!(pair(&full), pair(&kept), "curve {curve:?}, target {target} of {records:?}");
+            }
         }
     });
     assert!(one_alone() || dropped > 3_000, "readings were dropped in {dropped} cases only");
+    assert!(one_alone() || several > 3_000, "several pairs fitted and readings were dropped in {several} cases only");
 }

@@ -40,10 +40,6 @@ fn plain_rust_answers_alike() {
 
         let curve = random.below(3) as u32;
         let gap = random.between(0, 30);
-        match (mill::plain::pair(&recording, curve, gap), reference::pairs(&recording, curve, gap)) {
-            (Ok(None), Ok(fitting)) => assert_eq!(fitting, []),
-            (Ok(Some(found)), Ok(fitting)) => assert!(fitting.contains(&found)),
-            (plain, reference) => assert_eq!(plain.err(), reference.err().map(pair)),
-        }
+        assert_eq!(mill::plain::pair(&recording, curve, gap), reference::pair(&recording, curve, gap).map_err(pair));
     });
 }

@@ -1,9 +1,9 @@
 //! Covers: recording R1's lines, the table's examples and its orders, on the independent implementation.
 
 use crate::support::r1::{r1, r1_bytes, ANSWERS, KEPT, ONLY_NEXT_SEES};
-use crate::support::recordings::{flat, with_tops};
+use crate::support::recordings::{flat, with_tops, with_tops_at};
 use mill::reference::set::{HIGH, LOW};
-use mill::reference::{degree, kept, pairs, question, recording, thin, Degree, Refused};
+use mill::reference::{degree, kept, pair, question, recording, thin, Degree, Refused};
 
 const ROOM: usize = 1 << 20;
 
@@ -64,12 +64,12 @@ fn table_examples() {
     assert_eq!(runs_of(&tops(64), "peaks(A)").len(), 64);
     assert_eq!(question(&tops(257), b"gaps(A)", ROOM), Err(refused(9)));
     assert_eq!(question(&tops(256), b"gaps(A)", ROOM), Err(refused(8)));
-    assert_eq!(pairs(&tops(257), 0, 1), Err(refused(9)));
+    assert_eq!(pair(&tops(257), 0, 1), Err(refused(9)));
     assert_eq!(question(&r1, b"peaks(A)", 15), Err(refused(10)));
     assert_eq!(question(&r1, b"peaks(A)", 16).map(|bytes| bytes.len()), Ok(16));
     assert_eq!(thin(&r1, &[0; 3], ROOM), Err(refused(11)));
     assert_eq!(degree(&r1, b"high(A)", 2_000_000_001), Err(refused(12)));
-    assert_eq!(pairs(&r1, 2, 40), Err(refused(12)));
+    assert_eq!(pair(&r1, 2, 40), Err(refused(12)));
 }
 
 #[test]
@@ -79,10 +79,14 @@ fn degrees_and_pairs() {
     assert_eq!(degree(&r1, b"peaks(A)", 51), Ok(Degree::Short { distance: 19.0, degree: 0.05 }));
     assert_eq!(degree(&r1, b"lag", 0), Ok(Degree::NoValue));
     assert_eq!(degree(&r1, b"high(A)", HIGH), Ok(Degree::Short { distance: 1_999_999_910.0, degree: 1.0 / 1_999_999_911.0 }));
-    assert_eq!(pairs(&r1, 0, 40), Ok(vec![(30, 70)]));
-    assert_eq!(pairs(&r1, 0, 39), Ok(vec![]));
-    assert_eq!(pairs(&r1, 0, 0), Ok(vec![]));
-    assert_eq!(pairs(&r1, 1, 40), Ok(vec![]));
+    assert_eq!(pair(&r1, 0, 40), Ok(Some((30, 70))));
+    assert_eq!(pair(&r1, 0, 39), Ok(None));
+    assert_eq!(pair(&r1, 0, 0), Ok(None));
+    assert_eq!(pair(&r1, 1, 40), Ok(None));
+    // Several pairs fit: least earlier time.
+    let several = with_tops_at([&[10, 20, 40, 50], &[]]);
+    assert_eq!(pair(&several, 0, 30), Ok(Some((10, 40))));
+    assert_eq!(pair(&several, 0, 10), Ok(Some((10, 20))));
 }
 
 #[test]
@@ -98,8 +102,8 @@ fn orders() {
     assert_eq!(degree(&many, b"peaks(A)|gaps(A)", 0), Err(refused(9)));
     assert_eq!(question(&many, b"peaks(A)|lag", 0), Err(refused(9)));
     assert_eq!(question(&many, b"peaks(A)", 0), Err(refused(8)));
-    assert_eq!(pairs(&many, 0, i64::MAX), Err(refused(12)));
-    assert_eq!(pairs(&many, 0, -1), Err(refused(9)));
+    assert_eq!(pair(&many, 0, i64::MAX), Err(refused(12)));
+    assert_eq!(pair(&many, 0, -1), Err(refused(9)));
     assert_eq!(thin(&[9; 16], &[0; 3], 0), Err(refused(3)));
     assert_eq!(thin(&recording::bytes(&flat(1)), &[0; 3], 0), Err(refused(11)));
     assert_eq!(thin(&recording::bytes(&flat(1)), &[0; 4], 15), Err(refused(10)));

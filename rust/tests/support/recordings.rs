@@ -213,6 +213,32 @@ pub fn with_many_tops(random: &mut Random) -> Vec<Record> {
     records
 }
 
+/// A recording whose tops stand on a grid of times, some left out, so that many pairs of them lie equally far apart.
+pub fn with_tops_on_a_grid(random: &mut Random) -> Vec<Record> {
+    let places = random.pick(&[4, 8, 20, 60, 250]);
+    let (start, step) = (random.between(0, 9), random.pick(&[1, 2, 7, 1_000]));
+    let mut records = accepted(random, 2 * places);
+    for (index, record) in records.iter_mut().enumerate() {
+        (record.time, record.slope) = (start + step * index as i64, [FLAT, FLAT]);
+    }
+    for curve in 0..2 {
+        let left_out = random.pick(&[0, 1, 2]);
+        for place in (0..places).filter(|_| random.below(4) >= left_out) {
+            put_top(&mut records, curve, 2 * place + 1);
+        }
+    }
+    records
+}
+
+/// The time between two tops of the curve, taken at random; 0 where there is none.
+pub fn gap(random: &mut Random, records: &[Record], curve: usize) -> i64 {
+    let times = recording::top_times(records, curve);
+    if times.is_empty() {
+        return 0;
+    }
+    (random.pick(&times) - random.pick(&times)).abs()
+}
+
 /// Flat records at times 0, 1, .. with these values.
 pub fn with_values(values: &[[i64; 2]]) -> Vec<u8> {
     let record = |(time, value): (usize, &[i64; 2])| Record { time: time as i64, value: *value, slope: [FLAT, FLAT] };

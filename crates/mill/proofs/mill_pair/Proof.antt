@@ -9,7 +9,7 @@ use mir.ValLaws.{toZ-ofZ}
 use Rattle.refusal.specs.Outcome.{Outcome, refused}
 use Rattle.refusal.specs.Numbers.{numberOf, placeOf}
 use Rattle.refusal.specs.declared.Refusal.{Refusal}
-use Rattle.pair.specs.Pair.{Given, Answers, outcomeOf}
+use Rattle.pair.specs.Pair.{Given, outcomeOf, pairOf}
 use Rattle.pair.specs.declared.TopPair.{TopPair}
 use Rattle.pair.specs.declared.TopPair.the-variants as answer
 use Rattle.reply.specs.Reply.{half, packed}
@@ -18,31 +18,31 @@ use Rattle.mill.specs.BoundaryLaws.{pair-place}
 use Rattle.mill.proofs.mill_pair.Statement.{statement}
 use Rattle.mill.proofs.mill_pair.Tie as tie
 
-module _ (bytes : List ℕ) (curve : ℕ) (g : ℤ) (p : TopPair) (a : Answers bytes curve g p) where
+module _ (bytes : List ℕ) (curve : ℕ) (g : ℤ) (p : TopPair) (a : outcomeOf p ≡ pairOf bytes curve g) where
   -- what an answer returns and leaves
-  pairs-answer : (earlier later : ℕ) (o : Outcome Given) → outcomeOf p ≡ o → Pairs bytes curve g earlier later (packed (told o)) (earlierAfter o earlier) (laterAfter o later)
+  pairs-answer : (earlier later : ℕ) (o : Outcome Given) → outcomeOf p ≡ o
+      → Pairs (pairOf bytes curve g) earlier later (packed (told o)) (earlierAfter o earlier) (laterAfter o later)
   pairs-answer earlier later o e =
-      let q = sym e ∙ a .outcome in
+      let q = sym e ∙ a in
       record {
-        given = a .given;
-        right = a .right;
         returned = ap (λ (k : Outcome Given). packed (told k)) q;
         first-place = ap (λ (k : Outcome Given). earlierAfter k earlier) q;
         second-place = ap (λ (k : Outcome Given). laterAfter k later) q;
       }
 
-  pairs-times : (earlier later t u : ℕ) → p ≡ answer.Times t u → Pairs bytes curve g earlier later 1 t u
+  pairs-times : (earlier later t u : ℕ) → p ≡ answer.Times t u → Pairs (pairOf bytes curve g) earlier later 1 t u
   pairs-times earlier later t u e = pairs-answer earlier later (outcomeOf (answer.Times t u)) (ap outcomeOf e)
 
-  pairs-none : (earlier later : ℕ) → p ≡ answer.Nothing → Pairs bytes curve g earlier later 0 earlier later
+  pairs-none : (earlier later : ℕ) → p ≡ answer.Nothing → Pairs (pairOf bytes curve g) earlier later 0 earlier later
   pairs-none earlier later e = pairs-answer earlier later (outcomeOf answer.Nothing) (ap outcomeOf e)
 
-  pairs-refusal : (earlier later : ℕ) (x : Refusal) (r : ℕ) → p ≡ answer.Refused x → r ≡ packed (refused (numberOf x) (placeOf x)) → Pairs bytes curve g earlier later r earlier later
+  pairs-refusal : (earlier later : ℕ) (x : Refusal) (r : ℕ) → p ≡ answer.Refused x → r ≡ packed (refused (numberOf x) (placeOf x))
+      → Pairs (pairOf bytes curve g) earlier later r earlier later
   pairs-refusal earlier later x r e h =
-      subst (λ (n : ℕ). Pairs bytes curve g earlier later n earlier later) (sym h) (pairs-answer earlier later (outcomeOf (answer.Refused x)) (ap outcomeOf e))
+      subst (λ (n : ℕ). Pairs (pairOf bytes curve g) earlier later n earlier later) (sym h) (pairs-answer earlier later (outcomeOf (answer.Refused x)) (ap outcomeOf e))
 
   place-fits : (x : Refusal) → p ≡ answer.Refused x → placeOf x < half
-  place-fits x e = pair-place bytes curve g (a .given) (numberOf x) (placeOf x) (sym (a .outcome) ∙ ap outcomeOf e)
+  place-fits x e = pair-place bytes curve g (numberOf x) (placeOf x) (sym a ∙ ap outcomeOf e)
 
 pair-requires : tie.Need-pair-requires
 pair-requires c κs = search needs
@@ -57,8 +57,8 @@ enum-known-found-2 : tie.Need-enum-known-found-2
 enum-known-found-2 c = search needs
 
 -- the promise, of the target itself
-asked : (bytes : List ℕ) (curve : ℕ) (g h : ℤ) (p : TopPair) → h ≡ g → Answers bytes curve h p → Answers bytes curve g p
-asked bytes curve g h p e a = subst (λ (z : ℤ). Answers bytes curve z p) e a
+asked : (bytes : List ℕ) (curve : ℕ) (g h : ℤ) (p : TopPair) → h ≡ g → outcomeOf p ≡ pairOf bytes curve h → outcomeOf p ≡ pairOf bytes curve g
+asked bytes curve g h p e a = subst (λ (z : ℤ). outcomeOf p ≡ pairOf bytes curve z) e a
 
 refused-requires : tie.Need-refused-requires
 refused-requires c κs =

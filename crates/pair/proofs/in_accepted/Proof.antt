@@ -9,6 +9,7 @@ use lib.Dec.{ltb}
 use lib.ListN.{length}
 use lib.IntN.{ℤ}
 use Rattle.number.specs.Axis.{whole}
+use Rattle.refusal.specs.Outcome.{judged}
 use Rattle.refusal.specs.declared.Refusal.the-variants.{NoRecord, BadTarget}
 use Rattle.recording.specs.Booleans.{or-right}
 use Rattle.recording.specs.Recording.{records, readings}
@@ -19,45 +20,48 @@ use Rattle.targets.specs.TargetLaws.{placed-handed}
 use Rattle.targets.specs.declared.OnAxis.the-variants.{Index, Off}
 use Rattle.pair.specs.declared.TopPair.{TopPair}
 use Rattle.pair.specs.declared.TopPair.the-variants as answer
-use Rattle.pair.specs.Pair.{badTarget, tooManyTops, acceptedLines, Answering}
+use Rattle.pair.specs.Pair.{Given, firstPair, badTarget, tooManyTops, acceptedLines, outcomeOf}
 use Rattle.recording.specs.Recording.{noRecord}
 use Rattle.pair.specs.PairLaws.{answer-first, answer-pass}
 use Rattle.pair.proofs.in_accepted.Statement.{statement}
 use Rattle.pair.proofs.in_accepted.Tie as tie
 
 module _ (bytes : List ℕ) (n : ℕ) (e : n ≡ length bytes / 16) (curve : ℕ) (g : ℤ) where
+  abbrev given : Given
+  given = firstPair (readings bytes) (curveOf curve) g
+
   count : length (records bytes) ≡ n
   count = length-records bytes ∙ sym e
 
-  empty : n ≡ 0 → Answering (acceptedLines bytes curve g) (readings bytes) (curveOf curve) g (answer.Refused NoRecord)
+  empty : n ≡ 0 → outcomeOf (answer.Refused NoRecord) ≡ judged (acceptedLines bytes curve g) given
   empty z =
-      answer-first (readings bytes) (curveOf curve) g (noRecord bytes) _ NoRecord (eq-eqb _ 0 (count ∙ z)) refl refl
+      answer-first given (noRecord bytes) _ NoRecord (eq-eqb _ 0 (count ∙ z)) refl refl
 
   module _ (some : n ≡ 0 → ⊥) where
-    past-empty : (p : TopPair) → Answering (badTarget curve g ∷ tooManyTops bytes curve ∷ []) (readings bytes) (curveOf curve) g p
-        → Answering (acceptedLines bytes curve g) (readings bytes) (curveOf curve) g p
+    past-empty : (p : TopPair) → outcomeOf p ≡ judged (badTarget curve g ∷ tooManyTops bytes curve ∷ []) given
+        → outcomeOf p ≡ judged (acceptedLines bytes curve g) given
     past-empty p a =
-        answer-pass (readings bytes) (curveOf curve) g (noRecord bytes ∷ []) (badTarget curve g ∷ tooManyTops bytes curve ∷ []) p
+        answer-pass given (noRecord bytes ∷ []) (badTarget curve g ∷ tooManyTops bytes curve ∷ []) p
         (ne-eqb (length (records bytes)) 0 (λ z. some (sym count ∙ z)), tt) a
 
-    bad : (ltb 1 curve || offAxis g) ≡ true → Answering (acceptedLines bytes curve g) (readings bytes) (curveOf curve) g (answer.Refused BadTarget)
+    bad : (ltb 1 curve || offAxis g) ≡ true → outcomeOf (answer.Refused BadTarget) ≡ judged (acceptedLines bytes curve g) given
     bad m =
         past-empty (answer.Refused BadTarget)
-        (answer-first (readings bytes) (curveOf curve) g (badTarget curve g) (tooManyTops bytes curve ∷ []) BadTarget m refl refl)
+        (answer-first given (badTarget curve g) (tooManyTops bytes curve ∷ []) BadTarget m refl refl)
 
-    no-curve : 1 < curve → Answering (acceptedLines bytes curve g) (readings bytes) (curveOf curve) g (answer.Refused BadTarget)
+    no-curve : 1 < curve → outcomeOf (answer.Refused BadTarget) ≡ judged (acceptedLines bytes curve g) given
     no-curve h = bad (ap (λ (b : Bool). b || offAxis g) (lt-ltb 1 curve h))
 
-    off : Placed g Off → Answering (acceptedLines bytes curve g) (readings bytes) (curveOf curve) g (answer.Refused BadTarget)
+    off : Placed g Off → outcomeOf (answer.Refused BadTarget) ≡ judged (acceptedLines bytes curve g) given
     off h = bad (or-right (ltb 1 curve) (offAxis g) h)
 
     on : curve ≤ 1 → (index : ℕ) → Placed g (Index index) → (p : TopPair)
-        → Answering (tooManyTops bytes curve ∷ []) (readings bytes) (curveOf curve) (whole index) p → Answering (acceptedLines bytes curve g) (readings bytes) (curveOf curve) g p
+        → outcomeOf p ≡ judged (tooManyTops bytes curve ∷ []) (firstPair (readings bytes) (curveOf curve) (whole index)) → outcomeOf p ≡ judged (acceptedLines bytes curve g) given
     on h index o p a =
         past-empty p
-        (answer-pass (readings bytes) (curveOf curve) g (badTarget curve g ∷ []) (tooManyTops bytes curve ∷ []) p
+        (answer-pass given (badTarget curve g ∷ []) (tooManyTops bytes curve ∷ []) p
         (ap₂ (λ (b d : Bool). b || d) (le-ltb 1 curve h) (o .0), tt)
-        (subst (λ (z : ℤ). Answering (tooManyTops bytes curve ∷ []) (readings bytes) (curveOf curve) z p) (o .2) a))
+        (subst (λ (z : ℤ). outcomeOf p ≡ judged (tooManyTops bytes curve ∷ []) (firstPair (readings bytes) (curveOf curve) z)) (o .2) a))
 
 returns : tie.Need-returns
 returns c =

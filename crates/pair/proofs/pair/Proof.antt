@@ -14,7 +14,7 @@ use Rattle.recording.specs.OutcomeLaws.{result-none}
 use Rattle.recording.specs.declared.Checked.{Checked}
 use Rattle.recording.specs.declared.Checked.the-variants as checked
 use Rattle.tops.specs.Tops.{curveOf}
-use Rattle.pair.specs.Pair.{acceptedLines, Answering}
+use Rattle.pair.specs.Pair.{firstPair, acceptedLines, outcomeOf, pairOf}
 use Rattle.pair.specs.PairLaws.{answer-pass, answer-refused}
 use Rattle.pair.proofs.pair.Statement.{statement}
 use Rattle.pair.proofs.pair.Tie as tie
@@ -41,23 +41,25 @@ enum-known-checked-2 : tie.Need-enum-known-checked-2
 enum-known-checked-2 c = search needs
 
 returns : tie.Need-returns
+unfolding pairOf
 returns c =
     let t = c .before .before .before .before in
     let args = t .before .before .args in
     let bytes : List ℕ = args .rec .now in
     let told = c .before .before .checked .given in
-    answer-pass (readings bytes) (curveOf (args .curve)) (args .target) (recordingLines bytes) (acceptedLines bytes (args .curve) (args .target)) (c .in-accepted .result)
+    answer-pass (firstPair (readings bytes) (curveOf (args .curve)) (args .target)) (recordingLines bytes) (acceptedLines bytes (args .curve) (args .target)) (c .in-accepted .result)
     (accepted bytes (t .check .result) (told .0 .0) (t .check .ensures) (told .1) .0)
-    (subst (λ (g : ℤ). Answering (acceptedLines bytes (args .curve) g) (readings bytes) (curveOf (args .curve)) g (c .in-accepted .result))
+    (subst (λ (g : ℤ). outcomeOf (c .in-accepted .result) ≡ judged (acceptedLines bytes (args .curve) g) (firstPair (readings bytes) (curveOf (args .curve)) g))
     (toZ-ofZ w64 (args .target) (t .before .before .fits .target)) (c .in-accepted .ensures))
 
 returns-2 : tie.Need-returns-2
+unfolding pairOf
 returns-2 c =
     let t = c .before .before .before in
     let args = t .before .before .args in
     let bytes : List ℕ = args .rec .now in
     let told = c .before .checked2 .given in
-    answer-refused (readings bytes) (curveOf (args .curve)) (args .target) (recordingLines bytes) (acceptedLines bytes (args .curve) (args .target)) (told .0 .0) (length bytes / 16)
+    answer-refused (firstPair (readings bytes) (curveOf (args .curve)) (args .target)) (recordingLines bytes) (acceptedLines bytes (args .curve) (args .target)) (told .0 .0) (length bytes / 16)
     (sym (ap found (told .1)) ∙ t .check .ensures)
 
 pub pair-spec : {M : Type 1} → statement M

@@ -1,30 +1,33 @@
 -- `pair::search` meets its contract. The outer loop has passed the earlier places below i, the inner one the later places below j. Assumes nothing.
 use borrow.Author.Needs.{needs}
 use borrow.Author.Count.{below-none, below-more}
-use mathlib.Core.Path.{_≡_, refl, sym, subst}
-use mathlib.Core.Logic.{⊎-elim}
+use mathlib.Core.Path.{_≡_, sym, ap, subst}
+use mathlib.Core.Logic.{_⊎_, inl, inr, ⊎-elim}
 use mathlib.Core.List.{List}
 use Prim.Native.Nat.{ℕ, _+_, _-_, _≤_, _<_}
 use native.Mathlib.Omega.{arith}
 use lib.ListN.{getD}
-use Rattle.pair.specs.Search.{Apart}
+use Rattle.number.specs.OrderLaws.{less-or-not, less-more-equal}
+use Rattle.refusal.specs.Outcome.{result}
+use Rattle.pair.specs.Search.{Spaced}
+use Rattle.pair.specs.SearchLaws.{found-first, found-none}
 use Rattle.pair.proofs.search.Statement.{statement}
 use Rattle.pair.proofs.search.Tie as tie
 
 abbrev Inv-loop : tie.InvT-loop
-Inv-loop times n g i j₀ sought j = (i < j) × (j ≤ n) × ((b : ℕ) → b < j → Apart times n g i b → ⊥)
+Inv-loop times n g i j₀ sought j = (i < j) × ((b : ℕ) → b < j → Spaced times n g i b → ⊥)
 
 abbrev μ-loop : tie.MeasureT-loop
 μ-loop times n g i j₀ sought j = n - j
 
 abbrev Inv-earlier : tie.InvT-earlier
-Inv-earlier times n g i₀ j₀ i j = (i ≤ n) × ((a : ℕ) → a < i → (b : ℕ) → Apart times n g a b → ⊥)
+Inv-earlier times n g i₀ j₀ i j = (a : ℕ) → a < i → (b : ℕ) → Spaced times n g a b → ⊥
 
 abbrev μ-earlier : tie.MeasureT-earlier
 μ-earlier times n g i₀ j₀ i j = n - i
 
 earlier-holds : tie.Need-earlier-holds Inv-loop μ-loop Inv-earlier μ-earlier
-earlier-holds c = (omega arith, below-none _)
+earlier-holds c = below-none _
 
 mul-wide : tie.Need-mul-wide Inv-loop μ-loop Inv-earlier μ-earlier
 mul-wide c = search needs
@@ -45,7 +48,7 @@ add-j : tie.Need-add-j Inv-loop μ-loop Inv-earlier μ-earlier
 add-j c = search needs
 
 loop-holds : tie.Need-loop-holds Inv-loop μ-loop Inv-earlier μ-earlier
-loop-holds c = (omega arith, omega arith, λ b h a. omega arith)
+loop-holds c = (omega arith, λ b h a. omega arith)
 
 mul-wide-2 : tie.Need-mul-wide-2 Inv-loop μ-loop Inv-earlier μ-earlier
 mul-wide-2 c = search needs
@@ -73,7 +76,7 @@ loop-again c =
     let later : c .before .wide3 .result ≡ getD times j 0 = c .before .wide3 .ensures .0 in
     let earlier : h .before .before .wide .result ≡ getD times i 0 = h .before .before .wide .ensures .0 in
     let more : h .before .wide2 .result ≡ args .g = h .before .wide2 .ensures .0 in
-    (omega arith, omega arith, below-more _ j (h .loop .inv .2) (λ (a : Apart times (args .n) (args .g) i j). c .if1 .left (omega arith)))
+    (omega arith, below-more _ j (h .loop .inv .1) (λ (a : Spaced times (args .n) (args .g) i j). c .if1 .left (omega arith)))
 
 add-i : tie.Need-add-i Inv-loop μ-loop Inv-earlier μ-earlier
 add-i c = search needs
@@ -84,11 +87,22 @@ earlier-less c = search needs
 earlier-again : tie.Need-earlier-again Inv-loop μ-loop Inv-earlier μ-earlier
 earlier-again c =
     let h = c .before .before .before .before .before .before in
-    (omega arith, below-more _ (h .earlier .i) (h .earlier .inv .1) (λ b a. c .before .loop .inv .2 b (omega arith) a))
+    below-more _ (h .earlier .i) (h .earlier .inv) (λ b a. c .before .loop .inv .1 b (omega arith) a)
 
--- where i is inside after the loops, it was left at a fitting pair
+-- none of the places before i, nor of those before j behind i, is one of two that are g apart
+foremost : (times : List ℕ) (n g i j : ℕ) → ((a : ℕ) → a < i → (b : ℕ) → Spaced times n g a b → ⊥) → ((b : ℕ) → b < j → Spaced times n g i b → ⊥)
+    → (a b : ℕ) → Spaced times n g a b → (i < a) ⊎ ((i ≡ a) × (j ≤ b))
+foremost times n g i j passed later a b s =
+    ⊎-elim (λ (h : i < a). inl h)
+    (⊎-elim (λ (h : a < i). absurd (passed a h b s))
+    (λ (e : i ≡ a). ⊎-elim (λ (h : b < j). absurd (later b h (subst (λ (k : ℕ). Spaced times n g k b) (sym e) s))) (λ (h : j ≤ b). inr (e, h)) (less-or-not b j)))
+    (less-more-equal i a)
+
+-- where i is inside after the loops, it was left at a fitting pair, the first
 found : (c : tie.Then2 Inv-loop μ-loop Inv-earlier μ-earlier)
-    → Apart (c .before .before .before .before .args .times .now) (c .before .before .before .before .args .n) (c .before .before .before .before .args .g) (c .before .before .earlier .i) (c .before .earlier-test .j)
+    → Spaced (c .before .before .before .before .args .times .now) (c .before .before .before .before .args .n) (c .before .before .before .before .args .g) (c .before .before .earlier .i) (c .before .earlier-test .j)
+    × ((a b : ℕ) → Spaced (c .before .before .before .before .args .times .now) (c .before .before .before .before .args .n) (c .before .before .before .before .args .g) a b
+    → (c .before .before .earlier .i < a) ⊎ ((c .before .before .earlier .i ≡ a) × (c .before .earlier-test .j ≤ b)))
 found c =
     let h = c .before .before in
     let args = h .before .before .args in
@@ -103,7 +117,10 @@ found c =
     let more : w .3 .result ≡ args .g = w .3 .ensures .0 in
     let met : w .7 .result ≡ w .2 .result + w .3 .result = w .8 .taken in
     let at : c .before .earlier-test .j ≡ j = w .9 in
-    subst (λ (k : ℕ). Apart times (args .n) (args .g) i k) (sym at) (record { order = w .4 .inv .0; inside = w .5 .taken; apart = omega arith }))
+    subst (λ (k : ℕ). Spaced times (args .n) (args .g) i k × ((a b : ℕ) → Spaced times (args .n) (args .g) a b → (i < a) ⊎ ((i ≡ a) × (k ≤ b)))) (sym at) (
+      record { order = w .4 .inv .0; inside = w .5 .taken; sum = omega arith },
+      foremost times (args .n) (args .g) i j (h .earlier .inv) (w .4 .inv .1),
+    ))
     (c .before .earlier-test .came)
 
 mul-first : tie.Need-mul-first Inv-loop μ-loop Inv-earlier μ-earlier
@@ -113,16 +130,22 @@ shared-slice-read-first : tie.Need-shared-slice-read-first Inv-loop μ-loop Inv-
 shared-slice-read-first c = search needs
 
 mul-second : tie.Need-mul-second Inv-loop μ-loop Inv-earlier μ-earlier
-mul-second c = let f = found (c .before .before) in let inside = f .inside in search needs
+mul-second c = let f = found (c .before .before) .0 in let inside = f .inside in search needs
 
 shared-slice-read-second : tie.Need-shared-slice-read-second Inv-loop μ-loop Inv-earlier μ-earlier
-shared-slice-read-second c = let f = found (c .before .before .before) in let inside = f .inside in search needs
+shared-slice-read-second c = let f = found (c .before .before .before) .0 in let inside = f .inside in search needs
 
 returns : tie.Need-returns Inv-loop μ-loop Inv-earlier μ-earlier
-returns c = record { i = _; j = _; apart = found (c .before .before .before); first = refl; second = refl }
+returns c =
+    let f = found (c .before .before .before) in
+    let s = c .before .before .before .before .before .before .before in
+    ap result (sym (found-first (s .args .times .now) (s .args .n) (s .pre) (s .args .g) _ _ (f .0) (f .1)))
 
 returns-2 : tie.Need-returns-2 Inv-loop μ-loop Inv-earlier μ-earlier
-returns-2 c = let h = c .before .before in λ i j a. h .earlier .inv .1 i (omega arith) j a
+returns-2 c =
+    let h = c .before .before in
+    let args = h .before .before .args in
+    ap result (sym (found-none (args .times .now) (args .n) (h .before .before .pre) (args .g) (λ a b p. let o = p .order in let l = p .inside in h .earlier .inv a (omega arith) b p)))
 
 pub search-spec : {M : Type 1} → statement M
 search-spec =

@@ -2,63 +2,60 @@
 use borrow.Author.Needs.{needs}
 use borrow.Author.Tests.{lt-ltb, le-ltb}
 use native.Mathlib.Omega.{arith}
-use mathlib.Core.Path.{_≡_, refl, sym, _∙_, subst}
+use mathlib.Core.Path.{_≡_, refl, sym, ap, ap₂, _∙_, subst}
 use mathlib.Core.List.{List, [], _∷_, map}
 use Prim.Native.Nat.{ℕ, _-_, _/_, _≤_, _<_}
-use lib.ListN.{length}
-use lib.IntN.{ℤ}
+use lib.ListN.{length, take}
+use lib.IntN.{ℤ, pos}
 use Rattle.number.specs.Axis.{origin, whole}
-use Rattle.refusal.specs.Outcome.{NoneMeets}
+use Rattle.refusal.specs.Outcome.{result, judged, NoneMeets}
 use Rattle.refusal.specs.declared.Refusal.the-variants.{TooManyTops}
 use Rattle.recording.specs.Condition.{pick}
 use Rattle.recording.specs.Reading.{top}
+use Rattle.recording.specs.OutcomeLaws.{judged-none}
 use Rattle.recording.specs.Recording.{chunks, reading, readings, Accepted}
 use Rattle.tops.specs.Tops.{curveOf, topTimes, mostTops}
 use Rattle.tops.specs.Scan.{Scanned}
-use Rattle.tops.specs.ScanLaws.{scanned-at}
-use Rattle.tops.specs.PickLaws.{Ascending}
-use Rattle.tops.specs.TopLaws.{top-times-ascend}
 use Rattle.pair.specs.declared.TopPair.{TopPair}
 use Rattle.pair.specs.declared.TopPair.the-variants as answer
-use Rattle.pair.specs.Pair.{none, tooManyTops, Answering}
-use Rattle.pair.specs.Search.{Sought}
-use Rattle.pair.specs.PairLaws.{count-tops, none-below, whole-below, whole-above, answer-first, answer-pass, answer-right, sought-right}
+use Rattle.pair.specs.Pair.{Given, pairsOf, firstApart, firstPair, tooManyTops, outcomeOf}
+use Rattle.pair.specs.PairLaws.{scanned-all, count-tops, none-for-low, whole-below, whole-above, answer-first}
 use Rattle.pair.proofs.tops_apart.Statement.{statement}
 use Rattle.pair.proofs.tops_apart.Tie as tie
 
 module _ (bytes : List ℕ) (n curve index : ℕ) (a : Accepted bytes) (e : n ≡ length bytes / 16) (old : List ℕ) (room : length old ≡ mostTops)
     (count : ℕ) (new : List ℕ) (s : Scanned (topTimes (curveOf curve) (map reading (chunks n bytes))) old count new) where
+  abbrev given : Given
+  given = firstPair (readings bytes) (curveOf curve) (whole index)
+
   scanned : Scanned (topTimes (curveOf curve) (readings bytes)) old count new
   scanned = subst (λ (k : ℕ). Scanned (topTimes (curveOf curve) (map reading (chunks k bytes))) old count new) e s
 
   tops : count ≡ length (pick (top (curveOf curve)) (readings bytes))
-  tops = scanned .counted ∙ count-tops (readings bytes) (curveOf curve)
+  tops = scanned .counted ∙ count-tops (readings bytes) (curveOf curve) (whole index)
 
-  ascending : Ascending (topTimes (curveOf curve) (readings bytes))
-  ascending = top-times-ascend (curveOf curve) bytes a
-
-  over : mostTops < count → Answering (tooManyTops bytes curve ∷ []) (readings bytes) (curveOf curve) (whole index) (answer.Refused TooManyTops)
+  over : mostTops < count → outcomeOf (answer.Refused TooManyTops) ≡ judged (tooManyTops bytes curve ∷ []) given
   over h =
-      answer-first (readings bytes) (curveOf curve) (whole index) (tooManyTops bytes curve) [] TooManyTops
+      answer-first given (tooManyTops bytes curve) [] TooManyTops
       (lt-ltb mostTops _ (subst (λ (k : ℕ). mostTops < k) tops h)) refl refl
 
   module _ (h : count ≤ mostTops) where
     few : NoneMeets (tooManyTops bytes curve ∷ [])
     few = (le-ltb mostTops _ (subst (λ (k : ℕ). k ≤ mostTops) tops h), tt)
 
-    at-or-below : index ≤ origin → Answering (tooManyTops bytes curve ∷ []) (readings bytes) (curveOf curve) (whole index) answer.Nothing
+    at-or-below : index ≤ origin → outcomeOf answer.Nothing ≡ judged (tooManyTops bytes curve ∷ []) given
     at-or-below k =
-        answer-pass (readings bytes) (curveOf curve) (whole index) (tooManyTops bytes curve ∷ []) [] answer.Nothing few
-        (answer-right (readings bytes) (curveOf curve) (whole index) none answer.Nothing refl
-        (none-below (readings bytes) (curveOf curve) ascending (whole index) (whole-below index k)))
+        ap result (sym (none-for-low (curveOf curve) bytes a (whole index) (whole-below index k)))
+        ∙ sym (judged-none (tooManyTops bytes curve ∷ []) given few)
 
-    above : origin < index → (p : TopPair) → Sought new count (index - origin) p
-        → Answering (tooManyTops bytes curve ∷ []) (readings bytes) (curveOf curve) (whole index) p
+    above : origin < index → (p : TopPair) → outcomeOf p ≡ result (firstApart (pos (index - origin)) (pairsOf (take count new)))
+        → outcomeOf p ≡ judged (tooManyTops bytes curve ∷ []) given
+    unfolding firstPair
     above k p f =
-        answer-pass (readings bytes) (curveOf curve) (whole index) (tooManyTops bytes curve ∷ []) [] p few
-        (subst (λ (z : ℤ). Answering [] (readings bytes) (curveOf curve) z p) (sym (whole-above index (omega arith)))
-        (sought-right (readings bytes) (curveOf curve) ascending new count (scanned .counted)
-        (λ i l. scanned-at _ old new count i scanned (let t = scanned .counted in omega arith) (omega arith)) (index - origin) p f))
+        f
+        ∙ ap₂ (λ (g : ℤ) (ts : List ℕ). result (firstApart g (pairsOf ts))) (sym (whole-above index (omega arith)))
+        (scanned-all (topTimes (curveOf curve) (readings bytes)) old new count scanned (let t = scanned .counted in omega arith))
+        ∙ sym (judged-none (tooManyTops bytes curve ∷ []) given few)
 
 slice-aggregate-top-times : tie.Need-slice-aggregate-top-times
 slice-aggregate-top-times c = search needs
