@@ -10,7 +10,7 @@ use Rattle.text.specs.Told.{textLines}
 use Rattle.meaning.specs.Alike.{Plain}
 use Rattle.question.specs.Question.{read, questionOf}
 use Rattle.degree.specs.Degree.{nearnessOf}
-use Rattle.thin.specs.Thin.{marksOf}
+use Rattle.marks.specs.Marks.{marksOf}
 use Rattle.pair.specs.declared.TopPair.{TopPair}
 use Rattle.pair.specs.Pair.{Given, times, none, Answers}
 

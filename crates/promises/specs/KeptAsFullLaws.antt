@@ -4,7 +4,8 @@ use mathlib.Core.Path.{_≡_}
 use mathlib.Core.List.{List}
 use lib.IntN.{ℤ}
 use Rattle.recording.specs.Recording.{Accepted}
-use Rattle.thin.specs.Thin.{keptBytes, marksOf, AcceptedMarks}
+use Rattle.thin.specs.Thin.{keptBytes}
+use Rattle.marks.specs.Marks.{marksOf, AcceptedMarks}
 use Rattle.pair.specs.declared.TopPair.{TopPair}
 use Rattle.pair.specs.Pair.{outcomeOf, Answers}
 use Rattle.promises.specs.KeptAsFull.{SameAnswers, found}
