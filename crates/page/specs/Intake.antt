@@ -2,9 +2,9 @@
 use Prim.Native.Nat.{ℕ, _+_, _*_, _/_, _%_, _≤_}
 use mathlib.Core.Path.{_≡_}
 use mathlib.Core.Bool.{cond}
-use mathlib.Core.List.{List}
+use mathlib.Core.List.{List, _++_}
 use lib.Dec.{ltb}
-use lib.ListN.{length, take}
+use lib.ListN.{length, take, drop}
 use Rattle.text.specs.Size.{mostBytes}
 
 -- A limit is given in blocks of 16 bytes, the size of a record. That of a recording is `mostRecords`.
@@ -25,3 +25,9 @@ keptLength blocks n = cond (ltb (16 * blocks) n) (16 * blocks + 16 + n % 16) n
 pub record StandsFor (blocks : ℕ) (seen store : List ℕ) (n : ℕ) : Type 0 where
   pub count : n ≡ keptLength blocks (length seen)
   pub same : length seen ≤ 16 * blocks → take n store ≡ seen
+
+-- A PIECE IS TAKEN IN behind the n bytes that are kept; r bytes are kept then. What they stand for is what the n bytes stood for, with the piece behind it, and
+-- no byte behind them is touched.
+pub record TakesIn (store : List ℕ) (n : ℕ) (piece new : List ℕ) (r : ℕ) : Type 0 where
+  pub stands : (blocks : ℕ) (seen : List ℕ) → 16 * blocks + spare ≡ length store → StandsFor blocks seen store n → StandsFor blocks (seen ++ piece) new r
+  pub behind : drop r new ≡ drop r store

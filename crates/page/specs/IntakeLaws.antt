@@ -5,7 +5,7 @@ use mathlib.Core.List.{List, [], _++_}
 use mathlib.Core.Logic.{⊎-elim, _↔_}
 use native.Mathlib.Omega.{arith}
 use lib.ListN.{length, take, drop, length-append}
-use lib.Seq.{length-take-le, take-at}
+use lib.Seq.{length-take-le, take-at, drop-at}
 use borrow.Author.Tests.{lt-ltb, le-ltb}
 use Rattle.number.specs.OrderLaws.{less-or-not}
 use Rattle.page.specs.Puts.{Puts}
@@ -74,3 +74,9 @@ pub intake-over : (blocks : ℕ) (seen piece store : List ℕ) (n limit : ℕ) �
 intake-over blocks seen piece store n limit room s e h =
     let is : 16 * blocks ≡ limit = omega arith in
     subst (λ (k : ℕ). StandsFor blocks (seen ++ piece) store (k + 16 + (n + length piece) % 16)) is (stands-over blocks seen piece store n s (omega arith))
+
+-- what is put into a store leaves what lies behind it
+pub puts-behind : (piece store : List ℕ) (n : ℕ) (new : List ℕ) (r : ℕ) → n ≤ length store → Puts piece store n new r → drop r new ≡ drop r store
+puts-behind piece store n new r room p =
+    let reach : length (take n store ++ piece) ≡ r = length-append (take n store) piece ∙ ap (λ (k : ℕ). k + length piece) (length-take-le n store room) ∙ sym (p .behind) in
+    ap (drop r) (p .output) ∙ drop-at (take n store ++ piece) (drop r store) r reach

@@ -1,10 +1,8 @@
 // Input that comes in pieces and may be longer than what is kept of it.
-ghost use mathlib.Core.Path.{_≡_};
-ghost use mathlib.Core.List.{List, _++_};
-ghost use Prim.Native.Nat.{ℕ, _+_, _*_, _≤_};
+ghost use Prim.Native.Nat.{_≤_};
 ghost use lib.ListN.{length};
 ghost use Rattle.io.specs.Counts.{Counts};
-ghost use Rattle.page.specs.Intake.{StandsFor, spare};
+ghost use Rattle.page.specs.Intake.{TakesIn, spare};
 use crate::put;
 
 // The size of a record: a limit is a multiple of it.
@@ -21,7 +19,7 @@ pub const TEXT_STORE: usize = text::MOST_BYTES + BLOCK + SPARE;
 // Takes the next piece in behind the n bytes that are kept, and tells how many are kept then.
 pub fn take_in(store: &mut [u8], n: usize, piece: &[u8]) -> usize
     requires { ⌜ (spare ≤ length (now store)) × (n ≤ length (now store)) ⌝ }
-    ensures { λ r. ⌜ ((blocks : ℕ) (seen : List ℕ) → 16 * blocks + spare ≡ length (now (store .entry)) → StandsFor blocks seen (now (store .entry)) n → StandsFor blocks (seen ++ now (piece .entry)) (now (store .exit)) r) ⌝ }
+    ensures { λ r. ⌜ TakesIn (now (store .entry)) n (now (piece .entry)) (now (store .exit)) r ⌝ }
     ensures { λ r. ⌜ Counts r (now (store .exit)) ⌝ }
 {
     let limit = store.len() - SPARE;

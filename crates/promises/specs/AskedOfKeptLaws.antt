@@ -15,7 +15,7 @@ use Rattle.meaning.specs.Alike.{markIndex}
 use Rattle.question.specs.Question.{read}
 use Rattle.question.specs.MeantLaws.{reads-read}
 use Rattle.thin.specs.R1Calls.{mark40}
-use Rattle.thin.specs.Thin.{marksOf}
+use Rattle.marks.specs.Marks.{marksOf}
 use Rattle.promises.specs.Demands.{operators, Lasts}
 
 -- a test for it, which is computed

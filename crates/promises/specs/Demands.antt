@@ -18,7 +18,8 @@ use Rattle.text.specs.Grammar.{ReadsWhole}
 use Rattle.text.specs.Size.{afterTimes}
 use Rattle.meaning.specs.Meaning.{Holds}
 use Rattle.meaning.specs.Alike.{markIndex}
-use Rattle.thin.specs.Thin.{keptBytes, marksOf, marksLine, AcceptedMarks}
+use Rattle.thin.specs.Thin.{keptBytes}
+use Rattle.marks.specs.Marks.{marksOf, marksLine, AcceptedMarks}
 use Rattle.thin.specs.Book.{Call, Left, heldNext, book, joinAfter}
 use Rattle.thin.specs.Cut.{wholeFrom, CutBetween, LongEnough, allWritten}
 use Rattle.reply.specs.Reply.{half, numberIn, lowIn, unpacked}

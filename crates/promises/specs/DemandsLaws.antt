@@ -37,7 +37,8 @@ use Rattle.degree.specs.Degree.{Value, met, short, noValue, valueOf, targetLine
 use Rattle.meaning.specs.Coded.{index}
 use Rattle.pair.specs.Pair.{Given, times, none, firstPair, pairLines, pairOf}
 use Rattle.tops.specs.Tops.{curveOf}
-use Rattle.thin.specs.Thin.{keptBytes, marksOf, marksLine, AcceptedMarks, thinOf}
+use Rattle.thin.specs.Thin.{keptBytes, thinOf}
+use Rattle.marks.specs.Marks.{marksOf, marksLine, AcceptedMarks}
 use Rattle.thin.specs.Book.{Call, Left, leaves, thinned, heldNext, calls, heldAfter, entry, joinNext, book, joinAfter}
 use Rattle.thin.specs.BookLaws.{kept-join, taken, whole-next, as-the-book}
 use Rattle.thin.specs.Cut.{wholeFrom, CutBetween, LongEnough, allWritten}

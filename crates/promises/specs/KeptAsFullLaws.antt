@@ -2,7 +2,8 @@
 use Prim.Native.Nat.{ℕ}
 use mathlib.Core.List.{List}
 use Rattle.recording.specs.Recording.{Accepted}
-use Rattle.thin.specs.Thin.{keptBytes, marksOf, AcceptedMarks}
+use Rattle.thin.specs.Thin.{keptBytes}
+use Rattle.marks.specs.Marks.{marksOf, AcceptedMarks}
 use Rattle.promises.specs.KeptAsFull.{SameAnswers}
 use Rattle.promises.specs.QuestionAsFullLaws.{kept-question, kept-degree}
 use Rattle.promises.specs.PairAsFullLaws.{kept-pair}

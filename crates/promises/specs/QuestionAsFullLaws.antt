@@ -34,7 +34,8 @@ use Rattle.meaning.specs.RecordedLaws.{accepted-recorded}
 use Rattle.question.specs.Question.{read, answer, askingLines, setLines, questionOf}
 use Rattle.degree.specs.Degree.{Value, valueOf, targetLine, nearnessOf}
 use Rattle.kept.specs.Kept.{keptFor}
-use Rattle.thin.specs.Thin.{keptBytes, marksOf}
+use Rattle.thin.specs.Thin.{keptBytes}
+use Rattle.marks.specs.Marks.{marksOf}
 use Rattle.thin.specs.BookLaws.{records-kept}
 use Rattle.thin.specs.CutLaws.{sound-thinned}
 use Rattle.thin.specs.KeptBytesLaws.{readings-kept}

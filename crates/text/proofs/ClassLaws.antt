@@ -10,30 +10,7 @@ use Rattle.text.specs.declared.Class.{Class}
 use Rattle.text.specs.declared.Class.the-variants.{Digit, Letter, Sign, Foreign}
 use Rattle.text.specs.Classes.{classOf, isDigit, isLetter, isSign}
 use Rattle.text.specs.WordLaws.{and-left, and-right}
-
-abbrev pub number : Class → ℕ
-number Digit = 0
-number Letter = 1
-number Sign = 2
-number Foreign = 3
-
-same-number : (c d : Class) → number c ≡ number d → c ≡ d
-same-number Digit Digit e = refl
-same-number Letter Letter e = refl
-same-number Sign Sign e = refl
-same-number Foreign Foreign e = refl
-same-number Digit Letter e = absurd (omega arith)
-same-number Digit Sign e = absurd (omega arith)
-same-number Digit Foreign e = absurd (omega arith)
-same-number Letter Digit e = absurd (omega arith)
-same-number Letter Sign e = absurd (omega arith)
-same-number Letter Foreign e = absurd (omega arith)
-same-number Sign Digit e = absurd (omega arith)
-same-number Sign Letter e = absurd (omega arith)
-same-number Sign Foreign e = absurd (omega arith)
-same-number Foreign Digit e = absurd (omega arith)
-same-number Foreign Letter e = absurd (omega arith)
-same-number Foreign Sign e = absurd (omega arith)
+use Rattle.text.specs.ClassLaws.{number, same-number}
 
 or-right : (x y : Bool) → (x || y) ≡ true → x ≡ false → y ≡ true
 or-right true y e f = let z : _≡_ {A = ℕ} 0 1 = cc in absurd (omega arith)

@@ -1,7 +1,9 @@
 -- Document 01, "The question text": each byte of the text falls in one class, digit, letter, sign or foreign.
 use Prim.Native.Nat.{ℕ}
-use mathlib.Core.Bool.{Bool, _&&_, _||_, cond}
+use mathlib.Core.Bool.{Bool, false, _&&_, _||_, cond}
+use mathlib.Core.List.{List, [], _∷_}
 use lib.Dec.{leb, eqb}
+use Rattle.text.specs.Bytes.{bytes}
 use Rattle.text.specs.declared.Class.{Class}
 use Rattle.text.specs.declared.Class.the-variants.{Digit, Letter, Sign, Foreign}
 
@@ -22,3 +24,15 @@ isSign b = eqb b 33 || (eqb b 38 || (within 40 41 b || (within 44 45 b || (withi
 
 unfoldable pub classOf : ℕ → Class
 classOf b = cond (isDigit b) Digit (cond (isLetter b) Letter (cond (isSign b) Sign Foreign))
+
+-- the byte stands in the text
+abbrev pub among : ℕ → List ℕ → Bool
+among b [] = false
+among b (x ∷ w) = eqb x b || among b w
+
+-- THE CLASSES BY THEIR CHARACTERS, the same of each byte: ClassLaws, `classes-listed`
+unfoldable pub listedClass : ℕ → Class
+listedClass b =
+    cond (among b (bytes "0123456789")) Digit
+    (cond (among b (bytes "ABCDEFGHIJKLMNOPQRSTUVWXYZabcdefghijklmnopqrstuvwxyz")) Letter
+    (cond (among b (bytes "|&!(),<>=-")) Sign Foreign))

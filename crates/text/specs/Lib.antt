@@ -9,6 +9,7 @@ pub mod Told
 pub mod Lexer
 pub mod Parse
 pub mod WordLaws
+pub mod ClassLaws
 pub mod NumberLaws
 pub mod LeafLaws
 pub mod Unique

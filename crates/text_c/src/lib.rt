@@ -1,18 +1,15 @@
 // The reader of texts behind the C boundary, for tests from outside.
-ghost use Rattle.text_c.specs.Reads.{Reads};
+ghost use mathlib.Core.Path.{_≡_};
+ghost use Rattle.reply.specs.Reply.{packed};
+ghost use Rattle.text_c.specs.Reads.{nodesOrRefusal};
 
-// The number that refuses a table that is too short.
-const SHORT_TABLE: u64 = 255;
-
-// Reads a text into the table. Returns the number of its nodes, or the refusal.
+// Reads a text. Returns the number of its nodes, or the refusal.
 #[no_mangle]
-pub extern "C" fn text_read(s: &[u8], table: &mut [u32]) -> u64
-    ensures { λ r. ⌜ Reads (now (s .entry)) (now (table .entry)) r (now (table .exit)) ⌝ }
+pub extern "C" fn text_read(s: &[u8]) -> u64
+    ensures { λ r. ⌜ r ≡ packed (nodesOrRefusal (now (s .entry))) ⌝ }
 {
-    if table.len() < text::TABLE_SIZE {
-        return SHORT_TABLE * reply::HALF;
-    }
-    let answer = text::read(s, table);
+    let mut table = [0u32; text::TABLE_SIZE];
+    let answer = text::read(s, &mut table);
     match answer {
         text::Answer::Nodes(n) => n as u64,
         text::Answer::Refused(x) => reply::refused(x),

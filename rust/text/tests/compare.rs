@@ -9,17 +9,15 @@ use mill::reference::text::{accepted, most_open_brackets, Node, MOST_BRACKETS, M
 use support::cases::{begin, cases, one_alone};
 use support::small_stack::on_stack_of;
 use support::{compared, header, painted, r1, texts};
-use text_compare::{read, SHORT_TABLE, TABLE_SIZE};
+use text_compare::read;
 
 /// The number of nodes, or refusal 5, 6 or 7, held to the independent reader.
 #[track_caller]
 fn agree(text: &[u8]) -> Result<usize, u32> {
     compared::count();
-    let mut table = [0xA5A5_A5A5; TABLE_SIZE + 2];
-    let found = read(text, &mut table[1..=TABLE_SIZE]);
+    let found = read(text);
     let expected = accepted(text).map(|node| node.parts().len()).map_err(|refused| refused.number);
     assert_eq!(found, expected, "'{}' in case {:?}", text.escape_ascii(), support::cases::current());
-    assert_eq!((table[0], table[TABLE_SIZE + 1]), (0xA5A5_A5A5, 0xA5A5_A5A5), "numbers beside the table were touched");
     found
 }
 
@@ -157,18 +155,6 @@ fn limits() {
     assert_eq!(agree(&vec![b'('; 100_000]), Err(5));
 }
 
-#[test]
-fn short_tables_are_refused_and_stay() {
-    for size in [0, 1, 4, TABLE_SIZE - 4, TABLE_SIZE - 1] {
-        let mut table = vec![7; size];
-        assert_eq!(read(b"A=v", &mut table), Err(SHORT_TABLE));
-        assert_eq!(table, vec![7; size]);
-    }
-    for size in [TABLE_SIZE, TABLE_SIZE + 1] {
-        assert_eq!(read(b"A=v|B=v", &mut vec![7; size]), Ok(3));
-    }
-}
-
 /// The deepest texts: read whole before they are refused.
 fn deepest() -> Vec<String> {
     vec![
@@ -193,11 +179,10 @@ fn deepest() -> Vec<String> {
 fn deepest_texts_on_the_stack_that_the_header_names() {
     let mut seen = Vec::new();
     for text in deepest() {
-        let (mut table, mut again) = (vec![0; TABLE_SIZE], vec![0; TABLE_SIZE]);
-        let expected = read(text.as_bytes(), &mut table);
+        let expected = read(text.as_bytes());
         let mut found = None;
-        on_stack_of(header::stack("QUESTION"), &mut || found = Some(read(text.as_bytes(), &mut again)));
-        assert_eq!((found, again), (Some(expected), table), "{text}");
+        on_stack_of(header::stack("QUESTION"), &mut || found = Some(read(text.as_bytes())));
+        assert_eq!(found, Some(expected), "{text}");
         seen.push(expected);
     }
     assert!(seen.contains(&Err(7)) && seen.contains(&Err(6)) && seen.contains(&Ok(1)));
@@ -207,9 +192,8 @@ fn deepest_texts_on_the_stack_that_the_header_names() {
 fn peak_stack_of_the_deepest_texts() {
     let mut most = 0;
     for text in deepest() {
-        let mut table = vec![0; TABLE_SIZE];
         let peak = painted::peak(&mut || {
-            let _ = read(text.as_bytes(), &mut table);
+            let _ = read(text.as_bytes());
         });
         let shown = if text.len() > 12 { format!("{}..", &text[..12]) } else { text.clone() };
         println!("text_read of {shown} ({} bytes): {peak} bytes of stack", text.len());

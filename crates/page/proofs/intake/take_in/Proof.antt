@@ -1,10 +1,10 @@
 -- Past the limit only the length is kept.
 use Prim.Native.Nat.{_-_}
-use Rattle.page.specs.IntakeLaws.{intake-over, stands-within}
+use Rattle.page.specs.IntakeLaws.{intake-over, stands-within, puts-behind}
 use borrow.Author.Needs.{needs}
 use lib.ListN.{length}
 use lib.Seq.{length-take-le}
-use mathlib.Core.Path.{sym}
+use mathlib.Core.Path.{refl, sym}
 use native.Mathlib.Omega.{arith}
 use Rattle.page.proofs.intake.take_in.Statement.{statement}
 use Rattle.page.proofs.intake.take_in.Tie as tie
@@ -27,7 +27,10 @@ returns c =
     let store = s .args .store .now in
     let piece = s .args .piece .now in
     let limit = length store - 32 in (
-      λ blocks seen e st. intake-over blocks seen piece store (s .args .n) limit e st (omega (arith, s .pre .0)) (omega (arith, c .if1 .taken)),
+      record {
+        stands = λ blocks seen e st. intake-over blocks seen piece store (s .args .n) limit e st (omega (arith, s .pre .0)) (omega (arith, c .if1 .taken));
+        behind = refl;
+      },
       (omega (arith, s .pre .0), sym (length-take-le _ store (omega (arith, s .pre .0)))),
     )
 
@@ -42,7 +45,10 @@ returns-2 c =
     let s = c .before .before .before .before .before .before .before in
     let store = s .args .store .now in
     let b = c .before .before .bytes in (
-      λ blocks seen e st. stands-within blocks seen (s .args .piece .now) store (s .args .n) st (b .last .0) (b .result) (omega (arith, c .before .before .before .before .if1 .left)) (s .pre .1) (b .ensures),
+      record {
+        stands = λ blocks seen e st. stands-within blocks seen (s .args .piece .now) store (s .args .n) st (b .last .0) (b .result) (omega (arith, c .before .before .before .before .if1 .left)) (s .pre .1) (b .ensures);
+        behind = puts-behind (s .args .piece .now) store (s .args .n) (b .last .0) (b .result) (s .pre .1) (b .ensures);
+      },
       (omega (arith, s .pre .0, c .before .before .before .before .if1 .left, b .ensures .behind, b .kept .0), sym (length-take-le (b .result) (b .last .0) (omega (arith, s .pre .0, c .before .before .before .before .if1 .left, b .ensures .behind, b .kept .0)))),
     )
 
