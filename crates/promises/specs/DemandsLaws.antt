@@ -28,7 +28,6 @@ use Rattle.text.specs.Syntax.{Text}
 use Rattle.text.specs.Grammar.{ReadsWhole}
 use Rattle.text.specs.Told.{textLines}
 use Rattle.meaning.specs.Alike.{Plain}
-use Rattle.meaning.specs.AlikeLaws.{alike-same}
 use Rattle.meaning.specs.Meaning.{Holds}
 use Rattle.question.specs.Question.{read, answer, askingLines, setLines, questionOf}
 use Rattle.question.specs.AnswerLaws.{answered-accepted}
@@ -51,7 +50,8 @@ use Rattle.promises.specs.Table.{Request, question, degree, pair, thin, 
 use Rattle.promises.specs.TableLaws.{number-bounds, Agree, Told, met-there, judged-told}
 use Rattle.promises.specs.CallLinesLaws.{InPlace, in-its-place, answer-is, agree-asked, agree-question, agree-degree, agree-pair, agree-marks, agree-thin}
 use Rattle.promises.specs.OperatorLaws.{unwritten-flat}
-use Rattle.promises.specs.QuestionAsFullLaws.{some-readings, kept-noRecord, readings-alike, kept-accepted, kept-question}
+use Rattle.promises.specs.StandIn.{StandIn}
+use Rattle.promises.specs.StandInLaws.{stand-same, stand-question, kept-stands, kept-accepted}
 use Rattle.promises.specs.Demands.{Judged, Answered, Demand1, Fixed, Demand2, Returned, left, Thinned, heldAt, Lasts, StandsIn, Demand3, Demands}
 
 -- ---- DEMAND 1: the number that is returned
@@ -266,21 +266,13 @@ thinned-calls marks held (c ∷ cs) (x ∷ xs) t =
 lasts-plain : (marks text : List ℕ) → Lasts marks text → (t : Text) → ReadsWhole text t → Plain (marksOf marks) t
 lasts-plain marks text l t r = record { flat = unwritten-flat text t r (l .no-operator); marked = l .marked t r }
 
--- of a recording of any length whose kept readings are accepted
-kept-in-place : (marks full text : List ℕ) → Accepted (keptBytes (marksOf marks) full) → Lasts marks text → InPlace full (keptBytes (marksOf marks) full) text
-kept-in-place marks full text a l =
-    let ks : List ℕ = marksOf marks in
-    let kept : List ℕ = keptBytes ks full in
-    let e : eqb (length (records kept)) 0 ≡ eqb (length (records full)) 0 = ap (λ (x : Line). x .meets) (kept-noRecord ks full) in
-    record {
-      accepted = a;
-      empty = (
-        λ z. eqb-true (length (records full)) 0 (sym e ∙ eq-eqb (length (records kept)) 0 z),
-        λ z. eqb-true (length (records kept)) 0 (e ∙ eq-eqb (length (records full)) 0 z),
-      );
-      same = λ some sized t r.
-          alike-same (readings-alike ks full) (some-readings kept some) (some-readings full (sym e ∙ some)) t (lasts-plain marks text l t r);
-    }
+-- a stand-in is in the recording's place for every such text
+in-place : (marks full held text : List ℕ) → StandIn (marksOf marks) full held → Lasts marks text → InPlace full held text
+in-place marks full held text s l = record {
+  accepted = s .accepted;
+  empty = s .empty;
+  same = λ some sized t r. stand-same (marksOf marks) full held s some t (lasts-plain marks text l t r);
+}
 
 stands-in : (full held text out : List ℕ) → InPlace full held text → (r : ℕ) (after : List ℕ) → QuestionCall held text out r after
     → StandsIn full text out acceptedOrder r after
@@ -333,7 +325,9 @@ bad-calls marks bad (c ∷ cs) (x ∷ xs) t =
 
 module _ (marks recording text : List ℕ) (a : Accepted recording) (l : Lasts marks text) where
   kept-same : (room : ℕ) → questionOf (keptBytes (marksOf marks) recording) text room ≡ questionOf recording text room
-  kept-same room = kept-question marks recording text a (λ n. lasts-plain marks text l (read text) (read-reads text (n .1 .0))) room
+  kept-same room =
+      stand-question marks recording (keptBytes (marksOf marks) recording) (kept-stands (marksOf marks) recording (kept-accepted (marksOf marks) recording a)) a text
+      (λ n. lasts-plain marks text l (read text) (read-reads text (n .1 .0))) room
 
   kept-call : (out : List ℕ) (r : ℕ) (after : List ℕ) → QuestionCall (keptBytes (marksOf marks) recording) text out r after → QuestionCall recording text out r after
   kept-call out r after w = subst (λ (o : Outcome (List ℕ)). Writes o out r after) (kept-same (length out)) w
@@ -390,7 +384,7 @@ demand-3 marks = record {
       let ks : List ℕ = marksOf marks in
       let join : List ℕ = joinAfter ks [] cs in
       let held : heldAt [] xs ≡ keptBytes ks join = thinned-calls marks [] cs xs t .1 ∙ as-the-book marks fine cs .held in
-      stands-in join (keptBytes ks join) text out (kept-in-place marks join text (accepted-after ks cs [] refl (nothing-accepted ks)) l) r after
+      stands-in join (keptBytes ks join) text out (in-place marks join (keptBytes ks join) text (kept-stands ks join (accepted-after ks cs [] refl (nothing-accepted ks))) l) r after
       (subst (λ (h : List ℕ). QuestionCall h text out r after) held w);
   bad-marks = bad-calls marks;
 }
