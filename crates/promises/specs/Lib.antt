@@ -1,4 +1,5 @@
 pub mod Table
+pub mod CallsMade
 pub mod Demands
 pub mod KeptAsFull
 pub mod StandIn
