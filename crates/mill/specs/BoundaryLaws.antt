@@ -19,7 +19,8 @@ use Rattle.recording.specs.declared.Written.{Written}
 use Rattle.recording.specs.RecordLaws.{length-flat, length-records}
 use Rattle.recording.specs.OutcomeLaws.{result-none, none-append}
 use Rattle.kept.specs.Kept.{keptFor}
-use Rattle.thin.specs.Thin.{keptBytes, marksOf, marksLine, thinOf}
+use Rattle.thin.specs.Thin.{keptBytes, thinOf}
+use Rattle.marks.specs.Marks.{marksOf, marksLine}
 use Rattle.thin.specs.BookLaws.{kept-sixteens}
 use Rattle.tops.specs.Tops.{curveOf}
 use Rattle.runset.specs.Runs.{setBytes}

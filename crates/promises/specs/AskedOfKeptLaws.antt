@@ -15,8 +15,8 @@ use Rattle.meaning.specs.Alike.{markIndex}
 use Rattle.question.specs.Question.{read}
 use Rattle.question.specs.MeantLaws.{reads-read}
 use Rattle.thin.specs.R1Calls.{mark40}
-use Rattle.thin.specs.Thin.{marksOf}
-use Rattle.promises.specs.Demands.{operators, Lasts}
+use Rattle.marks.specs.Marks.{marksOf}
+use Rattle.promises.specs.Demands.{fiveLetters, AskedOfKept}
 
 -- a test for it, which is computed
 
@@ -33,7 +33,7 @@ allAmong [] l = true
 allAmong (b ∷ w) l = among b l && allAmong w l
 
 abbrev mayBeAsked : (marks text : List ℕ) → Bool
-mayBeAsked marks text = noneAmong text operators && allAmong (afterTimes (read text)) (map markIndex (marksOf marks))
+mayBeAsked marks text = noneAmong text fiveLetters && allAmong (afterTimes (read text)) (map markIndex (marksOf marks))
 
 member-among : (b : ℕ) (l : List ℕ) → List·Memᴰ b l → among b l ≡ true
 member-among b [] m = absurd (List·Memᴰ·not-nil m)
@@ -64,13 +64,13 @@ all-among (x ∷ w) l e b i = ⊎-elim
     (λ (h : b ≡ x). among-member b l (subst (λ (y : ℕ). among y l ≡ true) (sym h) (and-left (among x l) (allAmong w l) e)))
     (λ h. all-among w l (and-right (among x l) (allAmong w l) e) b h) (List·Memᴰ·cases-cons i)
 
-asked-lasts : (marks text : List ℕ) → mayBeAsked marks text ≡ true → Lasts marks text
-asked-lasts marks text e =
+asked-may : (marks text : List ℕ) → mayBeAsked marks text ≡ true → AskedOfKept marks text
+asked-may marks text e =
     let ks : List ℕ = map markIndex (marksOf marks) in
     record {
-      no-operator = none-among text operators (and-left (noneAmong text operators) (allAmong (afterTimes (read text)) ks) e);
+      none-written = none-among text fiveLetters (and-left (noneAmong text fiveLetters) (allAmong (afterTimes (read text)) ks) e);
       marked = λ t r. subst (λ p. (k : ℕ) → List·Memᴰ k (afterTimes p) → List·Memᴰ k ks) (reads-read text t r)
-          (all-among (afterTimes (read text)) ks (and-right (noneAmong text operators) (allAmong (afterTimes (read text)) ks) e));
+          (all-among (afterTimes (read text)) ks (and-right (noneAmong text fiveLetters) (allAmong (afterTimes (read text)) ks) e));
     }
 
 -- the ten listed questions, and texts made of them
@@ -91,21 +91,21 @@ askedTexts =
     ∷ bytes "!lowafter(B,40)"
     ∷ []
 
-abbrev pub AllLast : (marks : List ℕ) → List (List ℕ) → Type 0
-AllLast marks [] = Unit {0}
-AllLast marks (text ∷ texts) = Lasts marks text × AllLast marks texts
+abbrev pub AllAsked : (marks : List ℕ) → List (List ℕ) → Type 0
+AllAsked marks [] = Unit {0}
+AllAsked marks (text ∷ texts) = AskedOfKept marks text × AllAsked marks texts
 
 abbrev allAsked : (marks : List ℕ) → List (List ℕ) → Bool
 allAsked marks [] = true
 allAsked marks (text ∷ texts) = mayBeAsked marks text && allAsked marks texts
 
-all-last : (marks : List ℕ) (texts : List (List ℕ)) → allAsked marks texts ≡ true → AllLast marks texts
-all-last marks [] e = tt
-all-last marks (text ∷ texts) e = (
-  asked-lasts marks text (and-left (mayBeAsked marks text) (allAsked marks texts) e),
-  all-last marks texts (and-right (mayBeAsked marks text) (allAsked marks texts) e),
+all-asked : (marks : List ℕ) (texts : List (List ℕ)) → allAsked marks texts ≡ true → AllAsked marks texts
+all-asked marks [] e = tt
+all-asked marks (text ∷ texts) e = (
+  asked-may marks text (and-left (mayBeAsked marks text) (allAsked marks texts) e),
+  all-asked marks texts (and-right (mayBeAsked marks text) (allAsked marks texts) e),
 )
 
-pub asked-of-kept : AllLast mark40 askedTexts
+pub asked-of-kept : AllAsked mark40 askedTexts
 unfolding marksOf reading parse unsignedAt numberAt operandAt comparisonAt timedAt argumentsAt namedAt headedAt leafAt
-asked-of-kept = all-last mark40 askedTexts refl
+asked-of-kept = all-asked mark40 askedTexts refl

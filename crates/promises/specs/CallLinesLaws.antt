@@ -42,7 +42,8 @@ use Rattle.question.specs.Meant.{LinesMean}
 use Rattle.question.specs.MeantLaws.{read-reads, reads-read, lines-mean}
 use Rattle.degree.specs.Degree.{targetLine}
 use Rattle.pair.specs.Pair.{pairLines, acceptedLines}
-use Rattle.thin.specs.Thin.{keptBytes, marksOf, some, mostMarks, latestMark, marksLine}
+use Rattle.thin.specs.Thin.{keptBytes}
+use Rattle.marks.specs.Marks.{marksOf, some, mostMarks, latestMark, marksLine}
 use Rattle.promises.specs.Table.{Request, question, degree, pair, thin, recordingIn, textIn, OfAxis, OpenTooDeep, acceptedOrder, order}
 use Rattle.promises.specs.TableLaws.{Agrees, Agree, agree-recording}
 

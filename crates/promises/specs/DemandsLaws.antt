@@ -21,6 +21,7 @@ use Rattle.recording.specs.Output.{counted, outputAfter, outputLine}
 use Rattle.recording.specs.OutcomeLaws.{judged-pass, result-none, none-append, no-result}
 use Rattle.runset.specs.Runs.{setBytes}
 use Rattle.runset.specs.Written.{inBytes}
+use Rattle.runset.specs.RunsLaws.{setBytes-ext}
 use Rattle.runset.specs.WrittenLaws.{written-member, member-written}
 use Rattle.targets.specs.Target.{offAxis}
 use Rattle.targets.specs.TargetLaws.{sub-above, sub-below}
@@ -28,36 +29,41 @@ use Rattle.text.specs.Syntax.{Text}
 use Rattle.text.specs.Grammar.{ReadsWhole}
 use Rattle.text.specs.Told.{textLines}
 use Rattle.meaning.specs.Alike.{Plain}
-use Rattle.meaning.specs.AlikeLaws.{alike-same}
+use Rattle.meaning.specs.BoolLaws.{same}
 use Rattle.meaning.specs.Meaning.{Holds}
 use Rattle.question.specs.Question.{read, answer, askingLines, setLines, questionOf}
 use Rattle.question.specs.AnswerLaws.{answered-accepted}
 use Rattle.question.specs.MeantLaws.{read-reads, reads-read}
+use Rattle.degree.specs.Nearest.{Near}
+use Rattle.degree.specs.NearestLaws.{nearness-says}
 use Rattle.degree.specs.Degree.{Value, met, short, noValue, valueOf, targetLine, nearnessOf}
 use Rattle.meaning.specs.Coded.{index}
 use Rattle.pair.specs.Pair.{Given, times, none, firstPair, pairLines, pairOf}
 use Rattle.tops.specs.Tops.{curveOf}
-use Rattle.thin.specs.Thin.{keptBytes, marksOf, marksLine, AcceptedMarks, thinOf}
+use Rattle.thin.specs.Thin.{keptBytes, thinOf}
+use Rattle.marks.specs.Marks.{marksOf, marksLine, AcceptedMarks}
 use Rattle.thin.specs.Book.{Call, Left, leaves, thinned, heldNext, calls, heldAfter, entry, joinNext, book, joinAfter}
 use Rattle.thin.specs.BookLaws.{kept-join, taken, whole-next, as-the-book}
 use Rattle.thin.specs.Cut.{wholeFrom, CutBetween, LongEnough, allWritten}
 use Rattle.thin.specs.CutLaws.{as-the-whole}
 use Rattle.reply.specs.Reply.{half, packed, InHalf, numberIn, lowIn, unpacked}
 use Rattle.reply.specs.UnpackedLaws.{Numbered, number-result, low-result, number-refused, low-refused, unpacked-packed}
-use Rattle.mill.specs.Boundary.{Writes, QuestionCall, DegreeCall, PairCall, ThinCall, valueTold, distanceAfter, degreeAfter, told, earlierAfter, laterAfter}
+use Rattle.mill.specs.Boundary.{Writes, Degrees, QuestionCall, DegreeCall, PairCall, ThinCall, valueTold, distanceAfter, degreeAfter, told, earlierAfter, laterAfter}
 use Rattle.mill.specs.BoundaryLaws.{thin-in-half, question-in-half, degree-place, pair-place}
 use Rattle.promises.specs.Table.{Request, question, degree, pair, thin, OfAxis, order, acceptedOrder, NoneMet, FirstMet}
 use Rattle.promises.specs.TableLaws.{number-bounds, Agree, Told, met-there, judged-told}
 use Rattle.promises.specs.CallLinesLaws.{InPlace, in-its-place, answer-is, agree-asked, agree-question, agree-degree, agree-pair, agree-marks, agree-thin}
 use Rattle.promises.specs.OperatorLaws.{unwritten-flat}
-use Rattle.promises.specs.QuestionAsFullLaws.{some-readings, kept-noRecord, readings-alike, kept-accepted, kept-question}
-use Rattle.promises.specs.Demands.{Judged, Answered, Demand1, Fixed, Demand2, Returned, left, Thinned, heldAt, Lasts, StandsIn, Demand3, Demands}
+use Rattle.promises.specs.StandIn.{StandIn}
+use Rattle.promises.specs.StandInLaws.{stand-same, stand-question, kept-stands, kept-accepted}
+use Rattle.promises.specs.CallsMade.{Returned, readOff, CallsMade, heldAt, takenFrom}
+use Rattle.promises.specs.Demands.{ByTheTable, OneAnswer, Demand1, Fixed, SetWritten, Demand2, AskedOfKept, RightOf, EveryList, CutWhole, KeptLikeFull, Demand3, Demands}
 
 -- ---- DEMAND 1: the number that is returned
 
 module _ (q : Request) (ks : List ℕ) where
   -- a packed outcome, judged by the table
-  judged-number : (o : Outcome ℕ) (r : ℕ) → r ≡ packed o → InHalf o → Told q ks o → Judged q ks r
+  judged-number : (o : Outcome ℕ) (r : ℕ) → r ≡ packed o → InHalf o → Told q ks o → ByTheTable q ks r
   judged-number (result n) r e h t =
       let z : numberIn r ≡ 0 = ap numberIn e ∙ number-result n h in
       record { in-64-bits = omega arith; a-result = (λ k. t, λ k. z); a-refusal = λ k. absurd (k z) }
@@ -114,10 +120,10 @@ thin-told bytes marks room =
 
 -- a call that writes bytes
 writes-answered : (q : Request) (o : Outcome (List ℕ)) (out : List ℕ) (r : ℕ) (after : List ℕ) → Told q (order q) o → InHalf (counted o) → Writes o out r after
-    → Answered q r out after
+    → OneAnswer q r out after
 writes-answered q o out r after t h w = record {
-  judged = judged-number q (order q) (counted o) r (w .returned) h (told-counted q (order q) o t);
-  unwritten = kept-output o out r after h w;
+  result-or-refusal = judged-number q (order q) (counted o) r (w .returned) h (told-counted q (order q) o t);
+  refusal-writes-nothing = kept-output o out r after h w;
 }
 
 degree-told : (bytes text : List ℕ) (target : ℤ) → Told (degree bytes text target) (order (degree bytes text target)) (nearnessOf bytes text target)
@@ -128,7 +134,7 @@ degree-told bytes text target =
 
 -- the two places of the degree call
 degree-answered : (bytes text : List ℕ) (target : ℤ) (distance degree′ r first second : ℕ) → DegreeCall bytes text target distance degree′ r first second
-    → Answered (degree bytes text target) r (distance ∷ degree′ ∷ []) (first ∷ second ∷ [])
+    → OneAnswer (degree bytes text target) r (distance ∷ degree′ ∷ []) (first ∷ second ∷ [])
 degree-answered bytes text target distance degree′ r first second d =
     go (nearnessOf bytes text target) refl (degree-told bytes text target) (d .returned) (d .first-place) (d .second-place)
   where
@@ -136,12 +142,12 @@ degree-answered bytes text target distance degree′ r first second d =
     q = degree bytes text target
 
     go : (o : Outcome Value) → nearnessOf bytes text target ≡ o → Told q (order q) o → r ≡ packed (valueTold o) → first ≡ distanceAfter o distance
-        → second ≡ degreeAfter o degree′ → Answered q r (distance ∷ degree′ ∷ []) (first ∷ second ∷ [])
-    go (result met) e t p f s = record { judged = judged-number q (order q) (result 0) r p (omega arith) t; unwritten = λ k. absurd (k (ap numberIn p)) }
-    go (result (short d k)) e t p f s = record { judged = judged-number q (order q) (result 1) r p (omega arith) t; unwritten = λ k. absurd (k (ap numberIn p)) }
-    go (result noValue) e t p f s = record { judged = judged-number q (order q) (result 2) r p (omega arith) t; unwritten = λ k. absurd (k (ap numberIn p)) }
+        → second ≡ degreeAfter o degree′ → OneAnswer q r (distance ∷ degree′ ∷ []) (first ∷ second ∷ [])
+    go (result met) e t p f s = record { result-or-refusal = judged-number q (order q) (result 0) r p (omega arith) t; refusal-writes-nothing = λ k. absurd (k (ap numberIn p)) }
+    go (result (short d k)) e t p f s = record { result-or-refusal = judged-number q (order q) (result 1) r p (omega arith) t; refusal-writes-nothing = λ k. absurd (k (ap numberIn p)) }
+    go (result noValue) e t p f s = record { result-or-refusal = judged-number q (order q) (result 2) r p (omega arith) t; refusal-writes-nothing = λ k. absurd (k (ap numberIn p)) }
     go (refused n i) e t p f s =
-        record { judged = judged-number q (order q) (refused n i) r p (degree-place bytes text target n i e) t; unwritten = λ k. ap₂ (λ (x y : ℕ). x ∷ y ∷ []) f s }
+        record { result-or-refusal = judged-number q (order q) (refused n i) r p (degree-place bytes text target n i e) t; refusal-writes-nothing = λ k. ap₂ (λ (x y : ℕ). x ∷ y ∷ []) f s }
 
 pair-told : (bytes : List ℕ) (curve : ℕ) (target : ℤ) → Told (pair bytes curve target) (order (pair bytes curve target)) (pairOf bytes curve target)
 unfolding pairOf
@@ -151,7 +157,7 @@ pair-told bytes curve target =
 
 -- and of the pair call
 pair-answered : (bytes : List ℕ) (curve : ℕ) (target : ℤ) (earlier later r first second : ℕ) → PairCall bytes curve target earlier later r first second
-    → Answered (pair bytes curve target) r (earlier ∷ later ∷ []) (first ∷ second ∷ [])
+    → OneAnswer (pair bytes curve target) r (earlier ∷ later ∷ []) (first ∷ second ∷ [])
 pair-answered bytes curve target earlier later r first second c =
     go (pairOf bytes curve target) refl (pair-told bytes curve target) (c .returned) (c .first-place) (c .second-place)
   where
@@ -159,19 +165,19 @@ pair-answered bytes curve target earlier later r first second c =
     q = pair bytes curve target
 
     go : (o : Outcome Given) → pairOf bytes curve target ≡ o → Told q (order q) o → r ≡ packed (told o) → first ≡ earlierAfter o earlier
-        → second ≡ laterAfter o later → Answered q r (earlier ∷ later ∷ []) (first ∷ second ∷ [])
-    go (result (times t u)) e h p f s = record { judged = judged-number q (order q) (result 1) r p (omega arith) h; unwritten = λ k. absurd (k (ap numberIn p)) }
-    go (result none) e h p f s = record { judged = judged-number q (order q) (result 0) r p (omega arith) h; unwritten = λ k. absurd (k (ap numberIn p)) }
+        → second ≡ laterAfter o later → OneAnswer q r (earlier ∷ later ∷ []) (first ∷ second ∷ [])
+    go (result (times t u)) e h p f s = record { result-or-refusal = judged-number q (order q) (result 1) r p (omega arith) h; refusal-writes-nothing = λ k. absurd (k (ap numberIn p)) }
+    go (result none) e h p f s = record { result-or-refusal = judged-number q (order q) (result 0) r p (omega arith) h; refusal-writes-nothing = λ k. absurd (k (ap numberIn p)) }
     go (refused n i) e h p f s =
-        record { judged = judged-number q (order q) (refused n i) r p (pair-place bytes curve target n i e) h; unwritten = λ k. ap₂ (λ (x y : ℕ). x ∷ y ∷ []) f s }
+        record { result-or-refusal = judged-number q (order q) (refused n i) r p (pair-place bytes curve target n i e) h; refusal-writes-nothing = λ k. ap₂ (λ (x y : ℕ). x ∷ y ∷ []) f s }
 
 demand-1 : Demand1
 demand-1 = record {
-  question-answered = λ {recording} {text} {out} {r} {after} w.
+  of-question = λ {recording} {text} {out} {r} {after} w.
       writes-answered (question recording text (length out)) (questionOf recording text (length out)) out r after (question-told recording text (length out)) (question-in-half recording text (length out)) w;
-  degree-answered = λ {recording} {text} {target} {distance} {degree′} {r} {first} {second} d. degree-answered recording text target distance degree′ r first second d;
-  pair-answered = λ {recording} {curve} {target} {earlier} {later} {r} {first} {second} c. pair-answered recording curve target earlier later r first second c;
-  thin-answered = λ {recording} {marks} {out} {r} {after} w.
+  of-degree = λ {recording} {text} {target} {distance} {value} {r} {distance-after} {value-after} d. degree-answered recording text target distance value r distance-after value-after d;
+  of-pair = λ {recording} {curve} {target} {earlier} {later} {r} {earlier-after} {later-after} c. pair-answered recording curve target earlier later r earlier-after later-after c;
+  of-thin = λ {recording} {marks} {out} {r} {after} w.
       writes-answered (thin recording marks (length out)) (thinOf recording marks (length out)) out r after (thin-told recording marks (length out)) (thin-in-half recording marks (length out)) w;
 }
 
@@ -218,10 +224,13 @@ module _ (full held text : List ℕ) (place : InPlace full held text) (room : �
               λ w. s .0 (member-written (answer held text) (n .0) (n .1) w),
               λ w. written-member (answer held text) (n .0) (n .1) (s .1 w),
             ));
+        runs = λ f is. sym (k .1) ∙ setBytes-ext (answer held text) f (λ n l.
+            same (answer held text n) (f n) (λ e. is n l .1 (answer-is full held text place some sized n l .0 e))
+            (λ e. answer-is full held text place some sized n l .1 (is n l .0 e)));
       }
 
-demand-2 : (recording text out : List ℕ) (r : ℕ) (after : List ℕ) → QuestionCall recording text out r after → numberIn r ≡ 0 → Demand2 recording text out r after
-demand-2 recording text out r after w z =
+written-set : (recording text out : List ℕ) (r : ℕ) (after : List ℕ) → QuestionCall recording text out r after → numberIn r ≡ 0 → SetWritten recording text out r after
+written-set recording text out r after w z =
     let o : Outcome (List ℕ) = questionOf recording text (length out) in
     let q : Request = question recording text (length out) in
     let b = wrote o out r after (question-in-half recording text (length out))
@@ -234,62 +243,69 @@ demand-2 recording text out r after w z =
     own : (recording text written : List ℕ) → questionOf recording text (length out) ≡ result written → InPlace recording recording text
     own recording text written e = in-its-place recording text (answered-accepted recording text (length out) written e)
 
+degree-meant : (recording text : List ℕ) (target : ℤ) (distance value r first second : ℕ) → DegreeCall recording text target distance value r first second → numberIn r ≡ 0
+    → (x : Value) × Near recording text (index target) x × Degrees (result x) distance value r first second
+degree-meant recording text target distance value r first second d z = go (nearnessOf recording text target) refl
+  where
+    go : (o : Outcome Value) → nearnessOf recording text target ≡ o → (x : Value) × Near recording text (index target) x × Degrees (result x) distance value r first second
+    go (result x) e =
+        (x, nearness-says recording text target x e .2, subst (λ (o : Outcome Value). Degrees o distance value r first second) e d)
+    go (refused n p) e =
+        let q : Request = degree recording text target in
+        let t : Told q (order q) {R = Value} (refused n p) = subst (λ (o : Outcome Value). Told q (order q) o) e (degree-told recording text target) in
+        let b = number-bounds (t .0) in
+        let m = t .2 in
+        let k : numberIn r ≡ n = ap numberIn (d .returned ∙ ap (λ (o : Outcome Value). packed (valueTold o)) e) ∙ number-refused n p (degree-place recording text target n p e) in
+        absurd (omega arith)
+
 -- ---- DEMAND 3: lists of calls
 
 -- what a call leaves is what the definition of thinning gives
-left-thinned : (marks held : List ℕ) (c : Call) (x : Returned) → ThinCall (held ++ c .piece) marks (c .output) (x .number) (x .output) → left x ≡ thinned marks held c
-left-thinned marks held c x w =
+read-thinned : (marks held : List ℕ) (c : Call) (x : Returned) → ThinCall (held ++ c .piece) marks (c .output) (x .returned) (x .output) → readOff x ≡ thinned marks held c
+read-thinned marks held c x w =
     let bytes : List ℕ = held ++ c .piece in
     let room : ℕ = length (c .output) in
     let q : Request = thin bytes marks room in
     let o : Outcome (List ℕ) = thinOf bytes marks room in
-    let e : unpacked (x .number) ≡ counted o = ap unpacked (w .returned)
+    let e : unpacked (x .returned) ≡ counted o = ap unpacked (w .returned)
     ∙ unpacked-packed (counted o) (thin-in-half bytes marks room) (told-numbered q (order q) (counted o) (told-counted q (order q) o (thin-told bytes marks room))) in
     ap₂ (λ (a : Outcome ℕ) (b : List ℕ). record { answer = a; output = b }) e (w .output)
 
-thinned-calls : (marks held : List ℕ) (cs : List Call) (xs : List Returned) → Thinned marks held cs xs
-    → (map left xs ≡ calls marks held cs) × (heldAt held xs ≡ heldAfter marks held cs)
+thinned-calls : (marks held : List ℕ) (cs : List Call) (xs : List Returned) → CallsMade marks held cs xs
+    → (map readOff xs ≡ calls marks held cs) × (heldAt held xs ≡ heldAfter marks held cs)
 thinned-calls marks held [] [] t = (refl, refl)
 thinned-calls marks held [] (x ∷ xs) t = absurd t
 thinned-calls marks held (c ∷ cs) [] t = absurd t
 thinned-calls marks held (c ∷ cs) (x ∷ xs) t =
-    let e = left-thinned marks held c x (t .0) in
-    let k = thinned-calls marks (heldNext held (left x)) cs xs (t .1) in
-    let n : heldNext held (left x) ≡ heldNext held (thinned marks held c) = ap (heldNext held) e in (
+    let e = read-thinned marks held c x (t .0) in
+    let k = thinned-calls marks (heldNext held (readOff x)) cs xs (t .1) in
+    let n : heldNext held (readOff x) ≡ heldNext held (thinned marks held c) = ap (heldNext held) e in (
       ap₂ (λ (y : Left) (ys : List Left). y ∷ ys) e (k .0 ∙ ap (λ (h : List ℕ). calls marks h cs) n),
       k .1 ∙ ap (λ (h : List ℕ). heldAfter marks h cs) n,
     )
 
 -- ---- DEMAND 3: kept readings in the place of the recording
 
-lasts-plain : (marks text : List ℕ) → Lasts marks text → (t : Text) → ReadsWhole text t → Plain (marksOf marks) t
-lasts-plain marks text l t r = record { flat = unwritten-flat text t r (l .no-operator); marked = l .marked t r }
+asked-plain : (marks text : List ℕ) → AskedOfKept marks text → (t : Text) → ReadsWhole text t → Plain (marksOf marks) t
+asked-plain marks text l t r = record { flat = unwritten-flat text t r (l .none-written); marked = l .marked t r }
 
--- of a recording of any length whose kept readings are accepted
-kept-in-place : (marks full text : List ℕ) → Accepted (keptBytes (marksOf marks) full) → Lasts marks text → InPlace full (keptBytes (marksOf marks) full) text
-kept-in-place marks full text a l =
-    let ks : List ℕ = marksOf marks in
-    let kept : List ℕ = keptBytes ks full in
-    let e : eqb (length (records kept)) 0 ≡ eqb (length (records full)) 0 = ap (λ (x : Line). x .meets) (kept-noRecord ks full) in
-    record {
-      accepted = a;
-      empty = (
-        λ z. eqb-true (length (records full)) 0 (sym e ∙ eq-eqb (length (records kept)) 0 z),
-        λ z. eqb-true (length (records kept)) 0 (e ∙ eq-eqb (length (records full)) 0 z),
-      );
-      same = λ some sized t r.
-          alike-same (readings-alike ks full) (some-readings kept some) (some-readings full (sym e ∙ some)) t (lasts-plain marks text l t r);
-    }
+-- a stand-in is in the recording's place for every such text
+in-place : (marks full held text : List ℕ) → StandIn (marksOf marks) full held → AskedOfKept marks text → InPlace full held text
+in-place marks full held text s l = record {
+  accepted = s .accepted;
+  empty = s .empty;
+  same = λ some sized t r. stand-same (marksOf marks) full held s some t (asked-plain marks text l t r);
+}
 
 stands-in : (full held text out : List ℕ) → InPlace full held text → (r : ℕ) (after : List ℕ) → QuestionCall held text out r after
-    → StandsIn full text out acceptedOrder r after
+    → RightOf full text out acceptedOrder r after
 stands-in full held text out place r after w =
     let o : Outcome (List ℕ) = questionOf held text (length out) in
     let q : Request = question full text (length out) in
     let t : Told q acceptedOrder (counted o) = told-counted q acceptedOrder o (stood-told full held text place (length out)) in
     let h : InHalf (counted o) = question-in-half held text (length out) in
     record {
-      judged = judged-number q acceptedOrder (counted o) r (w .returned) h t;
+      refusal = judged-number q acceptedOrder (counted o) r (w .returned) h t;
       set = λ z. let b = wrote o out r after h (told-numbered q acceptedOrder (counted o) t) w z in
           subst (Fixed full text) (sym (b .3)) (stood-fixed full held text place (length out) (b .0) (b .1));
     }
@@ -311,28 +327,30 @@ nothing-accepted ks = (refl, (refl, (refl, tt)))
 
 -- ---- DEMAND 3: marks that 11 refuses
 
-bad-calls : (marks : List ℕ) → marksLine marks .meets ≡ true → (cs : List Call) (xs : List Returned) → Thinned marks [] cs xs
-    → ((x : Returned) → List·Memᴰ x xs → ¬ (numberIn (x .number) ≡ 0)) × (heldAt [] xs ≡ [])
+bad-calls : (marks : List ℕ) → marksLine marks .meets ≡ true → (cs : List Call) (xs : List Returned) → CallsMade marks [] cs xs
+    → ((x : Returned) → List·Memᴰ x xs → ¬ (numberIn (x .returned) ≡ 0)) × (heldAt [] xs ≡ [])
 bad-calls marks bad [] [] t = (λ x m. absurd (List·Memᴰ·not-nil m), refl)
 bad-calls marks bad [] (x ∷ xs) t = absurd t
 bad-calls marks bad (c ∷ cs) [] t = absurd t
 bad-calls marks bad (c ∷ cs) (x ∷ xs) t =
-    let not-0 : ¬ (numberIn (x .number) ≡ 0) = λ z. demand-1 .thin-answered (t .0) .judged .a-result .0 z BadMarks
+    let not-0 : ¬ (numberIn (x .returned) ≡ 0) = λ z. demand-1 .of-thin (t .0) .result-or-refusal .a-result .0 z BadMarks
     (List·Memᴰ·tail (List·Memᴰ·tail (List·Memᴰ·tail (List·Memᴰ·head refl)))) (agree-marks (c .piece) marks (length (c .output)) .met bad) in
-    let none-held : heldNext [] (left x) ≡ [] = ap (λ (b : Bool). heldNext [] (record {
-      answer = cond b (result (lowIn (x .number))) (refused (numberIn (x .number)) (lowIn (x .number)));
+    let none-held : heldNext [] (readOff x) ≡ [] = ap (λ (b : Bool). heldNext [] (record {
+      answer = cond b (result (lowIn (x .returned))) (refused (numberIn (x .returned)) (lowIn (x .returned)));
       output = x .output;
-    })) (ne-eqb (numberIn (x .number)) 0 not-0) in
-    let k = bad-calls marks bad cs xs (subst (λ (h : List ℕ). Thinned marks h cs xs) none-held (t .1)) in (
-      λ y m. ⊎-elim (λ (e : y ≡ x). λ z. not-0 (ap (λ (w : Returned). numberIn (w .number)) (sym e) ∙ z)) (λ i. k .0 y i) (List·Memᴰ·cases-cons m),
+    })) (ne-eqb (numberIn (x .returned)) 0 not-0) in
+    let k = bad-calls marks bad cs xs (subst (λ (h : List ℕ). CallsMade marks h cs xs) none-held (t .1)) in (
+      λ y m. ⊎-elim (λ (e : y ≡ x). λ z. not-0 (ap (λ (w : Returned). numberIn (w .returned)) (sym e) ∙ z)) (λ i. k .0 y i) (List·Memᴰ·cases-cons m),
       ap (λ (h : List ℕ). heldAt h xs) none-held ∙ k .1,
     )
 
 -- ---- DEMAND 3: kept as full
 
-module _ (marks recording text : List ℕ) (a : Accepted recording) (l : Lasts marks text) where
+module _ (marks recording text : List ℕ) (a : Accepted recording) (l : AskedOfKept marks text) where
   kept-same : (room : ℕ) → questionOf (keptBytes (marksOf marks) recording) text room ≡ questionOf recording text room
-  kept-same room = kept-question marks recording text a (λ n. lasts-plain marks text l (read text) (read-reads text (n .1 .0))) room
+  kept-same room =
+      stand-question marks recording (keptBytes (marksOf marks) recording) (kept-stands (marksOf marks) recording (kept-accepted (marksOf marks) recording a)) a text
+      (λ n. asked-plain marks text l (read text) (read-reads text (n .1 .0))) room
 
   kept-call : (out : List ℕ) (r : ℕ) (after : List ℕ) → QuestionCall (keptBytes (marksOf marks) recording) text out r after → QuestionCall recording text out r after
   kept-call out r after w = subst (λ (o : Outcome (List ℕ)). Writes o out r after) (kept-same (length out)) w
@@ -368,29 +386,81 @@ same-written recording text out out′ r r′ after after′ e w w′ = (
 
 -- ---- DEMAND 3
 
+-- the pieces taken are those that the book takes
+taken-join : (marks held : List ℕ) (cs : List Call) (xs : List Returned) (join : List ℕ) → map readOff xs ≡ book marks join cs → takenFrom join cs xs ≡ joinAfter marks join cs
+taken-join marks held [] xs join e = refl
+taken-join marks held (c ∷ cs) [] join e = absurd (let z = ap length e in omega arith)
+taken-join marks held (c ∷ cs) (x ∷ xs) join e =
+    let parts = same-cons (readOff x) (leaves (entry marks join c) c) (map readOff xs) (book marks (joinNext join c (entry marks join c)) cs) e in
+    let n : cond (eqb (numberIn (x .returned)) 0) (join ++ c .piece) join ≡ joinNext join c (entry marks join c) = next (entry marks join c) (ap (λ (l : Left). l .answer) (parts .0)) in
+    ap (λ (j : List ℕ). takenFrom j cs xs) n ∙ taken-join marks held cs xs (joinNext join c (entry marks join c)) (parts .1)
+  where
+    same-cons : (a b : Left) (l m : List Left) → (a ∷ l) ≡ (b ∷ m) → (a ≡ b) × (l ≡ m)
+    same-cons a b l m e = (cc, cc)
+
+    next : (o : Outcome (List ℕ)) → unpacked (x .returned) ≡ counted o → cond (eqb (numberIn (x .returned)) 0) (join ++ c .piece) join ≡ joinNext join c o
+    next o = go (eqb (numberIn (x .returned)) 0) o
+      where
+        go : (b : Bool) (o : Outcome (List ℕ)) → cond b (result (lowIn (x .returned))) (refused (numberIn (x .returned)) (lowIn (x .returned))) ≡ counted o
+            → cond b (join ++ c .piece) join ≡ joinNext join c o
+        go true (result b) e = refl
+        go true (refused n p) e = no-result n p (lowIn (x .returned)) (sym e)
+        go false (result b) e = no-result (numberIn (x .returned)) (lowIn (x .returned)) (length b) e
+        go false (refused n p) e = refl
+
+-- calls that all write are not refused
+all-given : (marks join : List ℕ) (cs : List Call) (xs : List Returned) → map readOff xs ≡ allWritten marks join cs → (x : Returned) → List·Memᴰ x xs → numberIn (x .returned) ≡ 0
+all-given marks join cs [] e x m = absurd (List·Memᴰ·not-nil m)
+all-given marks join [] (y ∷ ys) e x m = absurd (let z = ap length e in omega arith)
+all-given marks join (c ∷ cs) (y ∷ ys) e x m = ⊎-elim
+    (λ (q : x ≡ y). ap (λ (w : Returned). numberIn (w .returned)) q ∙ given (eqb (numberIn (y .returned)) 0) refl (ap answer-of (first-of (readOff y) (leaves (result (keptBytes marks (join ++ c .piece))) c) (map readOff ys) _ e)))
+    (λ i. all-given marks (join ++ c .piece) cs ys (rest-of (readOff y) (leaves (result (keptBytes marks (join ++ c .piece))) c) (map readOff ys) _ e) x i) (List·Memᴰ·cases-cons m)
+  where
+    answer-of : Left → Outcome ℕ
+    answer-of l = l .answer
+
+    first-of : (a b : Left) (l m : List Left) → (a ∷ l) ≡ (b ∷ m) → a ≡ b
+    first-of a b l m e = cc
+
+    rest-of : (a b : Left) (l m : List Left) → (a ∷ l) ≡ (b ∷ m) → l ≡ m
+    rest-of a b l m e = cc
+
+    given : (b : Bool) → eqb (numberIn (y .returned)) 0 ≡ b → unpacked (y .returned) ≡ result (length (keptBytes marks (join ++ c .piece))) → numberIn (y .returned) ≡ 0
+    given true h e = eqb-true (numberIn (y .returned)) 0 h
+    given false h e = no-result (numberIn (y .returned)) (lowIn (y .returned)) (length (keptBytes marks (join ++ c .piece)))
+        (sym (ap (λ (b : Bool). cond b (result (lowIn (y .returned))) (refused (numberIn (y .returned)) (lowIn (y .returned)))) h) ∙ e)
+
+list-as-book : (marks : List ℕ) → AcceptedMarks marks → (cs : List Call) (xs : List Returned) → CallsMade marks [] cs xs → EveryList marks cs xs
+list-as-book marks fine cs xs t =
+    let k = thinned-calls marks [] cs xs t in
+    let b = as-the-book marks fine cs in
+    let e : map readOff xs ≡ book (marksOf marks) [] cs = k .0 ∙ b .answers in
+    record { as-the-book = e; held = k .1 ∙ b .held ∙ ap (keptBytes (marksOf marks)) (sym (taken-join (marksOf marks) [] cs xs [] e)) }
+
 demand-3 : (marks : List ℕ) → Demand3 marks
 demand-3 marks = record {
-  every-list = λ fine cs xs t.
-      let k = thinned-calls marks [] cs xs t in
-      let b = as-the-book marks fine cs in
-      (k .0 ∙ b .answers, k .1 ∙ b .held);
+  every-list = list-as-book marks;
   cut = λ fine cs xs t a between long.
       let k = thinned-calls marks [] cs xs t in
       let w = as-the-whole marks fine cs a between long in
-      (k .0 ∙ w .answers, k .1 ∙ w .held);
+      let e : map readOff xs ≡ allWritten (marksOf marks) [] cs = k .0 ∙ w .answers in
+      record { none-refused = all-given (marksOf marks) [] cs xs e; each-writes = e; held = k .1 ∙ w .held };
   kept-as-full = λ fine {recording} {text} a l {out} {out′} e {r} {r′} {after} {after′} w w′.
       let v = kept-call marks recording text a l out r after w in
-      let s = same-written recording text out out′ r r′ after after′ e v w′ in (
-        s .0,
-        s .1,
-        record { judged = demand-1 .question-answered v .judged; set = λ z. demand-2 recording text out r after v z .set },
-      );
+      let s = same-written recording text out out′ r r′ after after′ e v w′ in
+      record {
+        same = s .0;
+        same-bytes = s .1;
+        right = record { refusal = demand-1 .of-question v .result-or-refusal; set = λ z. written-set recording text out r after v z .set };
+      };
   beyond = λ fine cs xs t {text} l {out} {r} {after} w.
       let ks : List ℕ = marksOf marks in
       let join : List ℕ = joinAfter ks [] cs in
-      let held : heldAt [] xs ≡ keptBytes ks join = thinned-calls marks [] cs xs t .1 ∙ as-the-book marks fine cs .held in
-      stands-in join (keptBytes ks join) text out (kept-in-place marks join text (accepted-after ks cs [] refl (nothing-accepted ks)) l) r after
-      (subst (λ (h : List ℕ). QuestionCall h text out r after) held w);
+      let every = list-as-book marks fine cs xs t in
+      let same-join : takenFrom [] cs xs ≡ join = taken-join ks [] cs xs [] (every .as-the-book) in
+      subst (λ (j : List ℕ). RightOf j text out acceptedOrder r after) (sym same-join)
+      (stands-in join (keptBytes ks join) text out (in-place marks join (keptBytes ks join) text (kept-stands ks join (accepted-after ks cs [] refl (nothing-accepted ks))) l) r after
+      (subst (λ (h : List ℕ). QuestionCall h text out r after) (every .held ∙ ap (keptBytes ks) same-join) w));
   bad-marks = bad-calls marks;
 }
 
@@ -398,6 +468,9 @@ demand-3 marks = record {
 pub demands : Demands
 demands = record {
   one = demand-1;
-  two = λ {recording} {text} {out} {r} {after} w z. demand-2 recording text out r after w z;
+  two = record {
+    set-written = λ {recording} {text} {out} {r} {after} w z. written-set recording text out r after w z;
+    degree-told = λ {recording} {text} target {distance} {value} {r} {distance-after} {value-after} d z. degree-meant recording text target distance value r distance-after value-after d z;
+  };
   three = demand-3;
 }

@@ -31,7 +31,7 @@ use Rattle.meaning.specs.Truth.{someNode, val, refused8, refused9}
 use Rattle.meaning.specs.TruthLaws.{val-holds}
 use Rattle.question.specs.Question.{theText, read, answer, askingLines, setLines, questionOf}
 use Rattle.degree.specs.Degree.{valueOf, targetLine, nearnessOf}
-use Rattle.promises.specs.QuestionAsFullLaws.{judged-behind, same-test, some-readings}
+use Rattle.promises.specs.StandInLaws.{judged-behind, same-test, some-readings}
 use Rattle.promises.specs.FirstSixAsked.{SameOutcome, ReadsAs, FirstSixAsked, Written, sixWritten, Met}
 
 -- 9 refuses none of the first six, and no formula

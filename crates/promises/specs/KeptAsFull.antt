@@ -8,7 +8,7 @@ use Rattle.text.specs.Told.{textLines}
 use Rattle.meaning.specs.Alike.{Plain}
 use Rattle.question.specs.Question.{read, questionOf}
 use Rattle.degree.specs.Degree.{nearnessOf}
-use Rattle.thin.specs.Thin.{marksOf}
+use Rattle.marks.specs.Marks.{marksOf}
 use Rattle.pair.specs.Pair.{pairOf}
 
 -- A text that may be asked of kept readings: where none of 5, 6 and 7 refuses it, it writes none of F, G, X, U and W, and its after-times

@@ -2,7 +2,7 @@
 use Prim.Native.Nat.{ℕ}
 use mathlib.Core.Path.{_≡_}
 use mathlib.Core.List.{List, []}
-use Rattle.thin.specs.Thin.{marksOf}
+use Rattle.marks.specs.Marks.{marksOf}
 use Rattle.thin.specs.Book.{Call, calls, heldAfter}
 use Rattle.thin.specs.Cut.{wholeFrom, allWritten}
 use Rattle.promises.specs.KeptAsFull.{SameAnswers}

@@ -7,7 +7,7 @@ use Rattle.recording.specs.Recording.{Accepted}
 use Rattle.question.specs.Question.{questionOf}
 use Rattle.question.specs.Meant.{Meant}
 use Rattle.question.specs.MeantLaws.{answered-meant}
-use Rattle.thin.specs.Thin.{marksOf, AcceptedMarks}
+use Rattle.marks.specs.Marks.{marksOf, AcceptedMarks}
 use Rattle.thin.specs.Book.{Call, heldAfter, joinAfter}
 use Rattle.thin.specs.Cut.{wholeFrom, CutBetween, LongEnough, AsTheWhole}
 use Rattle.thin.specs.BookLaws.{as-the-book}

@@ -1,14 +1,15 @@
 pub mod Table
+pub mod CallsMade
 pub mod Demands
 pub mod KeptAsFull
+pub mod StandIn
 pub mod Lasting
 pub mod FirstSixAsked
 pub mod MarkedLines
 pub mod TableLaws
 pub mod CallLinesLaws
 pub mod ObservationLaws
-pub mod QuestionAsFullLaws
-pub mod PairAsFullLaws
+pub mod StandInLaws
 pub mod KeptAsFullLaws
 pub mod LastingLaws
 pub mod R1Lasting

@@ -43,7 +43,8 @@ use Rattle.meaning.specs.Truth.{someOf, allOf, codedAt, lastCoded, untilFrom, v
 use Rattle.meaning.specs.TruthLaws.{val-holds}
 use Rattle.meaning.specs.WholeLaws.{Stands, stands-whole, le-index}
 use Rattle.question.specs.Question.{theText, read, answer, askingLines, setLines, questionOf}
-use Rattle.thin.specs.Thin.{keptBytes, marksOf, marksLine, AcceptedMarks, thinOf}
+use Rattle.thin.specs.Thin.{keptBytes, thinOf}
+use Rattle.marks.specs.Marks.{marksOf, marksLine, AcceptedMarks}
 use Rattle.thin.specs.R1Calls.{R1-accepted}
 use Rattle.promises.specs.MarkedLines.{MarkedLine, markedLines, bytesOfRuns, bytesOfMarks, writtenIn, Asked, Thinned, Says}
 

@@ -33,7 +33,7 @@ use Rattle.meaning.specs.Coded.{coded, codedValue, codedAfter}
 use Rattle.meaning.specs.Truth.{truth, val, someNode, refused8, refused9}
 use Rattle.meaning.specs.ExtremeLaws.{Least, least-some}
 use Rattle.question.specs.Question.{read, answer, askingLines, setLines, questionOf}
-use Rattle.thin.specs.Thin.{marksOf}
+use Rattle.marks.specs.Marks.{marksOf}
 use Rattle.thin.specs.Book.{heldAfter}
 use Rattle.thin.specs.R1Calls.{R1-accepted, mark40, mark40-accepted, cuts, cuts-long-enough}
 use Rattle.promises.specs.KeptAsFull.{Askable}

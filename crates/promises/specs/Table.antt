@@ -19,7 +19,8 @@ use Rattle.text.specs.Syntax.{Text}
 use Rattle.text.specs.Grammar.{ReadsWhole}
 use Rattle.text.specs.Size.{nodes, openAt, mostBytes, mostNodes, mostOpen}
 use Rattle.meaning.specs.Overfull.{IsSet, Overfull, TooManyTops as OverTops}
-use Rattle.thin.specs.Thin.{keptBytes, marksOf, mostMarks, latestMark}
+use Rattle.thin.specs.Thin.{keptBytes}
+use Rattle.marks.specs.Marks.{marksOf, mostMarks, latestMark}
 
 -- what a call is handed; of an output its length
 pub data Request : Type 0 where

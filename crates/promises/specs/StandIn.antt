@@ -1,0 +1,14 @@
+-- A recording that stands in for another, of any length: no text that may be asked of kept readings tells the two apart.
+use Prim.Native.Nat.{ℕ}
+use mathlib.Core.Path.{_≡_}
+use mathlib.Core.Logic.{_↔_}
+use mathlib.Core.List.{List}
+use lib.ListN.{length}
+use Rattle.recording.specs.Recording.{records, readings, Accepted}
+use Rattle.meaning.specs.Alike.{Alike}
+
+-- `held` is accepted, as empty as `full`, and has the same observation under these marks
+pub record StandIn (marks full held : List ℕ) : Type 0 where
+  pub accepted : Accepted held
+  pub empty : (length (records held) ≡ 0) ↔ (length (records full) ≡ 0)
+  pub alike : Alike marks (readings held) (readings full)
