@@ -5,8 +5,8 @@ use mathlib.Core.Bool.{Bool, true, false}
 use mathlib.Core.List.{List}
 use lib.ListN.{length}
 use Rattle.runset.specs.Lent.{CutsOf}
-use Rattle.text.specs.Size.{temporal, mostNodes}
-use Rattle.text.specs.Table.{rowAt, treeAt, Falling}
+use Rattle.grammar.specs.Size.{temporal, mostNodes}
+use Rattle.grammar.specs.Table.{rowAt, treeAt, Falling}
 use Rattle.meaning.specs.Coded.{Coded}
 use Rattle.meaning.specs.Truth.{val, largeAt, lastCoded}
 use Rattle.evaluation.specs.Slots.{slot, Sized}

@@ -12,7 +12,7 @@ ghost use lib.ListN.{length};
 ghost use Rattle.runset.specs.Runs.{mostRuns};
 ghost use Rattle.meaning.specs.Coded.{coded};
 ghost use Rattle.evaluation.specs.Askable.{Askable};
-ghost use Rattle.text.specs.Size.{temporal};
+ghost use Rattle.grammar.specs.Size.{temporal};
 ghost use Rattle.evaluation.specs.Evaluate.{Fit, Outcome};
 ghost use Rattle.evaluation.specs.Evaluation.{textOf, Asking, Evaluates};
 use runset::merge::Filled;

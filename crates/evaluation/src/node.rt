@@ -6,7 +6,7 @@ ghost use lib.ListN.{length};
 ghost use Rattle.runset.specs.Runs.{mostRuns};
 ghost use Rattle.runset.specs.Set.{inside};
 ghost use Rattle.runset.specs.Lent.{Lent};
-ghost use Rattle.text.specs.Size.{mostNodes};
+ghost use Rattle.grammar.specs.Size.{mostNodes};
 ghost use Rattle.evaluation.specs.Step.{unaryOf, binaryOf};
 ghost use Rattle.evaluation.specs.Slots.{slot, Sized, Puts};
 

@@ -5,9 +5,9 @@ use mathlib.Core.Bool.{false}
 use mathlib.Core.List.{List}
 use lib.ListN.{length, getD}
 use Rattle.recording.specs.Recording.{Accepted}
-use Rattle.text.specs.Syntax.{Text, listed, lag}
-use Rattle.text.specs.declared.Row.{Row}
-use Rattle.text.specs.Table.{leaves}
+use Rattle.grammar.specs.Syntax.{Text, listed, lag}
+use Rattle.grammar.specs.declared.Row.{Row}
+use Rattle.grammar.specs.Table.{leaves}
 use Rattle.meaning.specs.Truth.{refused9}
 use Rattle.meaning.specs.Coded.{coded}
 

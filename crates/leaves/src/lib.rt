@@ -17,9 +17,9 @@ ghost use Rattle.meaning.specs.Coded.{coded};
 ghost use Rattle.leaves.specs.Leaf.{leafOf, Asked};
 ghost use Rattle.leaves.specs.Span.{Spans};
 use differences::Cuts;
+use grammar::Row;
 use runset::merge::Filled;
 use span::Span;
-use text::Row;
 
 // Leaves with at most one run: kinds 0 to 4, the atoms, and 5 to 8, `high`, `low`, `lowafter` and `capafter`.
 fn spanned(rec: &[u8], i: usize, row: Row) -> Span

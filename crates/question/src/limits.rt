@@ -4,11 +4,11 @@ ghost use Prim.Native.Nat.{ℕ, _*_, _≤_, _<_};
 ghost use lib.ListN.{length};
 ghost use Rattle.recording.specs.Recording.{Accepted};
 ghost use Rattle.tops.specs.Tops as tops;
-ghost use Rattle.text.specs.Table as nodes;
+ghost use Rattle.grammar.specs.Table as nodes;
 ghost use Rattle.meaning.specs.Coded.{coded};
 ghost use Rattle.meaning.specs.Truth.{manyTops, asksTooMany, ofListed, refused9};
 ghost use Rattle.leaves.specs.Leaf.{leafOf};
-use text::Row;
+use grammar::Row;
 
 // Whether the curve has too many tops for differences.
 fn many_tops(rec: &[u8], curve: usize) -> bool
