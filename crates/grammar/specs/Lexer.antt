@@ -13,7 +13,8 @@ use Rattle.grammar.specs.declared.Leaf.the-variants.{Node, Open, Nothing
 use Rattle.grammar.specs.Bytes.{bytes}
 use Rattle.grammar.specs.Classes.{isDigit}
 use Rattle.grammar.specs.Grammar.{decimal}
-use Rattle.grammar.specs.Table.{row}
+use Rattle.grammar.specs.Kinds.{COMPARE-V, COMPARE, A-TO-B, FALL, RISE, HIGH, LOW, LOWAFTER, CAPAFTER, PEAKS, CROSS, AMPL, GAPS, STEPS, LAG, NEXT, FINALLY, GLOBALLY, UNTIL, WEAK-UNTIL, BRACKET}
+use Rattle.grammar.specs.Table.{row, unaryFrom}
 
 -- what stands at a position: the byte, or 0 past the end
 abbrev pub byte : List ℕ → ℕ → ℕ
@@ -52,33 +53,33 @@ fields = curves ++ (word 2 (bytes "T") ∷ [])
 -- the names, by the kinds of their leaves: those of slopes and levels, and those of tops and crossings
 abbrev pub levelNames : List Word
 levelNames =
-    word 3 (bytes "fall(")
-    ∷ word 4 (bytes "rise(")
-    ∷ word 5 (bytes "high(")
-    ∷ word 6 (bytes "low(")
-    ∷ word 7 (bytes "lowafter(")
-    ∷ word 8 (bytes "capafter(")
+    word FALL (bytes "fall(")
+    ∷ word RISE (bytes "rise(")
+    ∷ word HIGH (bytes "high(")
+    ∷ word LOW (bytes "low(")
+    ∷ word LOWAFTER (bytes "lowafter(")
+    ∷ word CAPAFTER (bytes "capafter(")
     ∷ []
 
 abbrev pub topNames : List Word
 topNames =
-    word 9 (bytes "peaks(")
-    ∷ word 10 (bytes "cross")
-    ∷ word 11 (bytes "ampl(")
-    ∷ word 12 (bytes "gaps(")
-    ∷ word 13 (bytes "steps(")
-    ∷ word 14 (bytes "lag")
+    word PEAKS (bytes "peaks(")
+    ∷ word CROSS (bytes "cross")
+    ∷ word AMPL (bytes "ampl(")
+    ∷ word GAPS (bytes "gaps(")
+    ∷ word STEPS (bytes "steps(")
+    ∷ word LAG (bytes "lag")
     ∷ []
 
--- the openings, by the kinds of their nodes; 23 is a bracket, which is no node
+-- the openings, by the kinds of their nodes; a bracket is no node
 abbrev pub openings : List Word
 openings =
-    word 16 (bytes "X(")
-    ∷ word 17 (bytes "F(")
-    ∷ word 18 (bytes "G(")
-    ∷ word 21 (bytes "U(")
-    ∷ word 22 (bytes "W(")
-    ∷ word 23 (bytes "(")
+    word NEXT (bytes "X(")
+    ∷ word FINALLY (bytes "F(")
+    ∷ word GLOBALLY (bytes "G(")
+    ∷ word UNTIL (bytes "U(")
+    ∷ word WEAK-UNTIL (bytes "W(")
+    ∷ word BRACKET (bytes "(")
     ∷ []
 
 -- what a primary text begins with
@@ -125,9 +126,9 @@ closedBy s b r j = cond (eqb (byte s j) b) (Node r (j + 1)) Nothing
 -- what stands at j, behind the field f and the relation r
 unfoldable pub operandAt : List ℕ → ℕ → ℕ → ℕ → Leaf
 operandAt s f r j =
-    cond (eqb (byte s j) 118) (Node (row 0 f r 0) (j + 1))
-    (cond (eqb (byte s j) 66 && eqb f 0) (Node (row 2 0 r 0) (j + 1))
-    (whenFound (numberAt s j) (λ n e. Node (row 1 f r n) e)))
+    cond (eqb (byte s j) 118) (Node (row COMPARE-V f r 0) (j + 1))
+    (cond (eqb (byte s j) 66 && eqb f 0) (Node (row A-TO-B 0 r 0) (j + 1))
+    (whenFound (numberAt s j) (λ n e. Node (row COMPARE f r n) e)))
 
 -- what stands at i, behind the field f
 unfoldable pub comparisonAt : List ℕ → ℕ → ℕ → Leaf
@@ -141,14 +142,14 @@ timedAt s k c j =
 -- the arguments of the name of kind k, from i on
 unfoldable pub argumentsAt : List ℕ → ℕ → ℕ → Leaf
 argumentsAt s k i =
-    whenFound (firstOf curves s i) (λ c j. cond (eqb k 7 || eqb k 8) (timedAt s k c j) (closedBy s 41 (row k c 0 0) j))
+    whenFound (firstOf curves s i) (λ c j. cond (eqb k LOWAFTER || eqb k CAPAFTER) (timedAt s k c j) (closedBy s 41 (row k c 0 0) j))
 
 -- `cross` and `lag` have no arguments
 unfoldable pub namedAt : List ℕ → ℕ → ℕ → Leaf
-namedAt s k i = cond (eqb k 10 || eqb k 14) (Node (row k 0 0 0) i) (argumentsAt s k i)
+namedAt s k i = cond (eqb k CROSS || eqb k LAG) (Node (row k 0 0 0) i) (argumentsAt s k i)
 
 unfoldable pub headedAt : List ℕ → ℕ → ℕ → Leaf
-headedAt s k i = cond (ltb k 3) (comparisonAt s k i) (cond (ltb k 15) (namedAt s k i) (Open k i))
+headedAt s k i = cond (ltb k FALL) (comparisonAt s k i) (cond (ltb k unaryFrom) (namedAt s k i) (Open k i))
 
 -- what stands at i: a leaf, or an opening
 unfoldable pub leafAt : List ℕ → ℕ → Leaf

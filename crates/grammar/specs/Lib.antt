@@ -3,6 +3,7 @@ pub mod Bytes
 pub mod Classes
 pub mod Size
 pub mod Grammar
+pub mod Kinds
 pub mod Table
 pub mod Lexer
 pub mod Parse

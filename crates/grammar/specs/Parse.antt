@@ -9,7 +9,8 @@ use Rattle.grammar.specs.declared.Leaf.{Leaf}
 use Rattle.grammar.specs.declared.Leaf.the-variants.{Node, Open, Nothing}
 use Rattle.grammar.specs.Syntax.{Text, listed, lag}
 use Rattle.grammar.specs.Size.{mixed}
-use Rattle.grammar.specs.Table.{row, build}
+use Rattle.grammar.specs.Kinds.{NOT, OR, AND, BRACKET}
+use Rattle.grammar.specs.Table.{row, build, binaryFrom}
 use Rattle.grammar.specs.Lexer.{byte, leafAt}
 
 -- `|` and `&`
@@ -38,8 +39,8 @@ part ampersands i = not-at i
 
 -- the kind of the node
 abbrev pub joinKind : Joiner → ℕ
-joinKind bars = 19
-joinKind ampersands = 20
+joinKind bars = OR
+joinKind ampersands = AND
 
 -- the tree of a leaf, and that of an operator over its children
 abbrev pub leafOf : Row → Text
@@ -66,8 +67,8 @@ pick false a b = b tt
 -- behind the opening of kind k: a bracket, one text, or two
 abbrev pub opened : ℕ → (ℕ → ℕ → Out) → ℕ → Out
 opened k arg i =
-    pick (eqb k 23) (λ _. arg 41 i)
-    (λ _. pick (ltb k 19) (λ _. after (arg 41 i) (λ p j. got (node k p p) j))
+    pick (eqb k BRACKET) (λ _. arg 41 i)
+    (λ _. pick (ltb k binaryFrom) (λ _. after (arg 41 i) (λ p j. got (node k p p) j))
     (λ _. after (arg 44 i) (λ p j. after (arg 41 j) (λ q e. got (node k p q) e))))
 
 -- what was read of a leaf, or behind an opening
@@ -90,7 +91,7 @@ parse s (suc f) (more o t i) =
     (λ _. got t i)
 parse s (suc f) (not-at i) =
     pick (eqb (byte s i) 33)
-    (λ _. after (parse s f (not-at (i + 1))) (λ t j. got (node 15 t t) j))
+    (λ _. after (parse s f (not-at (i + 1))) (λ t j. got (node NOT t t) j))
     (λ _. parse s f (prim-at i))
 parse s (suc f) (prim-at i) = begun (leafAt s i) (λ b j. parse s f (argument b j))
 parse s (suc f) (argument b i) = after (parse s f (chain bars i)) (closed s b)

@@ -5,6 +5,7 @@ use mathlib.Core.List.{List, [], _∷_, _++_}
 use lib.ListN.{getD}
 use Rattle.recording.specs.Reading.{Curve, A, B}
 use Rattle.grammar.specs.declared.Row.{Row}
+use Rattle.grammar.specs.Kinds.{NOT, OR, BRACKET}
 use Rattle.grammar.specs.Syntax.{Field, of, T, Relation, ge, le, gt, lt, eq, v, number, compare, A-to-B, fall, rise, high, low, lowafter, capafter, peaks, cross, ampl, gaps, steps, lag, Text, atom, listed, or, and, neg, finally, globally, next, until, weakUntil}
 
 abbrev pub row : ℕ → ℕ → ℕ → ℕ → Row
@@ -69,13 +70,13 @@ treeAt table n = tree table (suc n) n
 
 -- the first of the kinds with one child, the first of those with two, and how many kinds there are
 abbrev pub unaryFrom : ℕ
-unaryFrom = 15
+unaryFrom = NOT
 
 abbrev pub binaryFrom : ℕ
-binaryFrom = 19
+binaryFrom = OR
 
 abbrev pub kinds : ℕ
-kinds = 23
+kinds = BRACKET
 
 -- the children of each node below n have smaller numbers than it
 unfoldable pub Falling : List ℕ → ℕ → Type 0

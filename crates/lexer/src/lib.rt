@@ -11,15 +11,7 @@ mod numbers;
 use grammar::Found;
 use grammar::Leaf;
 use grammar::Row;
-use grammar::kinds::A_TO_B;
-use grammar::kinds::CAPAFTER;
-use grammar::kinds::COMPARE;
-use grammar::kinds::COMPARE_V;
-use grammar::kinds::CROSS;
-use grammar::kinds::FALL;
-use grammar::kinds::LAG;
-use grammar::kinds::LOWAFTER;
-use grammar::kinds::NOT;
+use grammar::kinds;
 
 // Whether the byte is the B of `A` and a relation and `B`.
 fn other_curve(b: u8, field: u32) -> bool
@@ -37,7 +29,7 @@ fn operand(text: &[u8], field: u32, relation: u32, at: usize) -> Leaf
     if b == b'v' {
         return Leaf::Node(
             Row {
-                kind: COMPARE_V,
+                kind: kinds::COMPARE_V,
                 first: field,
                 second: relation,
                 number: 0,
@@ -48,7 +40,7 @@ fn operand(text: &[u8], field: u32, relation: u32, at: usize) -> Leaf
     if other_curve(b, field) {
         return Leaf::Node(
             Row {
-                kind: A_TO_B,
+                kind: kinds::A_TO_B,
                 first: 0,
                 second: relation,
                 number: 0,
@@ -59,7 +51,7 @@ fn operand(text: &[u8], field: u32, relation: u32, at: usize) -> Leaf
     match numbers::number(text, at) {
         Found::At(n, e) => Leaf::Node(
             Row {
-                kind: COMPARE,
+                kind: kinds::COMPARE,
                 first: field,
                 second: relation,
                 number: n,
@@ -124,10 +116,10 @@ fn arguments(text: &[u8], kind: u32, at: usize) -> Leaf
 {
     match words::curve(text, at) {
         Found::At(c, e) => {
-            if kind == LOWAFTER {
+            if kind == kinds::LOWAFTER {
                 return timed(text, kind, c, e);
             }
-            if kind == CAPAFTER {
+            if kind == kinds::CAPAFTER {
                 return timed(text, kind, c, e);
             }
             closed(
@@ -150,7 +142,7 @@ fn named(text: &[u8], kind: u32, at: usize) -> Leaf
     requires { ⌜ at ≤ length (now text) ⌝ }
     ensures { λ r. ⌜ r ≡ namedAt (now (text .entry)) kind at ⌝ }
 {
-    if kind == CROSS {
+    if kind == kinds::CROSS {
         return Leaf::Node(
             Row {
                 kind,
@@ -161,7 +153,7 @@ fn named(text: &[u8], kind: u32, at: usize) -> Leaf
             at,
         );
     }
-    if kind == LAG {
+    if kind == kinds::LAG {
         return Leaf::Node(
             Row {
                 kind,
@@ -180,10 +172,10 @@ fn headed(text: &[u8], code: u32, at: usize) -> Leaf
     requires { ⌜ at ≤ length (now text) ⌝ }
     ensures { λ r. ⌜ r ≡ headedAt (now (text .entry)) code at ⌝ }
 {
-    if code < FALL {
+    if code < kinds::FALL {
         return comparison(text, code, at);
     }
-    if code < NOT {
+    if code < kinds::NOT {
         return named(text, code, at);
     }
     Leaf::Open(code, at)

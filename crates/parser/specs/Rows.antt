@@ -8,7 +8,7 @@ use Rattle.parser.specs.declared.Got.{Got}
 use Rattle.parser.specs.declared.Got.the-variants.{Upto, Unread}
 use Rattle.grammar.specs.Syntax.{Text}
 use Rattle.grammar.specs.Size.{mostBytes}
-use Rattle.grammar.specs.Table.{row, rowAt}
+use Rattle.grammar.specs.Table.{row, rowAt, unaryFrom, binaryFrom, kinds}
 use Rattle.grammar.specs.Parse.{Joiner, Task, more, argument, leafOf, node, Out, got, unread, opened, parse, rank}
 
 -- row n is r, and every other row is as before
@@ -22,9 +22,9 @@ pub record Same (n : ℕ) (before now : List ℕ) : Type 0 where
 
 -- the rows from b up to m hold the tree, the root last
 pub data Laid (table : List ℕ) : ℕ → ℕ → Text → Type 0 where
-  leaf : {b : ℕ} {t : Text} → rowAt table b .kind < 15 → leafOf (rowAt table b) ≡ t → Laid table b (b + 1) t
-  unary : {b m : ℕ} {p : Text} (k : ℕ) → 15 ≤ k → k < 19 → Laid table b m p → rowAt table m ≡ row k (m - 1) 0 0 → Laid table b (m + 1) (node k p p)
-  binary : {b m n : ℕ} {p q : Text} (k : ℕ) → 19 ≤ k → k < 23 → Laid table b m p → Laid table m n q → rowAt table n ≡ row k (m - 1) (n - 1) 0 → Laid table b (n + 1) (node k p q)
+  leaf : {b : ℕ} {t : Text} → rowAt table b .kind < unaryFrom → leafOf (rowAt table b) ≡ t → Laid table b (b + 1) t
+  unary : {b m : ℕ} {p : Text} (k : ℕ) → unaryFrom ≤ k → k < binaryFrom → Laid table b m p → rowAt table m ≡ row k (m - 1) 0 0 → Laid table b (m + 1) (node k p p)
+  binary : {b m n : ℕ} {p q : Text} (k : ℕ) → binaryFrom ≤ k → k < kinds → Laid table b m p → Laid table m n q → rowAt table n ≡ row k (m - 1) (n - 1) 0 → Laid table b (n + 1) (node k p q)
 
 -- at `at`, with n rows made, each node that the text can still have has a row
 pub record Room (s table : List ℕ) (at n : ℕ) : Type 0 where

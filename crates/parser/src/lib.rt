@@ -2,16 +2,14 @@
 // Each writes the nodes of what it reads behind the n rows that stand in the table.
 ghost use mathlib.Core.Path.{_≡_};
 ghost use Prim.Native.Nat.{_+_, _≤_, _<_};
+ghost use Rattle.grammar.specs.Table.{unaryFrom, binaryFrom, kinds};
 ghost use Rattle.grammar.specs.Parse.{bars, ampersands, chain, not-at, prim-at, argument};
 ghost use Rattle.parser.specs.Rows.{Room, Answers, AnswersMore, AnswersOpened};
 
 mod table;
 
 use grammar::Leaf;
-use grammar::kinds::AND;
-use grammar::kinds::BRACKET;
-use grammar::kinds::NOT;
-use grammar::kinds::OR;
+use grammar::kinds;
 
 // Where reading stopped and how many nodes stand in the table, or that there is no reading.
 pub enum Got {
@@ -38,7 +36,7 @@ fn or_more(text: &[u8], table: &mut [u32], at: usize, n: usize) -> Got
     if words::peek(text, at) == b'|' {
         match and_text(text, table, at + 1, n) {
             Got::Upto(e, m) => {
-                table::put_binary(table, n, m, OR);
+                table::put_binary(table, n, m, kinds::OR);
                 or_more(text, table, e, m + 1)
             }
             Got::Unread => Got::Unread,
@@ -67,7 +65,7 @@ fn and_more(text: &[u8], table: &mut [u32], at: usize, n: usize) -> Got
     if words::peek(text, at) == b'&' {
         match not_text(text, table, at + 1, n) {
             Got::Upto(e, m) => {
-                table::put_binary(table, n, m, AND);
+                table::put_binary(table, n, m, kinds::AND);
                 and_more(text, table, e, m + 1)
             }
             Got::Unread => Got::Unread,
@@ -85,7 +83,7 @@ fn not_text(text: &[u8], table: &mut [u32], at: usize, n: usize) -> Got
     if words::peek(text, at) == b'!' {
         match not_text(text, table, at + 1, n) {
             Got::Upto(e, m) => {
-                table::put_unary(table, m, NOT);
+                table::put_unary(table, m, kinds::NOT);
                 Got::Upto(e, m + 1)
             }
             Got::Unread => Got::Unread,
@@ -106,9 +104,9 @@ fn primary(text: &[u8], table: &mut [u32], at: usize, n: usize) -> Got
             Got::Upto(e, n + 1)
         }
         Leaf::Open(kind, e) => {
-            if kind == BRACKET {
+            if kind == kinds::BRACKET {
                 argument(text, table, e, n, b')')
-            } else if kind < OR {
+            } else if kind < kinds::OR {
                 unary(text, table, e, n, kind)
             } else {
                 binary(text, table, e, n, kind)
@@ -120,7 +118,7 @@ fn primary(text: &[u8], table: &mut [u32], at: usize, n: usize) -> Got
 
 // Behind `X(`, `F(` or `G(`: a text and a bracket.
 fn unary(text: &[u8], table: &mut [u32], at: usize, n: usize, kind: u32) -> Got
-    requires { ⌜ Room (now text) (now table) at n × (n < at) × (15 ≤ kind) × (kind < 19) ⌝ }
+    requires { ⌜ Room (now text) (now table) at n × (n < at) × (unaryFrom ≤ kind) × (kind < binaryFrom) ⌝ }
     ensures { λ r. ⌜ AnswersOpened (now (text .entry)) kind at n (now (table .entry)) (now (table .exit)) r ⌝ }
 {
     match argument(text, table, at, n, b')') {
@@ -134,7 +132,7 @@ fn unary(text: &[u8], table: &mut [u32], at: usize, n: usize, kind: u32) -> Got
 
 // Behind `U(` or `W(`: a text, a comma, a text and a bracket.
 fn binary(text: &[u8], table: &mut [u32], at: usize, n: usize, kind: u32) -> Got
-    requires { ⌜ Room (now text) (now table) at n × (n < at) × (19 ≤ kind) × (kind < 23) ⌝ }
+    requires { ⌜ Room (now text) (now table) at n × (n < at) × (binaryFrom ≤ kind) × (kind < kinds) ⌝ }
     ensures { λ r. ⌜ AnswersOpened (now (text .entry)) kind at n (now (table .entry)) (now (table .exit)) r ⌝ }
 {
     match argument(text, table, at, n, b',') {

@@ -7,12 +7,7 @@ ghost use Rattle.grammar.specs.Classes.{within};
 ghost use Rattle.grammar.specs.Syntax.{Text};
 ghost use Rattle.grammar.specs.Size.{temporal, hasListed, mixed};
 ghost use Rattle.parser.specs.Rows.{Laid};
-use grammar::kinds::GLOBALLY;
-use grammar::kinds::HIGH;
-use grammar::kinds::LAG;
-use grammar::kinds::NEXT;
-use grammar::kinds::UNTIL;
-use grammar::kinds::WEAK_UNTIL;
+use grammar::kinds;
 
 // The kind of node n.
 pub fn kind(table: &[u32], n: usize) -> u32
@@ -48,7 +43,7 @@ pub fn has_listed(table: &[u32], n: usize) -> bool
     requires { ⌜ 4 * n ≤ length (now table) ⌝ }
     ensures { λ r. ⌜ ((t : Text) → Laid (now (table .entry)) 0 n t → r ≡ hasListed t) ⌝ }
 {
-    some_kind(table, n, HIGH, LAG)
+    some_kind(table, n, kinds::HIGH, kinds::LAG)
 }
 
 // Whether the text writes F, G, X, U or W.
@@ -56,10 +51,10 @@ pub fn is_temporal(table: &[u32], n: usize) -> bool
     requires { ⌜ 4 * n ≤ length (now table) ⌝ }
     ensures { λ r. ⌜ ((t : Text) → Laid (now (table .entry)) 0 n t → r ≡ temporal t) ⌝ }
 {
-    if some_kind(table, n, NEXT, GLOBALLY) {
+    if some_kind(table, n, kinds::NEXT, kinds::GLOBALLY) {
         return true;
     }
-    some_kind(table, n, UNTIL, WEAK_UNTIL)
+    some_kind(table, n, kinds::UNTIL, kinds::WEAK_UNTIL)
 }
 
 // Whether the text writes a listed name beside F, G, X, U or W.

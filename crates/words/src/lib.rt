@@ -8,24 +8,7 @@ ghost use Rattle.grammar.specs.Lexer.{byte, word, spelledAt, firstOf, curves, r
 use grammar::Class;
 use grammar::Found;
 use grammar::classes;
-use grammar::kinds::AMPL;
-use grammar::kinds::BRACKET;
-use grammar::kinds::CAPAFTER;
-use grammar::kinds::CROSS;
-use grammar::kinds::FALL;
-use grammar::kinds::FINALLY;
-use grammar::kinds::GAPS;
-use grammar::kinds::GLOBALLY;
-use grammar::kinds::HIGH;
-use grammar::kinds::LAG;
-use grammar::kinds::LOW;
-use grammar::kinds::LOWAFTER;
-use grammar::kinds::NEXT;
-use grammar::kinds::PEAKS;
-use grammar::kinds::RISE;
-use grammar::kinds::STEPS;
-use grammar::kinds::UNTIL;
-use grammar::kinds::WEAK_UNTIL;
+use grammar::kinds;
 
 // What stands at a position: the byte, or 0 past the end.
 pub fn peek(text: &[u8], at: usize) -> u8
@@ -114,22 +97,22 @@ fn level_name(text: &[u8], at: usize) -> Found
     ensures { λ r. ⌜ r ≡ firstOf levelNames (now (text .entry)) at ⌝ }
 {
     if spelled(text, at, b"fall(") {
-        return Found::At(FALL, at + 5);
+        return Found::At(kinds::FALL, at + 5);
     }
     if spelled(text, at, b"rise(") {
-        return Found::At(RISE, at + 5);
+        return Found::At(kinds::RISE, at + 5);
     }
     if spelled(text, at, b"high(") {
-        return Found::At(HIGH, at + 5);
+        return Found::At(kinds::HIGH, at + 5);
     }
     if spelled(text, at, b"low(") {
-        return Found::At(LOW, at + 4);
+        return Found::At(kinds::LOW, at + 4);
     }
     if spelled(text, at, b"lowafter(") {
-        return Found::At(LOWAFTER, at + 9);
+        return Found::At(kinds::LOWAFTER, at + 9);
     }
     if spelled(text, at, b"capafter(") {
-        return Found::At(CAPAFTER, at + 9);
+        return Found::At(kinds::CAPAFTER, at + 9);
     }
     Found::Missing
 }
@@ -140,22 +123,22 @@ fn top_name(text: &[u8], at: usize) -> Found
     ensures { λ r. ⌜ r ≡ firstOf topNames (now (text .entry)) at ⌝ }
 {
     if spelled(text, at, b"peaks(") {
-        return Found::At(PEAKS, at + 6);
+        return Found::At(kinds::PEAKS, at + 6);
     }
     if spelled(text, at, b"cross") {
-        return Found::At(CROSS, at + 5);
+        return Found::At(kinds::CROSS, at + 5);
     }
     if spelled(text, at, b"ampl(") {
-        return Found::At(AMPL, at + 5);
+        return Found::At(kinds::AMPL, at + 5);
     }
     if spelled(text, at, b"gaps(") {
-        return Found::At(GAPS, at + 5);
+        return Found::At(kinds::GAPS, at + 5);
     }
     if spelled(text, at, b"steps(") {
-        return Found::At(STEPS, at + 6);
+        return Found::At(kinds::STEPS, at + 6);
     }
     if spelled(text, at, b"lag") {
-        return Found::At(LAG, at + 3);
+        return Found::At(kinds::LAG, at + 3);
     }
     Found::Missing
 }
@@ -166,22 +149,22 @@ fn opening(text: &[u8], at: usize) -> Found
     ensures { λ r. ⌜ r ≡ firstOf openings (now (text .entry)) at ⌝ }
 {
     if spelled(text, at, b"X(") {
-        return Found::At(NEXT, at + 2);
+        return Found::At(kinds::NEXT, at + 2);
     }
     if spelled(text, at, b"F(") {
-        return Found::At(FINALLY, at + 2);
+        return Found::At(kinds::FINALLY, at + 2);
     }
     if spelled(text, at, b"G(") {
-        return Found::At(GLOBALLY, at + 2);
+        return Found::At(kinds::GLOBALLY, at + 2);
     }
     if spelled(text, at, b"U(") {
-        return Found::At(UNTIL, at + 2);
+        return Found::At(kinds::UNTIL, at + 2);
     }
     if spelled(text, at, b"W(") {
-        return Found::At(WEAK_UNTIL, at + 2);
+        return Found::At(kinds::WEAK_UNTIL, at + 2);
     }
     if spelled(text, at, b"(") {
-        return Found::At(BRACKET, at + 1);
+        return Found::At(kinds::BRACKET, at + 1);
     }
     Found::Missing
 }
