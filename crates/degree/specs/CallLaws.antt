@@ -18,8 +18,8 @@ use Rattle.runset.specs.Distance.{distance}
 use Rattle.runset.specs.DistanceLaws.{distance-ext}
 use Rattle.runset.specs.Set.{member, nearestOf}
 use Rattle.runset.specs.declared.Nearest.the-variants.{At, Nothing}
-use Rattle.text.specs.Syntax.{Text}
-use Rattle.text.specs.Parse.{reading}
+use Rattle.grammar.specs.Syntax.{Text}
+use Rattle.grammar.specs.Parse.{reading}
 use Rattle.text.specs.Told.{nodesOf}
 use Rattle.meaning.specs.Coded.{coded, index}
 use Rattle.meaning.specs.Truth.{val}

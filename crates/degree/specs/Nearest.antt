@@ -5,8 +5,8 @@ use mathlib.Core.List.{List}
 use Rattle.number.specs.Axis.{axis, whole}
 use Rattle.recording.specs.Reading.{Reading}
 use Rattle.recording.specs.Recording.{readings}
-use Rattle.text.specs.Syntax.{Text}
-use Rattle.text.specs.Grammar.{ReadsWhole}
+use Rattle.grammar.specs.Syntax.{Text}
+use Rattle.grammar.specs.Grammar.{ReadsWhole}
 use Rattle.meaning.specs.Meaning.{Holds}
 use Rattle.ratio.specs.Degree.{distanceOf, degreeOf}
 use Rattle.degree.specs.Degree.{Value, met, short, noValue}

@@ -17,7 +17,7 @@ use Rattle.recording.specs.Recording.{Accepted, readings, recordingLines, noRec
 use Rattle.recording.specs.OutcomeLaws.{result-none, none-append}
 use Rattle.runset.specs.Distance.{distance}
 use Rattle.runset.specs.DistanceLaws.{distance-least, distance-reached}
-use Rattle.text.specs.Syntax.{Text}
+use Rattle.grammar.specs.Syntax.{Text}
 use Rattle.text.specs.Told.{textLines}
 use Rattle.meaning.specs.Coded.{index}
 use Rattle.meaning.specs.RecordedLaws.{accepted-recorded}

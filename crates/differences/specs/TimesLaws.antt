@@ -9,7 +9,7 @@ use lib.ListN.{length, getD}
 use Rattle.number.specs.Axis.{origin}
 use Rattle.recording.specs.Condition.{Condition, pickFrom, when}
 use Rattle.recording.specs.Reading.{Reading, Curve, A, B, nothing}
-use Rattle.text.specs.Syntax.{peaks, cross, gaps, steps, lag}
+use Rattle.grammar.specs.Syntax.{peaks, cross, gaps, steps, lag}
 use Rattle.meaning.specs.Recorded.{InTime, Increasing, Recorded}
 use Rattle.meaning.specs.Coded.{Coded, code, timesOf, topTimes, crossingTimes}
 use Rattle.meaning.specs.Truth.{truth}

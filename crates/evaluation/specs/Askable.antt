@@ -4,7 +4,7 @@ use mathlib.Core.Path.{_≡_}
 use mathlib.Core.Bool.{false}
 use mathlib.Core.List.{List}
 use Rattle.recording.specs.Recording.{Accepted}
-use Rattle.text.specs.Table.{treeAt}
+use Rattle.grammar.specs.Table.{treeAt}
 use Rattle.meaning.specs.Coded.{coded}
 use Rattle.meaning.specs.Truth.{refused9}
 

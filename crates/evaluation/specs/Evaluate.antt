@@ -5,8 +5,8 @@ use mathlib.Core.Bool.{Bool, true, false}
 use mathlib.Core.List.{List}
 use lib.ListN.{length}
 use Rattle.runset.specs.Lent.{CutsOf}
-use Rattle.text.specs.Size.{temporal, mostNodes}
-use Rattle.text.specs.Table.{rowAt, treeAt, Falling}
+use Rattle.grammar.specs.Size.{temporal, mostNodes}
+use Rattle.grammar.specs.Table.{rowAt, treeAt, Falling, unaryFrom, binaryFrom}
 use Rattle.meaning.specs.Coded.{Coded}
 use Rattle.meaning.specs.Truth.{val, largeAt, lastCoded}
 use Rattle.evaluation.specs.Slots.{slot, Sized}
@@ -23,8 +23,8 @@ second table n = rowAt table n .second
 -- m is n or a node under it
 pub data Under (table : List ℕ) : ℕ → ℕ → Type 0 where
   here : {n : ℕ} → Under table n n
-  on-first : {n m : ℕ} → 15 ≤ kind table n → Under table (first table n) m → Under table n m
-  on-second : {n m : ℕ} → 19 ≤ kind table n → Under table (second table n) m → Under table n m
+  on-first : {n m : ℕ} → unaryFrom ≤ kind table n → Under table (first table n) m → Under table n m
+  on-second : {n m : ℕ} → binaryFrom ≤ kind table n → Under table (second table n) m → Under table n m
 
 -- slot m holds the set of node m at record i
 unfoldable pub Right : List ℕ → List Coded → ℕ → ℕ → List ℕ → Type 0

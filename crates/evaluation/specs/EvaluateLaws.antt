@@ -15,10 +15,10 @@ use Rattle.runset.specs.Lent.{Lent, CutsOf, Fills}
 use Rattle.runset.specs.Runs.{mostRuns, runCount}
 use Rattle.runset.specs.RunsLaws.{runCount-ext}
 use Rattle.runset.specs.declared.merge.Filled.{Filled}
-use Rattle.text.specs.Syntax.{Text, or, and, neg, finally, globally, next, until, weakUntil}
-use Rattle.text.specs.Size.{temporal, mostNodes}
-use Rattle.text.specs.declared.Row.{Row}
-use Rattle.text.specs.Table.{row, build, rowAt, treeAt, Falling}
+use Rattle.grammar.specs.Syntax.{Text, or, and, neg, finally, globally, next, until, weakUntil}
+use Rattle.grammar.specs.Size.{temporal, mostNodes}
+use Rattle.grammar.specs.declared.Row.{Row}
+use Rattle.grammar.specs.Table.{row, build, rowAt, treeAt, Falling}
 use Rattle.meaning.specs.Coded.{Coded, code}
 use Rattle.meaning.specs.Truth.{val, largeAt, lastCoded, refused9, ofListed, asksTooMany}
 use Rattle.recording.specs.Recording.{records, reading, readings}

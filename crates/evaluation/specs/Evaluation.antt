@@ -6,9 +6,9 @@ use mathlib.Core.List.{List}
 use lib.ListN.{length, take}
 use Rattle.runset.specs.Lent.{CutsOf}
 use Rattle.runset.specs.declared.merge.Filled.{Filled}
-use Rattle.text.specs.Syntax.{Text}
-use Rattle.text.specs.Size.{mostNodes}
-use Rattle.text.specs.Table.{treeAt, Falling}
+use Rattle.grammar.specs.Syntax.{Text}
+use Rattle.grammar.specs.Size.{mostNodes}
+use Rattle.grammar.specs.Table.{treeAt, Falling}
 use Rattle.meaning.specs.Coded.{Coded}
 use Rattle.meaning.specs.Truth.{val, refused8}
 use Rattle.meaning.specs.Coded.{coded}

@@ -7,9 +7,9 @@ use mathlib.Core.Path.{_≡_, refl, sym, ap, ap₂, subst, _∙_}
 use mathlib.Core.Bool.{Bool, true, false, false≢true, _||_}
 use mathlib.Core.List.{List, [], _∷_}
 use lib.ListN.{length, getD}
-use Rattle.text.specs.Syntax.{Text, listed, lag}
-use Rattle.text.specs.declared.Row.{Row}
-use Rattle.text.specs.Table.{row, leaves, build, rowAt, treeAt, Falling}
+use Rattle.grammar.specs.Syntax.{Text, listed, lag}
+use Rattle.grammar.specs.declared.Row.{Row}
+use Rattle.grammar.specs.Table.{row, leaves, build, rowAt, treeAt, Falling}
 use Rattle.meaning.specs.Truth.{someNode}
 use Rattle.leaves.specs.Leaf.{leafOf}
 use Rattle.evaluation.specs.StepLaws.{four}

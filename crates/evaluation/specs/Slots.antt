@@ -7,7 +7,7 @@ use lib.Dec.{ltb}
 use lib.ListN.{length, getD, take, drop}
 use Rattle.runset.specs.Runs.{mostRuns, runCount}
 use Rattle.runset.specs.Lent.{CutsOf}
-use Rattle.text.specs.Size.{mostNodes}
+use Rattle.grammar.specs.Size.{mostNodes}
 
 -- the numbers of a slot
 abbrev pub width : ℕ

@@ -10,7 +10,7 @@ use lib.Seq.{ext-getD, getD-drop, getD-take, getD-set-same, getD-set-other, take
 use Rattle.runset.specs.Runs.{mostRuns}
 use Rattle.runset.specs.Lent.{Fills}
 use Rattle.runset.specs.declared.merge.Filled.{Filled}
-use Rattle.text.specs.Size.{mostNodes}
+use Rattle.grammar.specs.Size.{mostNodes}
 use Rattle.evaluation.specs.Slots.{Copied, width, slot, Sized, Stored, Puts}
 
 pub copied-none : (before : List ℕ) (from : ℕ) (cuts : List ℕ) → Copied before before from cuts 0

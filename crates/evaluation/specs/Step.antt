@@ -4,12 +4,13 @@ use Prim.Native.Nat.{ℕ, _-_}
 use mathlib.Core.Bool.{Bool, not, cond, _||_, _&&_}
 use mathlib.Core.List.{[], _∷_}
 use lib.ListN.{getD}
+use Rattle.grammar.specs.Table.{unaryFrom, binaryFrom}
 
--- `!`, X, F, G (15 to 18): p is the child, own the node at the next record, old the child at the next record
+-- `!`, X, F, G: p is the child, own the node at the next record, old the child at the next record
 abbrev pub unaryOf : ℕ → Bool → Bool → Bool → Bool → Bool
-unaryOf kind last p own old = getD (not p ∷ cond last p old ∷ cond last p (p || own) ∷ cond last p (p && own) ∷ []) (kind - 15) p
+unaryOf kind last p own old = getD (not p ∷ cond last p old ∷ cond last p (p || own) ∷ cond last p (p && own) ∷ []) (kind - unaryFrom) p
 
--- `|`, `&`, U, W (19 to 22): p and q are the children, own the node at the next record
+-- `|`, `&`, U, W: p and q are the children, own the node at the next record
 abbrev pub binaryOf : ℕ → Bool → Bool → Bool → Bool → Bool
 binaryOf kind last p q own =
-    getD ((p || q) ∷ (p && q) ∷ cond last q (q || (p && own)) ∷ cond last (p || q) (q || (p && own)) ∷ []) (kind - 19) p
+    getD ((p || q) ∷ (p && q) ∷ cond last q (q || (p && own)) ∷ cond last (p || q) (q || (p && own)) ∷ []) (kind - binaryFrom) p

@@ -7,9 +7,9 @@ use mathlib.Core.Bool.{Bool, true, false, _||_, _&&_}
 use mathlib.Core.List.{List}
 use Rattle.meaning.specs.Coded.{Coded}
 use Rattle.meaning.specs.Truth.{val, lastCoded, finallyFrom, globallyFrom, untilFrom, weakFrom}
-use Rattle.text.specs.Syntax.{Text}
-use Rattle.text.specs.declared.Row.{Row}
-use Rattle.text.specs.Table.{row, build}
+use Rattle.grammar.specs.Syntax.{Text}
+use Rattle.grammar.specs.declared.Row.{Row}
+use Rattle.grammar.specs.Table.{row, build}
 use Rattle.evaluation.specs.Step.{unaryOf, binaryOf}
 
 -- what holds of four numbers in a row holds of each from the first up to the last

@@ -7,9 +7,9 @@ use mathlib.Core.Path.{_≡_, refl, sym, ap, ap₂, subst, _∙_}
 use mathlib.Core.Bool.{Bool, true, false}
 use mathlib.Core.List.{List, [], _∷_, _++_}
 use lib.ListN.{length, getD, List·getD-append}
-use Rattle.text.specs.Syntax.{Text, listed, lag}
-use Rattle.text.specs.declared.Row.{Row}
-use Rattle.text.specs.Table.{row, leaves, unaries, binaries, build, rowAt, tree, treeAt, Falling}
+use Rattle.grammar.specs.Syntax.{Text, listed, lag}
+use Rattle.grammar.specs.declared.Row.{Row}
+use Rattle.grammar.specs.Table.{row, leaves, unaries, binaries, build, rowAt, tree, treeAt, Falling}
 use Rattle.leaves.specs.Leaf.{leafOf}
 use Rattle.evaluation.specs.StepLaws.{four}
 

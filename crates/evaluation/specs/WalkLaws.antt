@@ -12,9 +12,9 @@ use Rattle.runset.specs.Set.{inside}
 use Rattle.runset.specs.Lent.{Lent, CutsOf, Fills}
 use Rattle.runset.specs.LentLaws.{fills-ext, few-runs}
 use Rattle.runset.specs.declared.merge.Filled.{Filled}
-use Rattle.text.specs.Syntax.{Text, atom, listed, or, and, neg, finally, globally, next, until, weakUntil}
-use Rattle.text.specs.Size.{temporal}
-use Rattle.text.specs.Table.{treeAt}
+use Rattle.grammar.specs.Syntax.{Text, atom, listed, or, and, neg, finally, globally, next, until, weakUntil}
+use Rattle.grammar.specs.Size.{temporal}
+use Rattle.grammar.specs.Table.{treeAt}
 use Rattle.meaning.specs.Coded.{Coded}
 use Rattle.meaning.specs.Truth.{val, largeAt, overAt, someNode, someBelow, refused8, lastCoded}
 use Rattle.meaning.specs.Coded.{coded}

@@ -12,9 +12,10 @@ ghost use lib.ListN.{length};
 ghost use Rattle.runset.specs.Runs.{mostRuns};
 ghost use Rattle.meaning.specs.Coded.{coded};
 ghost use Rattle.evaluation.specs.Askable.{Askable};
-ghost use Rattle.text.specs.Size.{temporal};
+ghost use Rattle.grammar.specs.Size.{temporal};
 ghost use Rattle.evaluation.specs.Evaluate.{Fit, Outcome};
 ghost use Rattle.evaluation.specs.Evaluation.{textOf, Asking, Evaluates};
+use grammar::kinds;
 use runset::merge::Filled;
 use slots::TABLE;
 
@@ -39,7 +40,7 @@ fn eval(
 {
     let row = rows::row_at(table, n);
     let kind = row.kind;
-    if kind < 15 {
+    if kind < kinds::NOT {
         let made = leaves::leaf(rec, i, row, out);
         return slots::put(made, out, cur, n);
     }
@@ -48,7 +49,7 @@ fn eval(
         return true;
     }
     let last = i + 1 == rec.len() / 16;
-    if kind < 19 {
+    if kind < kinds::OR {
         return node::one_at(kind, last, n, first, later, cur, out);
     }
     let second = slots::size(row.second);

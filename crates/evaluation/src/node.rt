@@ -6,7 +6,9 @@ ghost use lib.ListN.{length};
 ghost use Rattle.runset.specs.Runs.{mostRuns};
 ghost use Rattle.runset.specs.Set.{inside};
 ghost use Rattle.runset.specs.Lent.{Lent};
-ghost use Rattle.text.specs.Size.{mostNodes};
+ghost use Rattle.grammar.specs.Size.{mostNodes};
+ghost use Rattle.grammar.specs.Kinds.{NOT, AND};
+ghost use Rattle.grammar.specs.Table.{unaryFrom, binaryFrom, kinds};
 ghost use Rattle.evaluation.specs.Step.{unaryOf, binaryOf};
 ghost use Rattle.evaluation.specs.Slots.{slot, Sized, Puts};
 
@@ -20,8 +22,8 @@ pub fn one_at(
     cur: &mut [u32],
     out: &mut [u32],
 ) -> bool
-    requires { ⌜ (15 ≤ kind) × (kind < 19) × (n < mostNodes) × (first < mostNodes) × Sized (now later) × Sized (now cur)
-        × Lent (slot (now cur) first) × (last ≡ false → 15 < kind → Lent (slot (now later) n) × Lent (slot (now later) first)) × (length (now out) ≡ 2 * mostRuns) ⌝ }
+    requires { ⌜ (unaryFrom ≤ kind) × (kind < binaryFrom) × (n < mostNodes) × (first < mostNodes) × Sized (now later) × Sized (now cur)
+        × Lent (slot (now cur) first) × (last ≡ false → NOT < kind → Lent (slot (now later) n) × Lent (slot (now later) first)) × (length (now out) ≡ 2 * mostRuns) ⌝ }
     ensures { λ r. ⌜ Puts (λ v. unaryOf kind last (inside (slot (now (cur .entry)) first) v) (inside (slot (now (later .entry)) n) v) (inside (slot (now (later .entry)) first) v))
         (now (cur .entry)) (now (cur .exit)) n r ⌝ }
 {
@@ -43,8 +45,8 @@ pub fn two_at(
     shared: &mut [u32],
     out: &mut [u32],
 ) -> bool
-    requires { ⌜ (19 ≤ kind) × (kind < 23) × (n < mostNodes) × (first < mostNodes) × (second < mostNodes) × Sized (now later) × Sized (now cur)
-        × Lent (slot (now cur) first) × Lent (slot (now cur) second) × (last ≡ false → 20 < kind → Lent (slot (now later) n))
+    requires { ⌜ (binaryFrom ≤ kind) × (kind < kinds) × (n < mostNodes) × (first < mostNodes) × (second < mostNodes) × Sized (now later) × Sized (now cur)
+        × Lent (slot (now cur) first) × Lent (slot (now cur) second) × (last ≡ false → AND < kind → Lent (slot (now later) n))
         × (length (now shared) ≡ 4 * mostRuns) × (length (now out) ≡ 2 * mostRuns) ⌝ }
     ensures { λ r. ⌜ Puts (λ v. binaryOf kind last (inside (slot (now (cur .entry)) first) v) (inside (slot (now (cur .entry)) second) v) (inside (slot (now (later .entry)) n) v))
         (now (cur .entry)) (now (cur .exit)) n r ⌝ }

@@ -2,8 +2,8 @@
 ghost use mathlib.Core.Path.{_≡_};
 ghost use Prim.Native.Nat.{ℕ, _+_, _*_, _≤_};
 ghost use lib.ListN.{length};
-ghost use Rattle.text.specs.Table.{rowAt};
-use text::Row;
+ghost use Rattle.grammar.specs.Table.{rowAt};
+use grammar::Row;
 
 // Row n.
 pub fn row_at(table: &[u32], n: usize) -> Row

@@ -5,7 +5,7 @@ ghost use lib.ListN.{length, take};
 ghost use Rattle.runset.specs.Runs.{mostRuns};
 ghost use Rattle.runset.specs.Lent.{Fills};
 ghost use mathlib.Core.Bool.{Bool, false};
-ghost use Rattle.text.specs.Size.{mostNodes};
+ghost use Rattle.grammar.specs.Size.{mostNodes};
 ghost use Rattle.evaluation.specs.Slots.{slot, Sized, Stored, Puts, Copied};
 use runset::merge::Filled;
 

@@ -6,24 +6,27 @@ ghost use lib.ListN.{length};
 ghost use Rattle.runset.specs.Runs.{mostRuns};
 ghost use Rattle.runset.specs.Set.{inside};
 ghost use Rattle.runset.specs.Lent.{Lent, Fills};
+ghost use Rattle.grammar.specs.Kinds.{NOT, AND};
+ghost use Rattle.grammar.specs.Table.{unaryFrom, binaryFrom, kinds};
 ghost use Rattle.evaluation.specs.Step.{unaryOf, binaryOf};
+use grammar::kinds;
 use runset::merge::Filled;
 
 // A node with one child: `!`, X, F, G. p is the child's set, own the node's and old the child's at the next record.
 pub fn one(kind: u32, last: bool, p: &[u32], own: &[u32], old: &[u32], out: &mut [u32]) -> Filled
-    requires { ⌜ (15 ≤ kind) × (kind < 19) × Lent (now p) × (last ≡ false → 15 < kind → Lent (now own) × Lent (now old)) × (length (now out) ≡ 2 * mostRuns) ⌝ }
+    requires { ⌜ (unaryFrom ≤ kind) × (kind < binaryFrom) × Lent (now p) × (last ≡ false → NOT < kind → Lent (now own) × Lent (now old)) × (length (now out) ≡ 2 * mostRuns) ⌝ }
     ensures { λ r. ⌜ Fills (λ v. unaryOf kind last (inside (now (p .entry)) v) (inside (now (own .entry)) v) (inside (now (old .entry)) v)) (now (out .exit)) r ⌝ }
 {
-    if kind == 15 {
+    if kind == kinds::NOT {
         return runset::lent::not(p, out);
     }
     if last {
         return runset::lent::same(p, out);
     }
-    if kind == 16 {
+    if kind == kinds::NEXT {
         return runset::lent::same(old, out);
     }
-    if kind == 17 {
+    if kind == kinds::FINALLY {
         return runset::lent::or(p, own, out);
     }
     runset::lent::and(p, own, out)
@@ -39,17 +42,17 @@ pub fn two(
     shared: &mut [u32],
     out: &mut [u32],
 ) -> Filled
-    requires { ⌜ (19 ≤ kind) × (kind < 23) × Lent (now p) × Lent (now q) × (last ≡ false → 20 < kind → Lent (now own)) × (length (now shared) ≡ 4 * mostRuns) × (length (now out) ≡ 2 * mostRuns) ⌝ }
+    requires { ⌜ (binaryFrom ≤ kind) × (kind < kinds) × Lent (now p) × Lent (now q) × (last ≡ false → AND < kind → Lent (now own)) × (length (now shared) ≡ 4 * mostRuns) × (length (now out) ≡ 2 * mostRuns) ⌝ }
     ensures { λ r. ⌜ Fills (λ v. binaryOf kind last (inside (now (p .entry)) v) (inside (now (q .entry)) v) (inside (now (own .entry)) v)) (now (out .exit)) r ⌝ }
 {
-    if kind == 19 {
+    if kind == kinds::OR {
         return runset::lent::or(p, q, out);
     }
-    if kind == 20 {
+    if kind == kinds::AND {
         return runset::lent::and(p, q, out);
     }
     if last {
-        if kind == 21 {
+        if kind == kinds::UNTIL {
             return runset::lent::same(q, out);
         }
         return runset::lent::or(p, q, out);

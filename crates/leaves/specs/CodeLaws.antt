@@ -3,8 +3,8 @@ use Prim.Native.Nat.{ℕ, zero, suc, _≤_}
 use native.Mathlib.Omega.{arith}
 use mathlib.Core.Path.{_≡_, refl}
 use Rattle.recording.specs.Reading.{A}
-use Rattle.text.specs.Syntax.{T, eq}
-use Rattle.text.specs.Table.{curveOf, fieldOf, relationOf}
+use Rattle.grammar.specs.Syntax.{T, eq}
+use Rattle.grammar.specs.Table.{curveOf, fieldOf, relationOf}
 
 pub curve-else : (n : ℕ) → (n ≡ 1 → ⊥) → curveOf n ≡ A
 curve-else zero h = refl

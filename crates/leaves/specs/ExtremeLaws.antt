@@ -13,7 +13,7 @@ use borrow.Author.Tests.{le-leb, lt-leb, leb-true, lt-ltb, le-ltb, ltb-true}
 use Rattle.number.specs.Axis.{axis, origin}
 use Rattle.number.specs.OrderLaws.{less-or-not, leb-not-ltb}
 use Rattle.recording.specs.Reading.{Reading, Curve}
-use Rattle.text.specs.Syntax.{high, low, lowafter, capafter, ampl}
+use Rattle.grammar.specs.Syntax.{high, low, lowafter, capafter, ampl}
 use Rattle.meaning.specs.Coded.{Coded, code, blank, codedValue, codedAfter}
 use Rattle.meaning.specs.Truth.{someOf, allOf, truth, codedAt}
 use Rattle.meaning.specs.PickLaws.{some-at, some-find}

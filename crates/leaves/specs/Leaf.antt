@@ -5,9 +5,9 @@ use mathlib.Core.Bool.{false}
 use mathlib.Core.List.{List}
 use lib.ListN.{length, getD}
 use Rattle.recording.specs.Recording.{Accepted}
-use Rattle.text.specs.Syntax.{Text, listed, lag}
-use Rattle.text.specs.declared.Row.{Row}
-use Rattle.text.specs.Table.{leaves}
+use Rattle.grammar.specs.Syntax.{Text, listed, lag}
+use Rattle.grammar.specs.declared.Row.{Row}
+use Rattle.grammar.specs.Table.{leaves, unaryFrom}
 use Rattle.meaning.specs.Truth.{refused9}
 use Rattle.meaning.specs.Coded.{coded}
 
@@ -19,5 +19,5 @@ leafOf r = getD (leaves r) (r .kind) (listed lag)
 pub record Asked (rec : List ℕ) (i : ℕ) (r : Row) : Type 0 where
   pub accepted : Accepted rec
   pub index : i < length (coded rec)
-  pub leaf : r .kind < 15
+  pub leaf : r .kind < unaryFrom
   pub few-tops : refused9 (coded rec) (leafOf r) ≡ false

@@ -7,9 +7,9 @@ use mathlib.Core.List.{List}
 use lib.ListN.{length, getD}
 use borrow.Author.Tests.{ltb-false}
 use Rattle.recording.specs.Reading.{Curve, A, B}
-use Rattle.text.specs.Syntax.{Text, listed, lag, gaps, steps}
-use Rattle.text.specs.Table.{leaves}
-use Rattle.text.specs.declared.Row.{Row}
+use Rattle.grammar.specs.Syntax.{Text, listed, lag, gaps, steps}
+use Rattle.grammar.specs.Table.{leaves}
+use Rattle.grammar.specs.declared.Row.{Row}
 use Rattle.meaning.specs.Coded.{Coded, topTimes}
 use Rattle.tops.specs.Tops.{mostTops}
 use Rattle.meaning.specs.Truth.{refused9, someNode, manyTops}

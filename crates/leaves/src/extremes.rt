@@ -6,7 +6,7 @@ ghost use lib.ListN.{length};
 ghost use Rattle.number.specs.Axis.{axis};
 ghost use Rattle.recording.specs.Recording.{Accepted};
 ghost use Rattle.tops.specs.Tops.{curveOf};
-ghost use Rattle.text.specs.Syntax as asks;
+ghost use Rattle.grammar.specs.Syntax as asks;
 ghost use Rattle.meaning.specs.Truth.{codedAt, truth};
 ghost use Rattle.meaning.specs.Coded.{coded};
 ghost use Rattle.leaves.specs.Span.{Spans};

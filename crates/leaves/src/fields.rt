@@ -5,7 +5,7 @@ ghost use lib.ListN.{length};
 ghost use Rattle.number.specs.Axis.{axis};
 ghost use Rattle.recording.specs.Recording.{Accepted};
 ghost use Rattle.tops.specs.Tops as tops;
-ghost use Rattle.text.specs.Table as table;
+ghost use Rattle.grammar.specs.Table as table;
 ghost use Rattle.meaning.specs.Coded.{codedValue, codedSlope};
 ghost use Rattle.meaning.specs.Truth.{codedAt, codedField};
 ghost use Rattle.meaning.specs.Coded.{coded};

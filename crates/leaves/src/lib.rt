@@ -13,73 +13,75 @@ ghost use Rattle.runset.specs.Set.{inside};
 ghost use Rattle.runset.specs.Lent.{Lent, Fills};
 ghost use Rattle.meaning.specs.Truth.{val};
 ghost use Rattle.differences.specs.Cuts.{Collects};
+ghost use Rattle.grammar.specs.Kinds.{PEAKS, AMPL};
 ghost use Rattle.meaning.specs.Coded.{coded};
 ghost use Rattle.leaves.specs.Leaf.{leafOf, Asked};
 ghost use Rattle.leaves.specs.Span.{Spans};
 use differences::Cuts;
+use grammar::Row;
+use grammar::kinds;
 use runset::merge::Filled;
 use span::Span;
-use text::Row;
 
-// Leaves with at most one run: kinds 0 to 4, the atoms, and 5 to 8, `high`, `low`, `lowafter` and `capafter`.
+// Leaves with at most one run: the atoms, `high`, `low`, `lowafter` and `capafter`.
 fn spanned(rec: &[u8], i: usize, row: Row) -> Span
-    requires { ⌜ Asked (now rec) i row × (row .kind < 9) ⌝ }
+    requires { ⌜ Asked (now rec) i row × (row .kind < PEAKS) ⌝ }
     ensures { λ r. ⌜ Spans (λ v. val (coded (now (rec .entry))) v (leafOf row) i) r ⌝ }
 {
     let kind = row.kind;
-    if kind == 0 {
+    if kind == kinds::COMPARE_V {
         return atoms::against_v(rec, i, row.first, row.second);
     }
-    if kind == 1 {
+    if kind == kinds::COMPARE {
         return atoms::against_number(rec, i, row.first, row.second, row.number);
     }
-    if kind == 2 {
+    if kind == kinds::A_TO_B {
         return atoms::a_to_b(rec, i, row.second);
     }
-    if kind == 3 {
+    if kind == kinds::FALL {
         return atoms::sloped(rec, i, row.first, fields::FALLING);
     }
-    if kind == 4 {
+    if kind == kinds::RISE {
         return atoms::sloped(rec, i, row.first, fields::RISING);
     }
     let curve = fields::curve(row.first);
-    if kind == 5 {
+    if kind == kinds::HIGH {
         return extremes::high(rec, curve);
     }
-    if kind == 6 {
+    if kind == kinds::LOW {
         return extremes::low(rec, curve);
     }
-    if kind == 7 {
+    if kind == kinds::LOWAFTER {
         return extremes::lowafter(rec, curve, row.number);
     }
     extremes::capafter(rec, curve, row.number)
 }
 
-// Kind 11, `ampl`, which has one run too.
+// `ampl`, which has one run too.
 fn amplitude(rec: &[u8], i: usize, row: Row) -> Span
-    requires { ⌜ Asked (now rec) i row × (row .kind ≡ 11) ⌝ }
+    requires { ⌜ Asked (now rec) i row × (row .kind ≡ AMPL) ⌝ }
     ensures { λ r. ⌜ Spans (λ v. val (coded (now (rec .entry))) v (leafOf row) i) r ⌝ }
 {
     extremes::ampl(rec, fields::curve(row.first))
 }
 
-// Leaves on times: kinds 9 `peaks`, 10 `cross`, 12 `gaps`, 13 `steps` and 14 `lag`.
+// Leaves on times: `peaks`, `cross`, `gaps`, `steps` and `lag`.
 fn timed(rec: &[u8], i: usize, row: Row) -> Cuts
-    requires { ⌜ Asked (now rec) i row × (9 ≤ row .kind) × (row .kind ≡ 11 → ⊥) ⌝ }
+    requires { ⌜ Asked (now rec) i row × (PEAKS ≤ row .kind) × (row .kind ≡ AMPL → ⊥) ⌝ }
     ensures { λ r. ⌜ Collects (λ v. val (coded (now (rec .entry))) v (leafOf row) i) r ⌝ }
 {
     let kind = row.kind;
-    if kind == 10 {
+    if kind == kinds::CROSS {
         return times::cross(rec);
     }
-    if kind == 14 {
+    if kind == kinds::LAG {
         return times::lag(rec);
     }
     let curve = fields::curve(row.first);
-    if kind == 9 {
+    if kind == kinds::PEAKS {
         return times::peaks(rec, curve);
     }
-    if kind == 12 {
+    if kind == kinds::GAPS {
         return times::gaps(rec, curve);
     }
     times::steps(rec, curve)
@@ -99,11 +101,11 @@ pub fn leaf(rec: &[u8], i: usize, row: Row, out: &mut [u32]) -> Filled
     ensures { λ r. ⌜ Fills (λ v. val (coded (now (rec .entry))) v (leafOf row) i) (now (out .exit)) r ⌝ }
 {
     let kind = row.kind;
-    if kind < 9 {
+    if kind < kinds::PEAKS {
         let s = spanned(rec, i, row);
         return runset::lent::span(s.low, s.high, out);
     }
-    if kind == 11 {
+    if kind == kinds::AMPL {
         let s = amplitude(rec, i, row);
         return runset::lent::span(s.low, s.high, out);
     }

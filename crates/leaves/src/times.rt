@@ -3,7 +3,7 @@ ghost use Prim.Native.Nat.{_≤_, _<_};
 ghost use lib.ListN.{length};
 ghost use Rattle.recording.specs.Recording.{Accepted};
 ghost use Rattle.tops.specs.Tops.{curveOf};
-ghost use Rattle.text.specs.Syntax as asks;
+ghost use Rattle.grammar.specs.Syntax as asks;
 ghost use Rattle.meaning.specs.Coded.{topTimes, crossingTimes};
 ghost use Rattle.tops.specs.Tops.{mostTops};
 ghost use Rattle.meaning.specs.Truth.{truth};

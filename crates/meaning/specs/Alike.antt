@@ -9,11 +9,11 @@ use lib.Signed.{_≤ℤ_, _<ℤ_}
 use Rattle.number.specs.Axis.{origin}
 use Rattle.recording.specs.Condition.{Condition, pick}
 use Rattle.recording.specs.Reading.{Reading, Curve, value, top, crossing}
-use Rattle.text.specs.Syntax.{Text}
+use Rattle.grammar.specs.Syntax.{Text}
 use Rattle.meaning.specs.Listed.{SomeRecord, After}
 use Rattle.meaning.specs.Meaning.{readingAt, Holds}
 use Rattle.meaning.specs.Overfull.{Overfull, TooManyTops}
-use Rattle.text.specs.Size.{temporal, afterTimes}
+use Rattle.grammar.specs.Size.{temporal, afterTimes}
 
 -- the index of a mark on the axis
 abbrev pub markIndex : ℕ → ℕ

@@ -13,11 +13,11 @@ use borrow.Author.Tests.{ltb-true, lt-ltb}
 use Rattle.number.specs.Axis.{origin, whole}
 use Rattle.recording.specs.Condition.{Condition, pick}
 use Rattle.recording.specs.Reading.{Reading, Curve, A, B, value, top, crossing, nothing}
-use Rattle.text.specs.Syntax.{Listed, high, low, lowafter, capafter, peaks, cross, ampl, gaps, steps, lag, Text, atom, listed, or, and, neg, finally, globally, next, until, weakUntil}
+use Rattle.grammar.specs.Syntax.{Listed, high, low, lowafter, capafter, peaks, cross, ampl, gaps, steps, lag, Text, atom, listed, or, and, neg, finally, globally, next, until, weakUntil}
 use Rattle.meaning.specs.Listed.{recordAt, SomeRecord, EachRecord, Meets, timeOf, After, between, Says}
 use Rattle.meaning.specs.Meaning.{readingAt, AtomSays, Holds}
 use Rattle.meaning.specs.Overfull.{children, Node, itself, below, Overfull, TooManyTops}
-use Rattle.text.specs.Size.{temporal, afterTime, afterTimes}
+use Rattle.grammar.specs.Size.{temporal, afterTime, afterTimes}
 use Rattle.meaning.specs.Alike.{markIndex, Plain, times, Alike, Same}
 use Rattle.meaning.specs.Truth.{someOf, somePair, someStep}
 use Rattle.meaning.specs.BoolLaws.{then, back, either, both, so-and, none-left, or-right, off}

@@ -1,7 +1,7 @@
 -- Document 01, "Listed questions": the formulas that it gives for the first six of them.
 use Prim.Native.Nat.{ℕ}
 use Rattle.recording.specs.Reading.{Curve}
-use Rattle.text.specs.Syntax.{of, T, ge, le, gt, eq, v, number, compare, A-to-B, fall, Listed, high, low, lowafter, capafter, peaks, cross, Text, atom, or, and, neg, finally, globally, next}
+use Rattle.grammar.specs.Syntax.{of, T, ge, le, gt, eq, v, number, compare, A-to-B, fall, Listed, high, low, lowafter, capafter, peaks, cross, Text, atom, or, and, neg, finally, globally, next}
 
 -- the question equals the formula, both asked alone
 pub data Formula : Listed → Text → Type 0 where

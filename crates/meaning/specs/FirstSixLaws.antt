@@ -15,10 +15,10 @@ use Rattle.number.specs.Axis.{axis, whole}
 use Rattle.runset.specs.Runs.{runCount, mostRuns}
 use Rattle.recording.specs.Condition.{pick, pickFrom, when}
 use Rattle.recording.specs.Reading.{Reading, Curve, edge}
-use Rattle.text.specs.Syntax.{of, T, ge, le, gt, eq, v, number, compare, A-to-B, fall, Listed, Text, atom, listed, or, and, neg, finally, globally, next}
+use Rattle.grammar.specs.Syntax.{of, T, ge, le, gt, eq, v, number, compare, A-to-B, fall, Listed, Text, atom, listed, or, and, neg, finally, globally, next}
 use Rattle.meaning.specs.Meaning.{Holds}
 use Rattle.meaning.specs.Overfull.{Overfull}
-use Rattle.text.specs.Size.{temporal}
+use Rattle.grammar.specs.Size.{temporal}
 use Rattle.meaning.specs.Recorded.{Increasing, Recorded}
 use Rattle.meaning.specs.FirstSix.{Formula, of-high, of-low, of-lowafter, of-capafter, of-peaks, of-cross}
 use Rattle.meaning.specs.Coded.{Coded, code, blank, codedValue, codedFalls, codedCrossed, codedAfter}

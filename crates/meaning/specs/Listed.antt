@@ -9,7 +9,7 @@ use lib.Signed.{_≤ℤ_, _<ℤ_}
 use Rattle.number.specs.Axis.{whole}
 use Rattle.recording.specs.Condition.{Condition, holdsAt}
 use Rattle.recording.specs.Reading.{Reading, Curve, A, B, value, top, crossing, nothing}
-use Rattle.text.specs.Syntax.{Listed, high, low, lowafter, capafter, peaks, cross, ampl, gaps, steps, lag}
+use Rattle.grammar.specs.Syntax.{Listed, high, low, lowafter, capafter, peaks, cross, ampl, gaps, steps, lag}
 
 -- record i
 abbrev pub recordAt : List Reading → ℕ → Reading

@@ -14,7 +14,7 @@ use Rattle.number.specs.Axis.{origin, whole}
 use Rattle.recording.specs.Condition.{Condition, pickFrom}
 use Rattle.recording.specs.Reading.{Reading, Curve, A, B, value, falls, crossed, top, crossing, nothing}
 use Rattle.recording.specs.Recording.{inRange}
-use Rattle.text.specs.Syntax.{Listed, high, low, lowafter, capafter, peaks, cross, ampl, gaps, steps, lag}
+use Rattle.grammar.specs.Syntax.{Listed, high, low, lowafter, capafter, peaks, cross, ampl, gaps, steps, lag}
 use Rattle.meaning.specs.Listed.{recordAt, SomeRecord, EachRecord, Meets, timeOf, After, between, Says}
 use Rattle.meaning.specs.Recorded.{InRange}
 use Rattle.meaning.specs.Coded.{Coded, code, index, codedValue, codedFalls, codedCrossed, codedAfter, codedTop, codedCrossing, timesOf, topTimes, crossingTimes}

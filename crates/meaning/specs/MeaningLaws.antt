@@ -8,7 +8,7 @@ use mathlib.Core.Logic.{_⊎_, _↔_}
 use mathlib.Core.List.{List}
 use lib.IntN.{ℤ}
 use Rattle.recording.specs.Reading.{Reading}
-use Rattle.text.specs.Syntax.{Text, or, finally, globally, next, until, weakUntil}
+use Rattle.grammar.specs.Syntax.{Text, or, finally, globally, next, until, weakUntil}
 use Rattle.meaning.specs.Meaning.{lastOf, Holds}
 use Rattle.meaning.specs.Coded.{Coded}
 use Rattle.meaning.specs.Truth.{lastCoded, finallyFrom, globallyFrom, untilFrom, weakFrom, val}

@@ -10,8 +10,8 @@ use Rattle.runset.specs.Runs.{runCount, mostRuns}
 use Rattle.recording.specs.Condition.{pick}
 use Rattle.recording.specs.Reading.{Reading, Curve, top}
 use Rattle.tops.specs.Tops.{mostTops}
-use Rattle.text.specs.Size.{temporal}
-use Rattle.text.specs.Syntax.{Listed, gaps, steps, lag, Text, atom, listed, or, and, neg, finally, globally, next, until, weakUntil}
+use Rattle.grammar.specs.Size.{temporal}
+use Rattle.grammar.specs.Syntax.{Listed, gaps, steps, lag, Text, atom, listed, or, and, neg, finally, globally, next, until, weakUntil}
 use Rattle.meaning.specs.Meaning.{Holds}
 
 -- the nodes directly below a node

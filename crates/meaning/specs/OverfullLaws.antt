@@ -11,9 +11,9 @@ use borrow.Author.Tests.{ltb-true, lt-ltb}
 use Rattle.runset.specs.Runs.{runCount, mostRuns}
 use Rattle.recording.specs.Condition.{pick}
 use Rattle.recording.specs.Reading.{Reading, Curve, A, B, top}
-use Rattle.text.specs.Syntax.{Listed, high, low, lowafter, capafter, peaks, cross, ampl, gaps, steps, lag, Text, atom, listed, or, and, neg, finally, globally, next, until, weakUntil}
+use Rattle.grammar.specs.Syntax.{Listed, high, low, lowafter, capafter, peaks, cross, ampl, gaps, steps, lag, Text, atom, listed, or, and, neg, finally, globally, next, until, weakUntil}
 use Rattle.meaning.specs.Overfull.{children, Node, itself, below, IsSet, Overfull, Differences, of-gaps, of-steps, of-lag, TooManyTops}
-use Rattle.text.specs.Size.{temporal}
+use Rattle.grammar.specs.Size.{temporal}
 use Rattle.tops.specs.Tops.{mostTops}
 use Rattle.meaning.specs.Recorded.{InRange}
 use Rattle.meaning.specs.Coded.{code, topTimes}

@@ -6,7 +6,7 @@ use lib.IntN.{ℤ, pos, negsuc, _+ℤ_}
 use lib.Signed.{_≤ℤ_, _<ℤ_}
 use Rattle.number.specs.Axis.{origin, axis, whole}
 use Rattle.recording.specs.Reading.{Reading, A}
-use Rattle.text.specs.Syntax.{ge, eq, of, v, number, compare, high, low, lowafter, capafter, peaks, cross, ampl, gaps, lag, Text, atom, listed, until}
+use Rattle.grammar.specs.Syntax.{ge, eq, of, v, number, compare, high, low, lowafter, capafter, peaks, cross, ampl, gaps, lag, Text, atom, listed, until}
 use Rattle.meaning.specs.Meaning.{Holds}
 
 -- a reading of R1: T, A and the slope of A; B is 50 and flat

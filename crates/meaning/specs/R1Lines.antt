@@ -12,7 +12,7 @@ use borrow.Author.Tests.{leb-true, le-leb, eqb-true, eq-eqb}
 use Rattle.number.specs.Axis.{origin, axis, whole}
 use Rattle.recording.specs.Reading.{A, B, value, nothing}
 use Rattle.recording.specs.Recording.{inRange}
-use Rattle.text.specs.Syntax.{ge, eq, of, v, number, compare, high, low, lowafter, capafter, peaks, cross, ampl, gaps, lag, atom, listed, until}
+use Rattle.grammar.specs.Syntax.{ge, eq, of, v, number, compare, high, low, lowafter, capafter, peaks, cross, ampl, gaps, lag, atom, listed, until}
 use Rattle.meaning.specs.Recorded.{InRange}
 use Rattle.meaning.specs.Coded.{Coded, code, index, codedValue, codedAfter}
 use Rattle.meaning.specs.Truth.{someOf, among, truth, val}

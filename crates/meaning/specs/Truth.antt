@@ -8,9 +8,9 @@ use lib.ListN.{length, getD}
 use Rattle.number.specs.Axis.{origin}
 use Rattle.runset.specs.Runs.{runCount, mostRuns}
 use Rattle.recording.specs.Reading.{Curve, A, B}
-use Rattle.text.specs.Syntax.{Field, of, T, Relation, ge, le, gt, lt, eq, Operand, v, number, Atom, compare, A-to-B, fall, rise, Listed, high, low, lowafter, capafter, peaks, cross, ampl, gaps, steps, lag, Text, atom, listed, or, and, neg, finally, globally, next, until, weakUntil}
+use Rattle.grammar.specs.Syntax.{Field, of, T, Relation, ge, le, gt, lt, eq, Operand, v, number, Atom, compare, A-to-B, fall, rise, Listed, high, low, lowafter, capafter, peaks, cross, ampl, gaps, steps, lag, Text, atom, listed, or, and, neg, finally, globally, next, until, weakUntil}
 use Rattle.meaning.specs.Coded.{Coded, blank, codedValue, codedFalls, codedRises, codedAfter, topTimes, crossingTimes}
-use Rattle.text.specs.Size.{temporal}
+use Rattle.grammar.specs.Size.{temporal}
 use Rattle.tops.specs.Tops.{mostTops}
 
 -- ---- lists

@@ -5,7 +5,7 @@ use lib.Dec.{ltb}
 use lib.IntN.{ℤ, pos, negsuc}
 use Rattle.io.specs.Digits.{digits}
 use Rattle.number.specs.Least.{least}
-use Rattle.text.specs.Bytes.{bytes}
+use Rattle.grammar.specs.Bytes.{bytes}
 
 -- how many digits n has: the fewest, and one at least, that hold it
 unfoldable pub places : ℕ → ℕ

@@ -6,7 +6,7 @@ use mathlib.Core.List.{List, [], _++_}
 use Rattle.number.specs.Least.{least}
 use Rattle.number.specs.Words.{wordBytes, turned, signed}
 use Rattle.refusal.specs.Outcome.{result, refused}
-use Rattle.text.specs.Bytes.{bytes}
+use Rattle.grammar.specs.Bytes.{bytes}
 use Rattle.page.specs.Decimal.{places, decimal, signedDecimal}
 use Rattle.page.specs.DecimalLaws.{decimal-is}
 use Rattle.page.specs.Page.{newline, runLine, runLines, page}

@@ -5,7 +5,7 @@ use mathlib.Core.Bool.{cond}
 use mathlib.Core.List.{List, _++_}
 use lib.Dec.{ltb}
 use lib.ListN.{length, take, drop}
-use Rattle.text.specs.Size.{mostBytes}
+use Rattle.grammar.specs.Size.{mostBytes}
 
 -- A limit is given in blocks of 16 bytes, the size of a record. That of a recording is `mostRecords`.
 

@@ -16,8 +16,8 @@ use Rattle.recording.specs.Output.{outputLine}
 use Rattle.recording.specs.OutcomeLaws.{judged-first, judged-skip}
 use Rattle.number.specs.OrderLaws.{less-or-not}
 use Rattle.runset.specs.Runs.{setBytes}
-use Rattle.text.specs.Parse.{reading}
-use Rattle.text.specs.Size.{mostBytes}
+use Rattle.grammar.specs.Parse.{reading}
+use Rattle.grammar.specs.Size.{mostBytes}
 use Rattle.text.specs.Told.{badLength, noReading, tooLarge}
 use Rattle.question.specs.Question.{read, answer, setLines, questionOf}
 use Rattle.page.specs.Typed.{withoutNewline}

@@ -5,7 +5,7 @@ use lib.ListN.{length}
 use lib.IntN.{ℤ}
 use Rattle.number.specs.Words.{word, signed}
 use Rattle.refusal.specs.Outcome.{Outcome, result, refused}
-use Rattle.text.specs.Bytes.{bytes}
+use Rattle.grammar.specs.Bytes.{bytes}
 use Rattle.page.specs.Decimal.{decimal, signedDecimal}
 
 abbrev pub newline : List ℕ

@@ -22,12 +22,12 @@ use Rattle.runset.specs.Runs.{mostRuns, runCount, setBytes}
 use Rattle.runset.specs.Set.{xor, inside, Canonical}
 use Rattle.runset.specs.CutsLaws.{lowCuts, highCuts}
 use Rattle.runset.specs.RunsLaws.{cuts-bytes, cuts-count}
-use Rattle.text.specs.Bytes.{bytes}
-use Rattle.text.specs.Lexer.{unsignedAt, numberAt, operandAt, comparisonAt, timedAt, argumentsAt, namedAt, headedAt, leafAt}
-use Rattle.text.specs.Parse.{parse, reading}
-use Rattle.text.specs.Size.{tooDeep}
-use Rattle.text.specs.Syntax.{Text, listed, peaks}
-use Rattle.text.specs.Size.{temporal}
+use Rattle.grammar.specs.Bytes.{bytes}
+use Rattle.grammar.specs.Lexer.{unsignedAt, numberAt, operandAt, comparisonAt, timedAt, argumentsAt, namedAt, headedAt, leafAt}
+use Rattle.grammar.specs.Parse.{parse, reading}
+use Rattle.grammar.specs.Size.{tooDeep}
+use Rattle.grammar.specs.Syntax.{Text, listed, peaks}
+use Rattle.grammar.specs.Size.{temporal}
 use Rattle.meaning.specs.Coded.{coded}
 use Rattle.meaning.specs.Truth.{val, truth, someNode, refused8, refused9}
 use Rattle.question.specs.Question.{read, answer, askingLines, setLines, questionOf}

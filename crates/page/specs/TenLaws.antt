@@ -15,7 +15,7 @@ use Rattle.recording.specs.Output.{outputLine}
 use Rattle.recording.specs.OutcomeLaws.{judged-skip, no-result}
 use Rattle.runset.specs.Runs.{mostRuns, runCount, setBytes}
 use Rattle.runset.specs.RunsLaws.{setBytes-length}
-use Rattle.text.specs.Syntax.{Text}
+use Rattle.grammar.specs.Syntax.{Text}
 use Rattle.text.specs.Told.{textLines}
 use Rattle.meaning.specs.Coded.{Coded, code, coded}
 use Rattle.meaning.specs.Truth.{largeAt, refused8, refused9}

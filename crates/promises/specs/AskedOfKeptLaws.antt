@@ -7,10 +7,10 @@ use mathlib.Core.List.{List, [], _∷_, map, List·Memᴰ, List·Memᴰ·head, L
 use lib.Dec.{eqb}
 use borrow.Author.Tests.{eqb-true, eq-eqb, not-true}
 use Rattle.recording.specs.Booleans.{and-left, and-right}
-use Rattle.text.specs.Bytes.{bytes}
-use Rattle.text.specs.Lexer.{unsignedAt, numberAt, operandAt, comparisonAt, timedAt, argumentsAt, namedAt, headedAt, leafAt}
-use Rattle.text.specs.Parse.{parse, reading}
-use Rattle.text.specs.Size.{afterTimes}
+use Rattle.grammar.specs.Bytes.{bytes}
+use Rattle.grammar.specs.Lexer.{unsignedAt, numberAt, operandAt, comparisonAt, timedAt, argumentsAt, namedAt, headedAt, leafAt}
+use Rattle.grammar.specs.Parse.{parse, reading}
+use Rattle.grammar.specs.Size.{afterTimes}
 use Rattle.meaning.specs.Alike.{markIndex}
 use Rattle.question.specs.Question.{read}
 use Rattle.question.specs.MeantLaws.{reads-read}

@@ -24,10 +24,10 @@ use Rattle.runset.specs.Runs.{runCount, setBytes}
 use Rattle.runset.specs.RunsLaws.{runCount-ext, setBytes-length}
 use Rattle.targets.specs.Target.{offAxis}
 use Rattle.tops.specs.Tops.{curveOf, mostTops}
-use Rattle.text.specs.Syntax.{Text}
-use Rattle.text.specs.Grammar.{ReadsWhole}
-use Rattle.text.specs.Parse.{reading}
-use Rattle.text.specs.Size.{nodes, openAt, tooDeep, mostBytes, mostNodes, mostOpen}
+use Rattle.grammar.specs.Syntax.{Text}
+use Rattle.grammar.specs.Grammar.{ReadsWhole}
+use Rattle.grammar.specs.Parse.{reading}
+use Rattle.grammar.specs.Size.{nodes, openAt, tooDeep, mostBytes, mostNodes, mostOpen}
 use Rattle.text.specs.Told.{badLength, noReading, tooLarge, textLines}
 use Rattle.meaning.specs.Alike.{Same}
 use Rattle.meaning.specs.BoolLaws.{same}

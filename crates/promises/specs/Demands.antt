@@ -14,10 +14,10 @@ use Rattle.refusal.specs.declared.Refusal.{Refusal}
 use Rattle.recording.specs.Recording.{readings, Accepted}
 use Rattle.runset.specs.Runs.{setBytes}
 use Rattle.runset.specs.Written.{inBytes}
-use Rattle.text.specs.Bytes.{bytes}
-use Rattle.text.specs.Syntax.{Text}
-use Rattle.text.specs.Grammar.{ReadsWhole}
-use Rattle.text.specs.Size.{afterTimes}
+use Rattle.grammar.specs.Bytes.{bytes}
+use Rattle.grammar.specs.Syntax.{Text}
+use Rattle.grammar.specs.Grammar.{ReadsWhole}
+use Rattle.grammar.specs.Size.{afterTimes}
 use Rattle.meaning.specs.Meaning.{Holds}
 use Rattle.meaning.specs.Overfull.{IsSet}
 use Rattle.meaning.specs.Alike.{markIndex}

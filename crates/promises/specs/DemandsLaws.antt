@@ -25,8 +25,8 @@ use Rattle.runset.specs.RunsLaws.{setBytes-ext}
 use Rattle.runset.specs.WrittenLaws.{written-member, member-written}
 use Rattle.targets.specs.Target.{offAxis}
 use Rattle.targets.specs.TargetLaws.{sub-above, sub-below}
-use Rattle.text.specs.Syntax.{Text}
-use Rattle.text.specs.Grammar.{ReadsWhole}
+use Rattle.grammar.specs.Syntax.{Text}
+use Rattle.grammar.specs.Grammar.{ReadsWhole}
 use Rattle.text.specs.Told.{textLines}
 use Rattle.meaning.specs.Alike.{Plain}
 use Rattle.meaning.specs.BoolLaws.{same}

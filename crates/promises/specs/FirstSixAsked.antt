@@ -6,9 +6,9 @@ use mathlib.Core.Path.{_≡_}
 use mathlib.Core.List.{List, [], _∷_}
 use lib.IntN.{ℤ}
 use Rattle.refusal.specs.Outcome.{NoneMeets}
-use Rattle.text.specs.Bytes.{bytes}
-use Rattle.text.specs.Grammar.{ReadsWhole}
-use Rattle.text.specs.Syntax.{Listed, Text, listed}
+use Rattle.grammar.specs.Bytes.{bytes}
+use Rattle.grammar.specs.Grammar.{ReadsWhole}
+use Rattle.grammar.specs.Syntax.{Listed, Text, listed}
 use Rattle.text.specs.Told.{textLines}
 use Rattle.meaning.specs.FirstSix.{Formula}
 use Rattle.question.specs.Question.{questionOf}

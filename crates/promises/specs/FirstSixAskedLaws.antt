@@ -13,13 +13,13 @@ use Rattle.recording.specs.Recording.{readings, recordingLines, noRecord, Accep
 use Rattle.recording.specs.Output.{outputLine}
 use Rattle.recording.specs.OutcomeLaws.{judged-pass, none-append}
 use Rattle.runset.specs.Runs.{setBytes}
-use Rattle.text.specs.Bytes.{bytes}
-use Rattle.text.specs.Lexer.{unsignedAt, numberAt, operandAt, comparisonAt, timedAt, argumentsAt, namedAt, headedAt, leafAt}
-use Rattle.text.specs.Parse.{one, parse, reading}
-use Rattle.text.specs.Size.{tooDeep}
-use Rattle.text.specs.Syntax.{Listed, Text, listed}
+use Rattle.grammar.specs.Bytes.{bytes}
+use Rattle.grammar.specs.Lexer.{unsignedAt, numberAt, operandAt, comparisonAt, timedAt, argumentsAt, namedAt, headedAt, leafAt}
+use Rattle.grammar.specs.Parse.{one, parse, reading}
+use Rattle.grammar.specs.Size.{tooDeep}
+use Rattle.grammar.specs.Syntax.{Listed, Text, listed}
 use Rattle.text.specs.Told.{textLines}
-use Rattle.text.specs.Unique.{reading-is}
+use Rattle.grammar.specs.Unique.{reading-is}
 use Rattle.meaning.specs.BoolLaws.{back}
 use Rattle.meaning.specs.Coded.{Coded, coded, index}
 use Rattle.meaning.specs.FirstSix.{Formula, of-high, of-low, of-lowafter, of-capafter, of-peaks, of-cross}

@@ -13,8 +13,8 @@ use Rattle.recording.specs.Output.{outputLine}
 use Rattle.recording.specs.R1.{R1}
 use Rattle.recording.specs.Reading.{Reading}
 use Rattle.recording.specs.Recording.{readings}
-use Rattle.text.specs.Bytes.{bytes}
-use Rattle.text.specs.Grammar.{ReadsWhole}
+use Rattle.grammar.specs.Bytes.{bytes}
+use Rattle.grammar.specs.Grammar.{ReadsWhole}
 use Rattle.meaning.specs.Meaning.{Holds}
 use Rattle.meaning.specs.R1.{Run, _to_, just, Lo, Hi, InRuns, Maximal}
 use Rattle.question.specs.Question.{read, answer, questionOf}

@@ -22,13 +22,13 @@ use Rattle.runset.specs.Runs.{runCount, mostRuns, startsAt, runBytes, setBytes}
 use Rattle.runset.specs.Set.{inside, Ascending, Canonical}
 use Rattle.runset.specs.CutsLaws.{lowCuts, highCuts, none, behind-run, covers, inside-covers}
 use Rattle.runset.specs.RunsLaws.{cuts-bytes, cuts-count}
-use Rattle.text.specs.Bytes.{bytes}
-use Rattle.text.specs.Lexer.{unsignedAt, numberAt, operandAt, comparisonAt, timedAt, argumentsAt, namedAt, headedAt, leafAt}
-use Rattle.text.specs.Parse.{one, parse, reading}
-use Rattle.text.specs.Size.{tooDeep}
-use Rattle.text.specs.Syntax.{ge, eq, of, v, number, compare, Listed, high, low, lowafter, capafter, peaks, cross, ampl, gaps, lag, Text, atom, listed, until}
+use Rattle.grammar.specs.Bytes.{bytes}
+use Rattle.grammar.specs.Lexer.{unsignedAt, numberAt, operandAt, comparisonAt, timedAt, argumentsAt, namedAt, headedAt, leafAt}
+use Rattle.grammar.specs.Parse.{one, parse, reading}
+use Rattle.grammar.specs.Size.{tooDeep}
+use Rattle.grammar.specs.Syntax.{ge, eq, of, v, number, compare, Listed, high, low, lowafter, capafter, peaks, cross, ampl, gaps, lag, Text, atom, listed, until}
 use Rattle.text.specs.Told.{textLines}
-use Rattle.text.specs.Unique.{reading-is}
+use Rattle.grammar.specs.Unique.{reading-is}
 use Rattle.meaning.specs.BoolLaws.{same, then, back, either, both, so-or, so-and, or-none, and-left, and-right}
 use Rattle.meaning.specs.Coded.{Coded, coded, index}
 use Rattle.meaning.specs.Meaning.{Holds}

@@ -4,10 +4,10 @@ use mathlib.Core.Path.{_≡_, refl}
 use mathlib.Core.Bool.{Bool, true, false, _||_, false≢true}
 use mathlib.Core.Logic.{_⊎_, inl, inr, ⊎-elim}
 use mathlib.Core.List.{List, _∷_, _++_, List·Memᴰ, List·Memᴰ·head, List·Memᴰ·tail, Memᴰ·append-left, Memᴰ·append-right}
-use Rattle.text.specs.Bytes.{bytes}
-use Rattle.text.specs.Syntax.{Text}
-use Rattle.text.specs.Size.{temporal}
-use Rattle.text.specs.Grammar.{Level, Reads, one-conjunction, bar, one-negation, ampersand, one-primary, bang, bracketed, an-F, a-G, an-X, a-U, a-W, an-atom, a-listed, ReadsWhole}
+use Rattle.grammar.specs.Bytes.{bytes}
+use Rattle.grammar.specs.Syntax.{Text}
+use Rattle.grammar.specs.Size.{temporal}
+use Rattle.grammar.specs.Grammar.{Level, Reads, one-conjunction, bar, one-negation, ampersand, one-primary, bang, bracketed, an-F, a-G, an-X, a-U, a-W, an-atom, a-listed, ReadsWhole}
 
 -- the word writes an operator's letter
 abbrev Writes : List ℕ → Type 0

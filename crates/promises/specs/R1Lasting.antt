@@ -21,13 +21,13 @@ use Rattle.runset.specs.Set.{inside, Canonical}
 use Rattle.runset.specs.CutsLaws.{lowCuts, highCuts}
 use Rattle.runset.specs.RunsLaws.{cuts-bytes, cuts-count}
 use Rattle.runset.specs.SetLaws.{run-canonical, run-inside}
-use Rattle.text.specs.Bytes.{bytes}
-use Rattle.text.specs.Size.{tooDeep}
-use Rattle.text.specs.Syntax.{Listed, lowafter, peaks, Text, listed}
-use Rattle.text.specs.Lexer.{unsignedAt, numberAt, operandAt, comparisonAt, timedAt, argumentsAt, namedAt, headedAt, leafAt}
-use Rattle.text.specs.Parse.{parse, reading}
+use Rattle.grammar.specs.Bytes.{bytes}
+use Rattle.grammar.specs.Size.{tooDeep}
+use Rattle.grammar.specs.Syntax.{Listed, lowafter, peaks, Text, listed}
+use Rattle.grammar.specs.Lexer.{unsignedAt, numberAt, operandAt, comparisonAt, timedAt, argumentsAt, namedAt, headedAt, leafAt}
+use Rattle.grammar.specs.Parse.{parse, reading}
 use Rattle.text.specs.Told.{textLines}
-use Rattle.text.specs.Size.{afterTime}
+use Rattle.grammar.specs.Size.{afterTime}
 use Rattle.meaning.specs.Alike.{markIndex, Plain}
 use Rattle.meaning.specs.Coded.{coded, codedValue, codedAfter}
 use Rattle.meaning.specs.Truth.{truth, val, someNode, refused8, refused9}

@@ -21,7 +21,7 @@ use Rattle.recording.specs.OutcomeLaws.{judged-pass}
 use Rattle.runset.specs.Runs.{setBytes}
 use Rattle.runset.specs.RunsLaws.{setBytes-ext}
 use Rattle.tops.specs.Tops.{curveOf, timeOf, topTimes, mostTops}
-use Rattle.text.specs.Syntax.{Text}
+use Rattle.grammar.specs.Syntax.{Text}
 use Rattle.text.specs.Told.{textLines}
 use Rattle.meaning.specs.Coded.{coded, index}
 use Rattle.meaning.specs.Truth.{val, refused8, refused9}

@@ -15,9 +15,9 @@ use Rattle.recording.specs.Reading.{top}
 use Rattle.recording.specs.Recording.{Raw, records, readings, lawful, mostRecords}
 use Rattle.runset.specs.Runs.{runCount}
 use Rattle.tops.specs.Tops.{curveOf, mostTops}
-use Rattle.text.specs.Syntax.{Text}
-use Rattle.text.specs.Grammar.{ReadsWhole}
-use Rattle.text.specs.Size.{nodes, openAt, mostBytes, mostNodes, mostOpen}
+use Rattle.grammar.specs.Syntax.{Text}
+use Rattle.grammar.specs.Grammar.{ReadsWhole}
+use Rattle.grammar.specs.Size.{nodes, openAt, mostBytes, mostNodes, mostOpen}
 use Rattle.meaning.specs.Overfull.{IsSet, Overfull, TooManyTops as OverTops}
 use Rattle.thin.specs.Thin.{keptBytes}
 use Rattle.marks.specs.Marks.{marksOf, mostMarks, latestMark}

@@ -8,10 +8,10 @@ use Rattle.refusal.specs.Numbers.{numberOf, placeOf}
 use Rattle.refusal.specs.declared.Refusal.{Refusal}
 use Rattle.recording.specs.Recording.{Accepted}
 use Rattle.runset.specs.Set.{Represents}
-use Rattle.text.specs.Syntax.{Text}
-use Rattle.text.specs.Size.{mostNodes}
-use Rattle.text.specs.Table.{Falling}
-use Rattle.text.specs.Rows.{Laid}
+use Rattle.grammar.specs.Syntax.{Text}
+use Rattle.grammar.specs.Size.{mostNodes}
+use Rattle.grammar.specs.Table.{Falling}
+use Rattle.parser.specs.Rows.{Laid}
 use Rattle.meaning.specs.Coded.{coded}
 use Rattle.meaning.specs.Truth.{val}
 use Rattle.evaluation.specs.Evaluation.{textOf}

@@ -16,7 +16,7 @@ use Rattle.runset.specs.SetLaws.{represents-ext}
 use Rattle.runset.specs.Lent.{Lent}
 use Rattle.runset.specs.declared.RunSet.{RunSet}
 use Rattle.runset.specs.declared.merge.Filled.{Filled}
-use Rattle.text.specs.Syntax.{Text}
+use Rattle.grammar.specs.Syntax.{Text}
 use Rattle.meaning.specs.Coded.{coded}
 use Rattle.meaning.specs.Truth.{val, refused8, refused9}
 use Rattle.evaluation.specs.Evaluation.{textOf, Asking, Evaluates}

@@ -23,11 +23,11 @@ use Rattle.runset.specs.Runs.{runCount, setBytes}
 use Rattle.runset.specs.RunsLaws.{setBytes-ext, setBytes-length}
 use Rattle.runset.specs.Set.{member, Represents}
 use Rattle.runset.specs.declared.RunSet.{RunSet}
-use Rattle.text.specs.Syntax.{Text}
-use Rattle.text.specs.Size.{tooDeep, mostNodes}
-use Rattle.text.specs.Table.{treeAt}
-use Rattle.text.specs.Rows.{Laid, leaf, unary, binary}
-use Rattle.text.specs.Parse.{Reading, one, none, reading}
+use Rattle.grammar.specs.Syntax.{Text}
+use Rattle.grammar.specs.Size.{tooDeep, mostNodes}
+use Rattle.grammar.specs.Table.{treeAt}
+use Rattle.parser.specs.Rows.{Laid, leaf, unary, binary}
+use Rattle.grammar.specs.Parse.{Reading, one, none, reading}
 use Rattle.text.specs.Told.{textLines, nodesOf, Tabled}
 use Rattle.meaning.specs.Coded.{coded}
 use Rattle.meaning.specs.Truth.{val}

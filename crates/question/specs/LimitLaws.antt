@@ -10,9 +10,9 @@ use lib.ListN.{length, getD, length-map}
 use Rattle.recording.specs.Recording.{Accepted, readings}
 use Rattle.recording.specs.Reading.{Curve, A, B}
 use Rattle.tops.specs.Tops as tops
-use Rattle.text.specs.Syntax.{Text, Listed, listed, gaps, steps, lag}
-use Rattle.text.specs.declared.Row.{Row}
-use Rattle.text.specs.Table.{row, build, rowAt, treeAt, Falling, curveOf}
+use Rattle.grammar.specs.Syntax.{Text, Listed, listed, gaps, steps, lag}
+use Rattle.grammar.specs.declared.Row.{Row}
+use Rattle.grammar.specs.Table.{row, build, rowAt, treeAt, Falling, curveOf}
 use Rattle.meaning.specs.Coded.{Coded, coded, topTimes}
 use Rattle.tops.specs.Tops.{mostTops}
 use Rattle.meaning.specs.Truth.{manyTops, asksTooMany, ofListed, refused9, someNode}

@@ -7,10 +7,10 @@ use mathlib.Core.List.{List}
 use Rattle.number.specs.Axis.{axis, whole}
 use Rattle.recording.specs.Recording.{readings}
 use Rattle.runset.specs.Written.{inBytes}
-use Rattle.text.specs.Syntax.{Text}
-use Rattle.text.specs.Grammar.{ReadsWhole}
-use Rattle.text.specs.Size.{nodes, mostNodes, tooDeep}
-use Rattle.text.specs.Parse.{reading}
+use Rattle.grammar.specs.Syntax.{Text}
+use Rattle.grammar.specs.Grammar.{ReadsWhole}
+use Rattle.grammar.specs.Size.{nodes, mostNodes, tooDeep}
+use Rattle.grammar.specs.Parse.{reading}
 use Rattle.text.specs.Told.{noReading, tooLarge}
 use Rattle.meaning.specs.Meaning.{Holds}
 use Rattle.meaning.specs.Overfull.{Overfull, TooManyTops}

@@ -15,12 +15,12 @@ use Rattle.recording.specs.Output.{Answers, reported, counted, outputAfter, out
 use Rattle.recording.specs.OutcomeLaws.{result-none, none-append, no-result}
 use Rattle.recording.specs.declared.Written.the-variants as written
 use Rattle.runset.specs.Runs.{setBytes}
-use Rattle.text.specs.Syntax.{Text}
-use Rattle.text.specs.Grammar.{ReadsWhole}
-use Rattle.text.specs.Size.{nodes, mostNodes, tooDeep}
-use Rattle.text.specs.Parse.{Reading, one, none, reading}
+use Rattle.grammar.specs.Syntax.{Text}
+use Rattle.grammar.specs.Grammar.{ReadsWhole}
+use Rattle.grammar.specs.Size.{nodes, mostNodes, tooDeep}
+use Rattle.grammar.specs.Parse.{Reading, one, none, reading}
 use Rattle.text.specs.Told.{noReading, nodesOf, tooLarge, textLines}
-use Rattle.text.specs.Unique.{reading-is, reading-none, unique}
+use Rattle.grammar.specs.Unique.{reading-is, reading-none, unique}
 use Rattle.meaning.specs.Coded.{code, coded}
 use Rattle.meaning.specs.Overfull.{Overfull, TooManyTops}
 use Rattle.meaning.specs.Truth.{refused8, refused9}

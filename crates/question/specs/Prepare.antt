@@ -4,7 +4,7 @@ use mathlib.Core.Path.{_≡_}
 use mathlib.Core.List.{List}
 use Rattle.refusal.specs.Outcome.{Outcome, result, refused, judged}
 use Rattle.refusal.specs.Numbers.{numberOf, placeOf}
-use Rattle.text.specs.Parse.{reading}
+use Rattle.grammar.specs.Parse.{reading}
 use Rattle.text.specs.Told.{nodesOf, Tabled}
 use Rattle.question.specs.Question.{askingLines}
 use Rattle.question.specs.declared.prepare.Prepared.{Prepared}

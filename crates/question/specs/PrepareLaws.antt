@@ -16,7 +16,7 @@ use Rattle.recording.specs.OutcomeLaws.{judged-pass, judged-skip, judged-first,
 use Rattle.recording.specs.Output.{found}
 use Rattle.recording.specs.declared.Checked.{Checked}
 use Rattle.recording.specs.declared.Checked.the-variants as checked
-use Rattle.text.specs.Parse.{reading}
+use Rattle.grammar.specs.Parse.{reading}
 use Rattle.text.specs.Told.{textLines, nodesOf, outcomeOf, Told, Tabled}
 use Rattle.text.specs.declared.Answer.{Answer}
 use Rattle.text.specs.declared.Answer.the-variants as answer

@@ -6,8 +6,8 @@ use Rattle.refusal.specs.Outcome.{Outcome, Line, line, judged}
 use Rattle.recording.specs.Recording.{recordingLines, noRecord}
 use Rattle.recording.specs.Output.{outputLine}
 use Rattle.runset.specs.Runs.{setBytes}
-use Rattle.text.specs.Syntax.{Text, listed, lag}
-use Rattle.text.specs.Parse.{Reading, one, none, reading}
+use Rattle.grammar.specs.Syntax.{Text, listed, lag}
+use Rattle.grammar.specs.Parse.{Reading, one, none, reading}
 use Rattle.text.specs.Told.{textLines}
 use Rattle.meaning.specs.Truth.{val, refused8, refused9}
 use Rattle.meaning.specs.Coded.{coded}

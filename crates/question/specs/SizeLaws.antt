@@ -15,10 +15,10 @@ use Rattle.recording.specs.OutcomeLaws.{result-none, none-append}
 use Rattle.recording.specs.RecordLaws.{length-records}
 use Rattle.runset.specs.Runs.{runCount, mostRuns, setBytes}
 use Rattle.runset.specs.RunsLaws.{setBytes-length}
-use Rattle.text.specs.Syntax.{Text, atom, listed, or, and, neg, finally, globally, next, until, weakUntil}
+use Rattle.grammar.specs.Syntax.{Text, atom, listed, or, and, neg, finally, globally, next, until, weakUntil}
 use Rattle.text.specs.Told.{textLines}
 use Rattle.meaning.specs.Coded.{Coded, coded}
-use Rattle.text.specs.Size.{temporal}
+use Rattle.grammar.specs.Size.{temporal}
 use Rattle.meaning.specs.Truth.{someNode, overAt, someBelow, largeAt, refused8}
 use Rattle.evaluation.specs.EvaluateLaws.{coded-length}
 use Rattle.question.specs.Question.{read, answer, askingLines, setLines, questionOf}

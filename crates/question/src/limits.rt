@@ -4,11 +4,12 @@ ghost use Prim.Native.Nat.{ℕ, _*_, _≤_, _<_};
 ghost use lib.ListN.{length};
 ghost use Rattle.recording.specs.Recording.{Accepted};
 ghost use Rattle.tops.specs.Tops as tops;
-ghost use Rattle.text.specs.Table as nodes;
+ghost use Rattle.grammar.specs.Table as nodes;
 ghost use Rattle.meaning.specs.Coded.{coded};
 ghost use Rattle.meaning.specs.Truth.{manyTops, asksTooMany, ofListed, refused9};
 ghost use Rattle.leaves.specs.Leaf.{leafOf};
-use text::Row;
+use grammar::Row;
+use grammar::kinds;
 
 // Whether the curve has too many tops for differences.
 fn many_tops(rec: &[u8], curve: usize) -> bool
@@ -28,14 +29,14 @@ fn curve(code: u32) -> usize
 
 // Whether a leaf takes differences between too many tops.
 fn leaf_asks(rec: &[u8], row: Row) -> bool
-    requires { ⌜ Accepted (now rec) × (row .kind < 15) ⌝ }
+    requires { ⌜ Accepted (now rec) × (row .kind < nodes.unaryFrom) ⌝ }
     ensures { λ r. ⌜ r ≡ ofListed (asksTooMany (coded (now (rec .entry)))) (leafOf row) ⌝ }
 {
     let kind = row.kind;
-    if kind < 12 {
+    if kind < kinds::GAPS {
         return false;
     }
-    if kind == 14 {
+    if kind == kinds::LAG {
         if many_tops(rec, 0) {
             return true;
         }
@@ -51,13 +52,13 @@ pub fn asks(table: &[u32], count: usize, rec: &[u8], n: usize) -> bool
 {
     let row = evaluation::rows::row_at(table, n);
     let kind = row.kind;
-    if kind < 15 {
+    if kind < kinds::NOT {
         return leaf_asks(rec, row);
     }
     if asks(table, count, rec, evaluation::slots::size(row.first)) {
         return true;
     }
-    if kind < 19 {
+    if kind < kinds::OR {
         return false;
     }
     asks(table, count, rec, evaluation::slots::size(row.second))

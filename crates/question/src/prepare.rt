@@ -1,7 +1,7 @@
 // Reading a text that is to be asked of a recording: the refusals 1 to 7.
 ghost use Prim.Native.Nat.{ℕ, _*_, _≤_};
 ghost use lib.ListN.{length};
-ghost use Rattle.text.specs.Size.{mostBytes};
+ghost use Rattle.grammar.specs.Size.{mostBytes};
 ghost use Rattle.question.specs.Prepare.{Prepares};
 use recording::Checked;
 use refusal::Refusal;

@@ -10,7 +10,7 @@ use lib.ListN.{length, getD, take}
 use lib.Seq.{take-suc}
 use borrow.Author.Tests.{lt-ltb, le-ltb, ltb-true, ltb-false}
 use Rattle.number.specs.Least.{least}
-use Rattle.text.specs.Size.{count, openAt, tooDeep}
+use Rattle.grammar.specs.Size.{count, openAt, tooDeep}
 
 count-parts : (b : ℕ) (x y : List ℕ) → count b (x ++ y) ≡ count b x + count b y
 count-parts b [] y = omega arith

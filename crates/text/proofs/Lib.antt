@@ -1,8 +1,3 @@
-mod ClassLaws
-mod WordLaws
-mod NumberLaws
-mod LeafLaws
 mod TableLaws
-mod ReaderLaws
 mod BracketLaws
 mod ToldLaws

@@ -9,15 +9,16 @@ use lib.ListN.{length}
 use borrow.Author.Tests.{eq-eqb, ne-eqb, lt-ltb, le-ltb}
 use Rattle.refusal.specs.declared.Refusal.the-variants.{TextLength, NoReading, TextTooLarge}
 use Rattle.refusal.specs.Outcome.{judged}
-use Rattle.text.specs.declared.Got.{Got}
-use Rattle.text.specs.declared.Got.the-variants.{Upto, Unread}
+use Rattle.parser.specs.declared.Got.{Got}
+use Rattle.parser.specs.declared.Got.the-variants.{Upto, Unread}
 use Rattle.text.specs.declared.Answer.{Answer}
 use Rattle.text.specs.declared.Answer.the-variants.{Nodes, Refused}
-use Rattle.text.specs.Syntax.{Text}
-use Rattle.text.specs.Size.{mixed, nodes, tooDeep, mostBytes, mostNodes}
-use Rattle.text.specs.Table.{treeAt, Falling}
-use Rattle.text.specs.Parse.{Out, got, unread, chain, bars, parse, Reading, one, none, unmixed, atEnd, reading}
-use Rattle.text.specs.Rows.{Laid, Fits, Answers, judgedText}
+use Rattle.grammar.specs.Syntax.{Text}
+use Rattle.grammar.specs.Size.{mixed, nodes, tooDeep, mostBytes, mostNodes}
+use Rattle.grammar.specs.Table.{treeAt, Falling}
+use Rattle.grammar.specs.Parse.{Out, got, unread, chain, bars, parse, Reading, one, none, unmixed, atEnd, reading}
+use Rattle.parser.specs.Rows.{Laid, Fits, Answers}
+use Rattle.text.specs.Judge.{judgedText}
 use Rattle.text.specs.TableLaws.{decoded, held-falling, held-nodes}
 use Rattle.text.specs.Told.{badLength, noReading, tooLarge, textLines, nodesOf, outcomeOf, Tabled, Told}
 

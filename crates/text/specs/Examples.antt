@@ -6,12 +6,12 @@ use Prim.Native.String.{String}
 use Rattle.recording.specs.Reading.{A, B}
 use Rattle.number.specs.Least.{least}
 use Rattle.refusal.specs.Outcome.{Outcome, result, refused, judged}
-use Rattle.text.specs.Bytes.{bytes}
-use Rattle.text.specs.Syntax.{of, T, Relation, ge, le, gt, lt, eq, v, number, compare, A-to-B, fall, rise, high, low, lowafter, capafter, peaks, cross, ampl, gaps, steps, lag, Text, atom, listed, or, and, neg, finally, globally, next, until, weakUntil}
-use Rattle.text.specs.Size.{tooDeep}
+use Rattle.grammar.specs.Bytes.{bytes}
+use Rattle.grammar.specs.Syntax.{of, T, Relation, ge, le, gt, lt, eq, v, number, compare, A-to-B, fall, rise, high, low, lowafter, capafter, peaks, cross, ampl, gaps, steps, lag, Text, atom, listed, or, and, neg, finally, globally, next, until, weakUntil}
+use Rattle.grammar.specs.Size.{tooDeep}
 use Rattle.text.specs.Told.{textLines, nodesOf}
-use Rattle.text.specs.Lexer.{unsignedAt, numberAt, operandAt, comparisonAt, timedAt, argumentsAt, namedAt, headedAt, leafAt}
-use Rattle.text.specs.Parse.{Reading, one, none, parse, reading}
+use Rattle.grammar.specs.Lexer.{unsignedAt, numberAt, operandAt, comparisonAt, timedAt, argumentsAt, namedAt, headedAt, leafAt}
+use Rattle.grammar.specs.Parse.{Reading, one, none, parse, reading}
 
 -- a text and its reading
 pub record Example : Type 0 where

@@ -7,13 +7,13 @@ use native.Mathlib.Omega.{arith}
 use lib.Dec.{eqb, ltb, leb}
 use lib.ListN.{length, getD, List·getD-append}
 use borrow.Author.Tests.{ltb-true, ltb-false}
-use Rattle.text.specs.declared.Row.{Row}
-use Rattle.text.specs.Syntax.{Text}
-use Rattle.text.specs.Size.{temporal, hasListed, nodes}
-use Rattle.text.specs.Classes.{within}
-use Rattle.text.specs.Table.{some, row, leaves, unaries, binaries, build, rowAt, tree, treeAt, Falling}
-use Rattle.text.specs.Parse.{leafOf, node}
-use Rattle.text.specs.Rows.{Laid, leaf, unary, binary}
+use Rattle.grammar.specs.declared.Row.{Row}
+use Rattle.grammar.specs.Syntax.{Text}
+use Rattle.grammar.specs.Size.{temporal, hasListed, nodes}
+use Rattle.grammar.specs.Classes.{within}
+use Rattle.grammar.specs.Table.{some, row, leaves, unaries, binaries, build, rowAt, tree, treeAt, Falling}
+use Rattle.grammar.specs.Parse.{leafOf, node}
+use Rattle.parser.specs.Rows.{Laid, leaf, unary, binary}
 
 -- what holds of each number below n
 abbrev Each : ℕ → (ℕ → Type 0) → Type 0

@@ -9,12 +9,12 @@ use borrow.Author.Tests.{ltb-false}
 use Rattle.refusal.specs.Outcome.{Outcome, result, refused, Line, judged, NoneMeets}
 use Rattle.text.specs.declared.Answer.{Answer}
 use Rattle.text.specs.declared.Answer.the-variants.{Nodes, Refused}
-use Rattle.text.specs.Syntax.{Text}
-use Rattle.text.specs.Size.{nodes, mostNodes, tooDeep}
-use Rattle.text.specs.Grammar.{ReadsWhole}
-use Rattle.text.specs.Table.{treeAt}
-use Rattle.text.specs.Parse.{Reading, one, none, reading}
-use Rattle.text.specs.Unique.{reading-is}
+use Rattle.grammar.specs.Syntax.{Text}
+use Rattle.grammar.specs.Size.{nodes, mostNodes, tooDeep}
+use Rattle.grammar.specs.Grammar.{ReadsWhole}
+use Rattle.grammar.specs.Table.{treeAt}
+use Rattle.grammar.specs.Parse.{Reading, one, none, reading}
+use Rattle.grammar.specs.Unique.{reading-is}
 use Rattle.text.specs.TableLaws.{above, held-nodes}
 use Rattle.text.specs.Told.{textLines, nodesOf, outcomeOf, Tabled, Told}
 

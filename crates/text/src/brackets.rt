@@ -2,7 +2,7 @@
 ghost use mathlib.Core.Path.{_≡_};
 ghost use mathlib.Core.Bool.{cond};
 ghost use lib.Dec.{eqb};
-ghost use Rattle.text.specs.Size.{tooDeep};
+ghost use Rattle.grammar.specs.Size.{tooDeep};
 
 // The most brackets open at a byte.
 pub const MOST_OPEN: usize = 16;

@@ -2,20 +2,16 @@
 ghost use mathlib.Core.Path.{_≡_};
 ghost use Prim.Native.Nat.{ℕ, _*_, _≤_};
 ghost use lib.ListN.{length};
-ghost use Rattle.text.specs.Size.{mostBytes};
-ghost use Rattle.text.specs.Syntax.{Text};
-ghost use Rattle.text.specs.Rows.{Laid, judgedText};
+ghost use Rattle.grammar.specs.Size.{mostBytes};
+ghost use Rattle.grammar.specs.Syntax.{Text};
+ghost use Rattle.parser.specs.Rows.{Laid};
+ghost use Rattle.text.specs.Judge.{judgedText};
 ghost use Rattle.text.specs.Told.{Told};
 
 mod brackets;
-mod classes;
-pub mod kinds;
-mod leaves;
-mod numbers;
-mod reader;
 pub mod table;
-mod words;
 
+use parser::Got;
 use refusal::Refusal;
 
 // The most bytes of a text.
@@ -26,41 +22,6 @@ pub const MOST_NODES: usize = 32;
 
 // The numbers of a table that holds any text: four to a node, and no more nodes than bytes.
 pub const TABLE_SIZE: usize = 4 * MOST_BYTES;
-
-// The class of a byte of a text.
-pub enum Class {
-    Digit,
-    Letter,
-    Sign,
-    Foreign,
-}
-
-// A code that was read, and where reading stopped.
-pub enum Found {
-    At(u32, usize),
-    Missing,
-}
-
-// A node: its kind, and what goes with it. Of an operator, the first and the second child.
-pub struct Row {
-    pub kind: u32,
-    pub first: u32,
-    pub second: u32,
-    pub number: u32,
-}
-
-// What a primary text begins with: a whole leaf, an opening of one or two texts, or nothing that has a reading.
-pub enum Leaf {
-    Node(Row, usize),
-    Open(u32, usize),
-    Nothing,
-}
-
-// Where reading stopped and how many nodes stand in the table, or that there is no reading.
-pub enum Got {
-    Upto(usize, usize),
-    Unread,
-}
 
 // The number of nodes that stand in the table for the text's one reading, or a refusal.
 pub enum Answer {
@@ -97,7 +58,7 @@ pub fn read(text: &[u8], table: &mut [u32]) -> Answer
     if MOST_BYTES < size {
         return Answer::Refused(Refusal::TextLength);
     }
-    match reader::or_text(text, table, 0, 0) {
+    match parser::or_text(text, table, 0, 0) {
         Got::Upto(e, n) => {
             if e == size {
                 judge(text, table, n)

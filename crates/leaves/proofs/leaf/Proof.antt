@@ -3,7 +3,7 @@ use mathlib.Core.Path.{refl}
 use Prim.Native.Nat.{ℕ}
 use mathlib.Core.Bool.{Bool}
 use mathlib.Core.List.{List}
-use Rattle.text.specs.declared.Row.{Row}
+use Rattle.grammar.specs.declared.Row.{Row}
 use Rattle.meaning.specs.Truth.{val}
 use Rattle.meaning.specs.Coded.{coded}
 use Rattle.leaves.specs.Leaf.{leafOf}

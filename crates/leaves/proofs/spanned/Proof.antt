@@ -2,8 +2,8 @@
 use mathlib.Core.Path.{subst}
 use native.Mathlib.Omega.{arith}
 use Rattle.recording.specs.Reading.{Curve}
-use Rattle.text.specs.Syntax as asks
-use Rattle.text.specs.Syntax.{Text}
+use Rattle.grammar.specs.Syntax as asks
+use Rattle.grammar.specs.Syntax.{Text}
 use Rattle.meaning.specs.Truth.{val, truth}
 use Rattle.meaning.specs.Coded.{coded}
 use Rattle.leaves.specs.Span.{Spans}

@@ -3,9 +3,9 @@ use mathlib.Core.Path.{_≡_, sym, subst}
 use Prim.Native.Nat.{_≤_}
 use lib.ListN.{length}
 use Rattle.recording.specs.Reading.{Curve}
-use Rattle.text.specs.Syntax as asks
-use Rattle.text.specs.Syntax.{Text}
-use Rattle.text.specs.Table.{curveOf}
+use Rattle.grammar.specs.Syntax as asks
+use Rattle.grammar.specs.Syntax.{Text}
+use Rattle.grammar.specs.Table.{curveOf}
 use Rattle.meaning.specs.Coded.{topTimes}
 use Rattle.tops.specs.Tops.{mostTops}
 use Rattle.meaning.specs.Truth.{val, truth, refused9}

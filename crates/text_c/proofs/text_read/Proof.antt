@@ -7,7 +7,7 @@ use borrow.Author.Needs.{needs}
 use Rattle.refusal.specs.Outcome.{refused}
 use Rattle.refusal.specs.Numbers.{numberOf, placeOf}
 use Rattle.refusal.specs.declared.Refusal.{Refusal}
-use Rattle.text.specs.Parse.{reading}
+use Rattle.grammar.specs.Parse.{reading}
 use Rattle.text.specs.Told.{textLines, nodesOf, outcomeOf, Told}
 use Rattle.text.specs.declared.Answer.{Answer}
 use Rattle.text.specs.declared.Answer.the-variants.{Nodes, Refused}

@@ -1,7 +1,7 @@
 -- What is related to the field.
 use mathlib.Core.Path.{ap}
 use Prim.Native.Nat.{ℕ}
-use Rattle.text.specs.Table.{relationOf}
+use Rattle.grammar.specs.Table.{relationOf}
 use Rattle.meaning.specs.Truth.{relate}
 use Rattle.leaves.specs.SpanLaws.{spans-ext}
 use Rattle.leaves.proofs.atoms.against_v.Statement.{statement}

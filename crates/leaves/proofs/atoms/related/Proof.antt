@@ -2,8 +2,8 @@
 use mathlib.Core.Path.{sym, ap}
 use native.Mathlib.Omega.{arith}
 use Prim.Native.Nat.{ℕ, _+_}
-use Rattle.text.specs.Syntax.{Relation}
-use Rattle.text.specs.Table.{relationOf}
+use Rattle.grammar.specs.Syntax.{Relation}
+use Rattle.grammar.specs.Table.{relationOf}
 use Rattle.meaning.specs.Truth.{relate}
 use Rattle.leaves.specs.CodeLaws.{relation-else}
 use Rattle.leaves.specs.declared.span.Span.{Span}

@@ -1,8 +1,8 @@
 -- By the code.
 use mathlib.Core.Path.{sym, ap}
 use native.Mathlib.Omega.{arith}
-use Rattle.text.specs.Syntax.{Relation}
-use Rattle.text.specs.Table.{relationOf}
+use Rattle.grammar.specs.Syntax.{Relation}
+use Rattle.grammar.specs.Table.{relationOf}
 use Rattle.meaning.specs.Truth.{relate}
 use Rattle.leaves.specs.CodeLaws.{relation-else}
 use Rattle.leaves.proofs.atoms.relates.Statement.{statement}

@@ -12,7 +12,7 @@ use lib.ListN.{length, getD}
 use lib.Dec.{leb}
 use mathlib.Core.Bool.{true, false}
 use Rattle.number.specs.Axis.{origin}
-use Rattle.text.specs.Syntax as asks
+use Rattle.grammar.specs.Syntax as asks
 use Rattle.recording.specs.Recording.{Accepted}
 use mathlib.Core.List.{List}
 use Rattle.meaning.specs.Truth.{truth}

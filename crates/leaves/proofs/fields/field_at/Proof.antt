@@ -1,8 +1,8 @@
 -- By the code.
 use mathlib.Core.Path.{sym, ap, _∙_}
 use native.Mathlib.Omega.{arith}
-use Rattle.text.specs.Syntax.{Field}
-use Rattle.text.specs.Table.{fieldOf}
+use Rattle.grammar.specs.Syntax.{Field}
+use Rattle.grammar.specs.Table.{fieldOf}
 use Rattle.meaning.specs.Truth.{codedAt, codedField}
 use Rattle.meaning.specs.Coded.{coded}
 use Rattle.leaves.specs.CodeLaws.{field-else}

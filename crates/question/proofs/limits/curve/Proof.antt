@@ -3,7 +3,7 @@ use mathlib.Core.Path.{refl}
 use native.Mathlib.Omega.{arith}
 use Rattle.question.specs.LimitLaws.{curve-other}
 use mathlib.Core.Path.{ap, sym, _∙_}
-use Rattle.text.specs.Table.{curveOf}
+use Rattle.grammar.specs.Table.{curveOf}
 use Rattle.question.proofs.limits.curve.Statement.{statement}
 use Rattle.question.proofs.limits.curve.Tie as tie
 

@@ -1,0 +1,2 @@
+mod TableLaws
+mod ReaderLaws
