@@ -24,7 +24,7 @@ use Rattle.meaning.specs.RecordedLaws.{accepted-recorded}
 use Rattle.meaning.specs.TruthLaws.{val-holds}
 use Rattle.question.specs.Question.{read, answer, askingLines, setLines}
 use Rattle.question.specs.MeantLaws.{read-reads, reads-read}
-use Rattle.question.specs.SizeLaws.{left-off}
+use Rattle.number.specs.BooleanLaws.{none-left}
 use Rattle.ratio.specs.Degree.{distanceOf, degreeOf}
 use Rattle.ratio.specs.DegreeLaws.{distance-exact}
 use Rattle.targets.specs.Target.{offAxis}
@@ -83,7 +83,7 @@ on-axis (pos n) h =
     let e : n + origin - origin ≡ n = omega arith in
     (omega arith, sub-above (n + origin) origin (omega arith) ∙ ap pos e)
 on-axis (negsuc n) h =
-    let b : n ≤ 1999999999 = ltb-false 1999999999 n (left-off (ltb 1999999999 n) _ h) in
+    let b : n ≤ 1999999999 = ltb-false 1999999999 n (none-left (ltb 1999999999 n) _ h) in
     let e : origin - suc (origin - suc n) ≡ n = omega arith in
     (omega arith, sub-below (origin - suc n) origin (omega arith) ∙ ap negsuc e)
 

@@ -12,7 +12,7 @@ use lib.Seq.{take-suc-set, getD-set-other}
 use borrow.Author.Tests.{le-leb, lt-leb, lt-ltb, le-ltb}
 use Rattle.number.specs.Axis.{axis}
 use Rattle.runset.specs.Runs.{startsAt, runCount, mostRuns}
-use Rattle.meaning.specs.BoolLaws.{clash, and-make}
+use Rattle.number.specs.BooleanLaws.{clash, and-make}
 use Rattle.meaning.specs.RunLaws.{starts, run-count, runs-ext}
 use Rattle.differences.specs.declared.Cuts.{Cuts}
 use Rattle.runset.specs.Set.{xor, inside, Ascending}

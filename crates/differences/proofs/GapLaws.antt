@@ -8,7 +8,7 @@ use lib.Dec.{leb}
 use lib.ListN.{length, getD}
 use borrow.Author.Tests.{eqb-true, leb-true, le-leb, ne-eqb}
 use Rattle.number.specs.Axis.{origin}
-use Rattle.meaning.specs.BoolLaws.{same, or-left, or-right, or-cases, and-left, and-right, and-make}
+use Rattle.number.specs.BooleanLaws.{same, or-left, or-right, or-cases, and-left, and-right, and-make}
 use Rattle.meaning.specs.Truth.{someOf, somePair, apart}
 use Rattle.differences.specs.Times.{Times, lagsOf, gapsOf}
 use Rattle.differences.specs.Search.{from}

@@ -9,7 +9,7 @@ use mathlib.Core.List.{List, [], _∷_}
 use lib.ListN.{length}
 use borrow.Author.Tests.{eqb-true, eq-eqb}
 use Rattle.number.specs.Axis.{origin, axis}
-use Rattle.meaning.specs.BoolLaws.{or-left, or-right, or-cases}
+use Rattle.number.specs.BooleanLaws.{or-left, or-right, or-cases}
 use Rattle.meaning.specs.Truth.{apart}
 use Rattle.differences.specs.Times.{stepsOf}
 use Rattle.differences.specs.Search.{Least, Better}

@@ -9,7 +9,7 @@ use mathlib.Core.List.{List}
 use lib.ListN.{length, getD, set, length-set, replicate}
 use lib.Seq.{getD-set-same, getD-set-other}
 use Rattle.number.specs.Axis.{axis}
-use Rattle.meaning.specs.BoolLaws.{same}
+use Rattle.number.specs.BooleanLaws.{same}
 use Rattle.differences.specs.Times.{Times, lagsOf}
 use Rattle.differences.specs.Search.{Past, windowSize, Marked, Lead}
 use Rattle.differences.proofs.SearchLaws.{At, Diff, times-up, lags-diff, diff-lags, Full}

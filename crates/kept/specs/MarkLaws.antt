@@ -5,7 +5,7 @@ use mathlib.Core.Bool.{Bool, true, false, _||_, true≢false}
 use mathlib.Core.List.{List, [], _∷_}
 use lib.Dec.{eqb}
 use borrow.Author.Tests.{eqb-true, eq-eqb}
-use Rattle.recording.specs.Booleans.{same, or-left, or-right, or-cases}
+use Rattle.number.specs.BooleanLaws.{same, or-left, or-right, or-cases}
 use Rattle.recording.specs.Condition.{Condition, pick, _∪_}
 use Rattle.recording.specs.Reading.{Reading, top, crossing}
 use Rattle.kept.specs.Kept.{first, last, withBefore, forSome, eitherCurve, extremes, anyTime, after, kept}

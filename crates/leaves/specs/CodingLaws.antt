@@ -13,7 +13,7 @@ use borrow.Author.Tests.{lt-ltb, le-ltb, leb-true}
 use Rattle.number.specs.Axis.{origin}
 use Rattle.number.specs.Words.{word, signed, turned}
 use Rattle.number.specs.OrderLaws.{less-or-not}
-use Rattle.recording.specs.Booleans.{and-left, and-right}
+use Rattle.number.specs.BooleanLaws.{and-left, and-right}
 use Rattle.recording.specs.Reading.{Reading, Curve, A, B, value, nothing}
 use Rattle.recording.specs.Recording.{Raw, records, recordAt, reading, readings, inRange, latest, Accepted}
 use Rattle.recording.specs.RecordLaws.{length-records, getD-chunks}

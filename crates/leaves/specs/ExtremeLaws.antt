@@ -17,7 +17,7 @@ use Rattle.grammar.specs.Syntax.{high, low, lowafter, capafter, ampl}
 use Rattle.meaning.specs.Coded.{Coded, code, blank, codedValue, codedAfter}
 use Rattle.meaning.specs.Truth.{someOf, allOf, truth, codedAt}
 use Rattle.meaning.specs.PickLaws.{some-at, some-find}
-use Rattle.meaning.specs.BoolLaws.{same, or-left, or-right, or-cases}
+use Rattle.number.specs.BooleanLaws.{same, or-left, or-right, or-cases}
 use Rattle.leaves.specs.Extreme.{beyond, farther, Extreme, Passes}
 use Rattle.leaves.specs.CodingLaws.{at-index, ValueIndex}
 

@@ -13,7 +13,7 @@ use Rattle.grammar.specs.declared.Row.{Row}
 use Rattle.meaning.specs.Coded.{Coded, topTimes}
 use Rattle.tops.specs.Tops.{mostTops}
 use Rattle.meaning.specs.Truth.{refused9, someNode, manyTops}
-use Rattle.meaning.specs.BoolLaws.{off, or-left, or-right}
+use Rattle.number.specs.BooleanLaws.{off, or-left, or-right}
 use Rattle.leaves.specs.Leaf.{leafOf}
 
 -- the text of a leaf of kind k

@@ -11,7 +11,7 @@ use Rattle.runset.specs.Lent.{Fills}
 use Rattle.runset.specs.LentLaws.{fills-ext}
 use Rattle.runset.specs.SetLaws.{nothing-between, everything-between}
 use Rattle.runset.specs.declared.merge.Filled.{Filled}
-use Rattle.meaning.specs.BoolLaws.{same, and-left, and-right, and-make}
+use Rattle.number.specs.BooleanLaws.{same, and-left, and-right, and-make}
 use Rattle.leaves.specs.declared.span.Span.{Span}
 use Rattle.leaves.specs.Span.{Spans}
 

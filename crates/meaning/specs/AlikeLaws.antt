@@ -20,7 +20,7 @@ use Rattle.meaning.specs.Overfull.{children, Node, itself, below, Overfu
 use Rattle.grammar.specs.Size.{temporal, afterTime, afterTimes}
 use Rattle.meaning.specs.Alike.{markIndex, Plain, times, Alike, Same}
 use Rattle.meaning.specs.Truth.{someOf, somePair, someStep}
-use Rattle.meaning.specs.BoolLaws.{then, back, either, both, so-and, none-left, or-right, off}
+use Rattle.number.specs.BooleanLaws.{then, back, either, both, so-and, none-left, or-right, off}
 use Rattle.meaning.specs.WholeLaws.{le-test, lt-test, lt-index, stands-whole}
 use Rattle.meaning.specs.PickLaws.{some-at, some-find, key-find, key-at, pair-find, pair-at, step-find, step-at}
 use Rattle.meaning.specs.ListedLaws.{stands-time}

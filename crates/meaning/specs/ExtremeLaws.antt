@@ -8,7 +8,7 @@ use lib.Dec.{leb, eqb}
 use borrow.Author.Tests.{leb-true, le-leb, eqb-true}
 use Rattle.number.specs.Axis.{origin}
 use Rattle.meaning.specs.Truth.{someOf, allOf, among}
-use Rattle.meaning.specs.BoolLaws.{same, or-left, or-right, or-cases, and-left, and-right, and-make, imp-or, or-imp}
+use Rattle.number.specs.BooleanLaws.{same, or-left, or-right, or-cases, and-left, and-right, and-make, imp-or, or-imp}
 
 module _ {X : Type 0} where
   pub some-imp : (P Q : X → Bool) (r : List X) → ((x : X) → P x ≡ true → Q x ≡ true) → someOf P r ≡ true → someOf Q r ≡ true

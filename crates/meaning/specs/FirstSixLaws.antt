@@ -23,7 +23,7 @@ use Rattle.meaning.specs.Recorded.{Increasing, Recorded}
 use Rattle.meaning.specs.FirstSix.{Formula, of-high, of-low, of-lowafter, of-capafter, of-peaks, of-cross}
 use Rattle.meaning.specs.Coded.{Coded, code, blank, codedValue, codedFalls, codedCrossed, codedAfter}
 use Rattle.meaning.specs.Truth.{someOf, allOf, among, truth, lastCoded, codedAt, finallyFrom, globallyFrom, val, runsAt, largeAt, someNode, overAt, someBelow, refused8}
-use Rattle.meaning.specs.BoolLaws.{same, then, back, or-cases, or-none, none-left}
+use Rattle.number.specs.BooleanLaws.{same, then, back, or-cases, or-none, none-left}
 use Rattle.meaning.specs.RunLaws.{starts, run-count, starts-ext, runs-ext, Convex, Up, Down, up-convex, down-convex, const-convex, const-up, and-convex, point-convex, or-up, and-up, or-down, ray-up, ray-down, convex-few, more-starts}
 use Rattle.meaning.specs.TruthLaws.{val-holds}
 use Rattle.meaning.specs.OverfullLaws.{eight-overfull, below-find, below-at}

@@ -7,7 +7,6 @@ pub mod Alike
 pub mod R1
 pub mod Coded
 pub mod Truth
-pub mod BoolLaws
 pub mod WholeLaws
 pub mod PickLaws
 pub mod ListedLaws

@@ -19,7 +19,7 @@ use Rattle.meaning.specs.Listed.{recordAt, SomeRecord, EachRecord, Meets
 use Rattle.meaning.specs.Recorded.{InRange}
 use Rattle.meaning.specs.Coded.{Coded, code, index, codedValue, codedFalls, codedCrossed, codedAfter, codedTop, codedCrossing, timesOf, topTimes, crossingTimes}
 use Rattle.meaning.specs.Truth.{someOf, allOf, somePair, someStep, among, apart, truth}
-use Rattle.meaning.specs.BoolLaws.{same, then, both, so-and, and-left, imp-or, or-imp}
+use Rattle.number.specs.BooleanLaws.{same, then, both, so-and, and-left, imp-or, or-imp}
 use Rattle.meaning.specs.WholeLaws.{Stands, stands-whole, le-test, le-index, lt-index, eq-index, apart-index, wide-index}
 use Rattle.meaning.specs.PickLaws.{some-at, some-find, all-at, all-make, keysOf, key-find, key-at, pair-find, pair-at, step-find, step-at, Each, each-make, pick-map, edge-map, map-map}
 

@@ -18,7 +18,7 @@ use Rattle.tops.specs.Tops.{mostTops}
 use Rattle.meaning.specs.Recorded.{InRange}
 use Rattle.meaning.specs.Coded.{code, topTimes}
 use Rattle.meaning.specs.Truth.{val, someNode, runsAt, largeAt, overAt, someBelow, refused8, manyTops, asksTooMany, ofListed, refused9}
-use Rattle.meaning.specs.BoolLaws.{same, or-left, or-right, or-cases}
+use Rattle.number.specs.BooleanLaws.{same, or-left, or-right, or-cases}
 use Rattle.meaning.specs.ListedLaws.{all-settled, stamp, tops-code}
 use Rattle.meaning.specs.TruthLaws.{val-holds}
 use Rattle.meaning.specs.RunLaws.{runs-ext}

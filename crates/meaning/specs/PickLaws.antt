@@ -9,7 +9,7 @@ use lib.ListN.{length, getD, take, drop}
 use Rattle.recording.specs.Condition.{Condition, when, pickFrom}
 use Rattle.recording.specs.Reading.{edge}
 use Rattle.meaning.specs.Truth.{someOf, allOf, somePair, someStep}
-use Rattle.meaning.specs.BoolLaws.{or-left, or-right, or-cases, and-left, and-right, and-make, clash}
+use Rattle.number.specs.BooleanLaws.{or-left, or-right, or-cases, and-left, and-right, and-make, clash}
 
 module _ {X : Type 0} where
   -- ---- some record, each record

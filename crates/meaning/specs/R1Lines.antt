@@ -16,7 +16,7 @@ use Rattle.grammar.specs.Syntax.{ge, eq, of, v, number, compare, high, low, low
 use Rattle.meaning.specs.Recorded.{InRange}
 use Rattle.meaning.specs.Coded.{Coded, code, index, codedValue, codedAfter}
 use Rattle.meaning.specs.Truth.{someOf, among, truth, val}
-use Rattle.meaning.specs.BoolLaws.{same, then, back, either, both, so-or, so-and, and-left, and-right, and-make}
+use Rattle.number.specs.BooleanLaws.{same, then, back, either, both, so-or, so-and, and-left, and-right, and-make}
 use Rattle.meaning.specs.WholeLaws.{Stands, stands-whole, le-index}
 use Rattle.meaning.specs.TruthLaws.{val-holds}
 use Rattle.meaning.specs.PickLaws.{Each, all-at}

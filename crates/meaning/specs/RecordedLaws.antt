@@ -1,31 +1,19 @@
 -- The readings of an accepted recording are in range, in time and increasing: no record is the first out of its rules, so each keeps to them.
-use Prim.Native.Nat.{ℕ, zero, suc, _≤_, _<_}
+use Prim.Native.Nat.{ℕ, suc, _≤_, _<_}
 use native.Mathlib.Omega.{arith}
-use mathlib.Core.Path.{_≡_, refl, sym, subst}
-use mathlib.Core.Bool.{Bool, true, false, cond, not, So}
+use mathlib.Core.Path.{_≡_, sym, subst}
+use mathlib.Core.Bool.{not, So}
 use mathlib.Core.List.{List, []}
 use lib.Dec.{leb}
 use lib.ListN.{length, getD, length-map, List·getD-map}
 use borrow.Author.Tests.{leb-true, ltb-true, ltb-false, not-false}
-use Rattle.number.specs.Least.{least}
+use Rattle.number.specs.LeastLaws.{least-first}
 use Rattle.number.specs.Words.{word, signed, turned}
 use Rattle.recording.specs.Reading.{Reading, Curve, A, B, value}
 use Rattle.recording.specs.Recording.{Raw, records, reading, readings, latest, inRange, fieldsOf, fields, lawful, firstBad, Accepted}
 use Rattle.meaning.specs.Listed.{recordAt}
 use Rattle.meaning.specs.Recorded.{InRange, InTime, Increasing, Recorded}
-use Rattle.meaning.specs.BoolLaws.{and-left, and-right}
-
--- no number below n has P
-least-none : (P : ℕ → Bool) (n : ℕ) → n ≤ least P n → (i : ℕ) → i < n → P i ≡ false
-unfolding least
-least-none P zero h i l = absurd (omega arith)
-least-none P (suc n) h i l = by (P zero) refl h (λ k. least-none (λ j. P (suc j)) n k) i l
-  where
-    by : (e : Bool) → P zero ≡ e → suc n ≤ cond e zero (suc (least (λ j. P (suc j)) n))
-        → (n ≤ least (λ j. P (suc j)) n → (i : ℕ) → i < n → P (suc i) ≡ false) → (i : ℕ) → i < suc n → P i ≡ false
-    by true e h rest i l = absurd (omega arith)
-    by false e h rest zero l = e
-    by false e h rest (suc i) l = rest (omega arith) i (omega arith)
+use Rattle.number.specs.BooleanLaws.{and-left, and-right}
 
 module _ (bytes : List ℕ) (accepted : Accepted bytes) where
   abbrev xs : List Raw
@@ -33,7 +21,7 @@ module _ (bytes : List ℕ) (accepted : Accepted bytes) where
 
   all-lawful : (i : ℕ) → i < length xs → So (lawful xs i)
   unfolding firstBad
-  all-lawful i l = not-false (lawful xs i) (least-none (λ i. not (lawful xs i)) (length xs) (ltb-false (firstBad xs) (length xs) (accepted .1 .1 .0)) i l)
+  all-lawful i l = let few : length xs ≤ firstBad xs = ltb-false (firstBad xs) (length xs) (accepted .1 .1 .0) in not-false (lawful xs i) (least-first (λ i. not (lawful xs i)) (length xs) i (omega arith))
 
   in-fields : (i : ℕ) → i < length xs → So (fields (getD xs i []))
   unfolding lawful

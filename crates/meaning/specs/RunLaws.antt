@@ -11,7 +11,7 @@ use lib.ListN.{length, length-append}
 use borrow.Author.Tests.{eqb-true, eq-eqb, ne-eqb, le-ltb, leb-true, le-leb}
 use Rattle.number.specs.Axis.{axis}
 use Rattle.runset.specs.Runs.{startsAt, below, runCount, mostRuns}
-use Rattle.meaning.specs.BoolLaws.{and-left, and-right, and-make, or-left, or-right, or-cases}
+use Rattle.number.specs.BooleanLaws.{and-left, and-right, and-make, or-left, or-right, or-cases}
 
 -- how many runs of f start below n
 unfoldable pub starts : (ℕ → Bool) → ℕ → ℕ

@@ -16,7 +16,7 @@ use Rattle.meaning.specs.Meaning.{lastOf, readingAt, field, operand, Rel
 use Rattle.meaning.specs.Recorded.{InRange}
 use Rattle.meaning.specs.Coded.{Coded, code, blank}
 use Rattle.meaning.specs.Truth.{codedField, codedOperand, relate, atomVal, lastCoded, codedAt, finallyFrom, globallyFrom, untilFrom, weakFrom, val}
-use Rattle.meaning.specs.BoolLaws.{then, back, either, both, so-or, so-and, so-not}
+use Rattle.number.specs.BooleanLaws.{then, back, either, both, so-or, so-and, so-not}
 use Rattle.meaning.specs.WholeLaws.{Stands, stands-whole, le-index, lt-index, eq-index}
 use Rattle.meaning.specs.ListedLaws.{Settled, settled, stands-time, truth-says}
 use Rattle.meaning.specs.StepLaws.{Still, finally-step, globally-step, until-step, weakUntil-step, finally-last, globally-last, until-last, weakUntil-last}

@@ -10,7 +10,7 @@ use lib.IntN.{ℤ, pos, negsuc, subℕ, negℤ, _+ℤ_, _-ℤ_}
 use lib.Signed.{leZ, ltZ, _≤ℤ_, _<ℤ_}
 use borrow.Author.Tests.{leb-true, le-leb, lt-leb, lt-ltb, le-ltb, ltb-true, eqb-true, eq-eqb}
 use Rattle.number.specs.Axis.{origin, whole}
-use Rattle.meaning.specs.BoolLaws.{same, then, so-test}
+use Rattle.number.specs.BooleanLaws.{same, then, so-test}
 
 abbrev pub Stands : ℤ → ℕ → ℕ → Type 0
 Stands (pos n) p q = p ≡ q + n

@@ -30,7 +30,7 @@ use Rattle.grammar.specs.Parse.{reading}
 use Rattle.grammar.specs.Size.{nodes, openAt, tooDeep, mostBytes, mostNodes, mostOpen}
 use Rattle.text.specs.Told.{badLength, noReading, tooLarge, textLines}
 use Rattle.meaning.specs.Alike.{Same}
-use Rattle.meaning.specs.BoolLaws.{same}
+use Rattle.number.specs.BooleanLaws.{same, or-left, or-right, or-none, none-left, none-right, so-or}
 use Rattle.meaning.specs.Coded.{coded}
 use Rattle.meaning.specs.Meaning.{Holds}
 use Rattle.meaning.specs.Overfull.{IsSet, Overfull, TooManyTops as OverTops}
@@ -50,15 +50,10 @@ use Rattle.promises.specs.TableLaws.{Agrees, Agree, agree-recording}
 -- ---- tests
 
 or-true : (a b : Bool) → (a || b) ≡ true → (a ≡ true) ⊎ (b ≡ true)
-or-true true b e = inl refl
-or-true false b e = inr e
+or-true a b = so-or a b .0
 
-or-left : (a b : Bool) → a ≡ true → (a || b) ≡ true
-or-left a b e = ap (λ (x : Bool). x || b) e
-
-or-right : (a b : Bool) → b ≡ true → (a || b) ≡ true
-or-right true b e = refl
-or-right false b e = e
+both-off : (a b : Bool) → (a || b) ≡ false → (a ≡ false) × (b ≡ false)
+both-off a b e = (none-left a b e, none-right a b e)
 
 clash : {b : Bool} {C : Type 0} → b ≡ true → b ≡ false → C
 clash t f = absurd (true≢false (sym t ∙ f))
@@ -243,21 +238,14 @@ agree-question bytes text room =
 
 -- ---- 12: the axis
 
-or-off : (a b : Bool) → (a || b) ≡ false → (a ≡ false) × (b ≡ false)
-or-off true b e = absurd (true≢false e)
-or-off false b e = (refl, e)
-
-off-or : (a b : Bool) → a ≡ false → b ≡ false → (a || b) ≡ false
-off-or a b e f = ap (λ (x : Bool). x || b) e ∙ f
-
 pub on-axis : (z : ℤ) → (offAxis z ≡ false) ↔ OfAxis z
 on-axis (pos n) = (
   λ e. (leZ-yes tt, leZ-yes (le→leb n 2000000000 (ltb-false 2000000000 n e))),
   λ h. le-ltb 2000000000 n (leb→le n 2000000000 (h .1 .le)),
 )
 on-axis (negsuc n) = (
-  λ e. (leZ-yes (le→leb n 1999999999 (ltb-false 1999999999 n (or-off (ltb 1999999999 n) false e .0))), leZ-yes tt),
-  λ h. off-or (ltb 1999999999 n) false (le-ltb 1999999999 n (leb→le n 1999999999 (h .0 .le))) refl,
+  λ e. (leZ-yes (le→leb n 1999999999 (ltb-false 1999999999 n (both-off (ltb 1999999999 n) false e .0))), leZ-yes tt),
+  λ h. or-none (le-ltb 1999999999 n (leb→le n 1999999999 (h .0 .le))) refl,
 )
 
 off-axis : (z : ℤ) → offAxis z ≡ true → ¬ OfAxis z
@@ -306,7 +294,7 @@ agree-pair bytes curve target =
           named = refl;
           placed = refl;
           met = λ e. ⊎-elim (λ h. inl (ltb-true 1 curve h)) (λ h. inr (off-axis target h)) (or-true (ltb 1 curve) (offAxis target) e);
-          unmet = λ e p m. let o = or-off (ltb 1 curve) (offAxis target) e in ⊎-elim (λ h. clash (lt-ltb 1 curve h) (o .0)) (λ h. h (on-axis target .0 (o .1))) m;
+          unmet = λ e p m. let o = both-off (ltb 1 curve) (offAxis target) e in ⊎-elim (λ h. clash (lt-ltb 1 curve h) (o .0)) (λ h. h (on-axis target .0 (o .1))) m;
         },
         λ twelve. (
           record {
@@ -345,8 +333,8 @@ agree-marks bytes marks room = record {
       (or-true (ltb mostMarks (length marks / 4)) (some (ltb latestMark) (marksOf marks)) h)))
       (or-true (not (eqb (length marks % 4) 0)) (ltb mostMarks (length marks / 4) || some (ltb latestMark) (marksOf marks)) e);
   unmet = λ e p m.
-      let o = or-off (not (eqb (length marks % 4) 0)) (ltb mostMarks (length marks / 4) || some (ltb latestMark) (marksOf marks)) e in
-      let i = or-off (ltb mostMarks (length marks / 4)) (some (ltb latestMark) (marksOf marks)) (o .1) in
+      let o = both-off (not (eqb (length marks % 4) 0)) (ltb mostMarks (length marks / 4) || some (ltb latestMark) (marksOf marks)) e in
+      let i = both-off (ltb mostMarks (length marks / 4)) (some (ltb latestMark) (marksOf marks)) (o .1) in
       ⊎-elim (λ h. h (eqb-true (length marks % 4) 0 (not-false _ (o .0))))
       (λ h. ⊎-elim (λ n. clash (lt-ltb mostMarks (length marks / 4) n) (i .0)) (λ t. clash (there-some (marksOf marks) (t .0) (t .1) (t .2)) (i .1)) h) m;
 }

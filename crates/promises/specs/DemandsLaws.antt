@@ -29,7 +29,7 @@ use Rattle.grammar.specs.Syntax.{Text}
 use Rattle.grammar.specs.Grammar.{ReadsWhole}
 use Rattle.text.specs.Told.{textLines}
 use Rattle.meaning.specs.Alike.{Plain}
-use Rattle.meaning.specs.BoolLaws.{same}
+use Rattle.number.specs.BooleanLaws.{same}
 use Rattle.meaning.specs.Meaning.{Holds}
 use Rattle.question.specs.Question.{read, answer, askingLines, setLines, questionOf}
 use Rattle.question.specs.AnswerLaws.{answered-accepted}

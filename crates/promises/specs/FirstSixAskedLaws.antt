@@ -20,7 +20,7 @@ use Rattle.grammar.specs.Size.{tooDeep}
 use Rattle.grammar.specs.Syntax.{Listed, Text, listed}
 use Rattle.text.specs.Told.{textLines}
 use Rattle.grammar.specs.Unique.{reading-is}
-use Rattle.meaning.specs.BoolLaws.{back}
+use Rattle.number.specs.BooleanLaws.{back}
 use Rattle.meaning.specs.Coded.{Coded, coded, index}
 use Rattle.meaning.specs.FirstSix.{Formula, of-high, of-low, of-lowafter, of-capafter, of-peaks, of-cross}
 use Rattle.meaning.specs.FirstSixLaws.{six-holds, six-overfull}

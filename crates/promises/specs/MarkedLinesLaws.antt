@@ -29,7 +29,7 @@ use Rattle.grammar.specs.Size.{tooDeep}
 use Rattle.grammar.specs.Syntax.{ge, eq, of, v, number, compare, Listed, high, low, lowafter, capafter, peaks, cross, ampl, gaps, lag, Text, atom, listed, until}
 use Rattle.text.specs.Told.{textLines}
 use Rattle.grammar.specs.Unique.{reading-is}
-use Rattle.meaning.specs.BoolLaws.{same, then, back, either, both, so-or, so-and, or-none, and-left, and-right}
+use Rattle.number.specs.BooleanLaws.{same, then, back, either, both, so-or, so-and, or-none, and-left, and-right}
 use Rattle.meaning.specs.Coded.{Coded, coded, index}
 use Rattle.meaning.specs.Meaning.{Holds}
 use Rattle.meaning.specs.PickLaws.{Each}

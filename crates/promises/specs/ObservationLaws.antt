@@ -11,8 +11,9 @@ use lib.Dec.{ltb}
 use lib.Signed.{leZ, ltZ}
 use borrow.Author.Tests.{not-true, not-false}
 use Rattle.recording.specs.Condition.{Condition, _∪_}
-use Rattle.recording.specs.Booleans.{off, and-left, and-right}
-use Rattle.recording.specs.ValueLaws.{ltZ-asym, lt-le-trans, ltZ-between, leZ-not-ltZ}
+use Rattle.number.specs.BooleanLaws.{off, and-left, and-right}
+use Rattle.number.specs.WordsLaws.{leZ-not-ltZ}
+use Rattle.recording.specs.ValueLaws.{ltZ-asym, lt-le-trans, ltZ-between}
 use Rattle.recording.specs.Reading.{Reading, Curve, A, B, value, top, crossing}
 use Rattle.meaning.specs.Listed.{recordAt}
 use Rattle.meaning.specs.Meaning.{lastOf, readingAt}

@@ -27,7 +27,7 @@ use Rattle.meaning.specs.Coded.{coded, index}
 use Rattle.meaning.specs.Truth.{val, refused8, refused9}
 use Rattle.meaning.specs.Alike.{Plain, Alike, Same}
 use Rattle.meaning.specs.AlikeLaws.{alike-same}
-use Rattle.meaning.specs.BoolLaws.{same, clash}
+use Rattle.number.specs.BooleanLaws.{same, clash}
 use Rattle.meaning.specs.TruthLaws.{val-holds}
 use Rattle.meaning.specs.OverfullLaws.{eight-overfull, nine-tops}
 use Rattle.meaning.specs.Recorded.{InRange}

@@ -9,6 +9,7 @@ use lib.ListN.{length, drop}
 use lib.Dec.{eqb, ltb}
 use borrow.Author.Tests.{ltb-false, lt-ltb, le-ltb, eq-eqb}
 use Rattle.number.specs.Axis.{axis}
+use Rattle.number.specs.BooleanLaws.{none-left}
 use Rattle.refusal.specs.Outcome.{Outcome, result, refused, judged, Line, NoneMeets}
 use Rattle.refusal.specs.Numbers.{numberOf, placeOf}
 use Rattle.refusal.specs.declared.Refusal.{Refusal}
@@ -82,10 +83,6 @@ held-more (leaf k e) = omega arith
 held-more (unary k l h p e) = let x = held-more p in omega arith
 held-more (binary k l h p q e) = let x = held-more p in let y = held-more q in omega arith
 
-or-none : (a b : Bool) → (a || b) ≡ false → a ≡ false
-or-none true b e = absurd (false≢true (sym e))
-or-none false b e = refl
-
 module _ (bytes text table : List ℕ) where
   pub question-refused : (q : Prepared) (x : Refusal) → Prepares bytes text table q → q ≡ prepared.Refused x → (old : List ℕ)
       → Answers (questionOf bytes text (length old)) old (written.Refused x) old
@@ -107,7 +104,7 @@ module _ (bytes text table : List ℕ) where
 
     few-nodes : n ≤ mostNodes
     few-nodes =
-        omega (arith, passed .1, ltb-false mostNodes (nodesOf (reading text)) (or-none (ltb mostNodes (nodesOf (reading text))) (tooDeep text) (parts .1 .1 .1 .1 .0)))
+        omega (arith, passed .1, ltb-false mostNodes (nodesOf (reading text)) (none-left (ltb mostNodes (nodesOf (reading text))) (tooDeep text) (parts .1 .1 .1 .1 .0)))
 
     some-record : 0 < length (coded bytes)
     some-record = by (ℕ-discrete (length (records bytes)) 0)

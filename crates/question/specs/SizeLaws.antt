@@ -8,6 +8,7 @@ use mathlib.Core.Bool.{Bool, true, false, cond, _||_, true≢false}
 use lib.ListN.{length}
 use lib.Dec.{eqb}
 use borrow.Author.Tests.{ltb-false, eq-eqb}
+use Rattle.number.specs.BooleanLaws.{none-left, none-right}
 use Rattle.refusal.specs.Outcome.{result, NoneMeets}
 use Rattle.recording.specs.Recording.{records, recordingLines, noRecord}
 use Rattle.recording.specs.Output.{outputLine}
@@ -23,32 +24,24 @@ use Rattle.meaning.specs.Truth.{someNode, overAt, someBelow, largeAt, refused8}
 use Rattle.evaluation.specs.EvaluateLaws.{coded-length}
 use Rattle.question.specs.Question.{read, answer, askingLines, setLines, questionOf}
 
-pub left-off : (a b : Bool) → (a || b) ≡ false → a ≡ false
-left-off false b e = refl
-left-off true b e = absurd (true≢false e)
-
-right-off : (a b : Bool) → (a || b) ≡ false → b ≡ false
-right-off false b e = e
-right-off true b e = absurd (true≢false e)
-
 -- a node is a node of its text
 root-off : (G : Text → Bool) (p : Text) → someNode G p ≡ false → G p ≡ false
 unfolding someNode
 root-off G (atom k) e = e
 root-off G (listed q) e = e
-root-off G (or p q) e = left-off (G (or p q)) _ e
-root-off G (and p q) e = left-off (G (and p q)) _ e
-root-off G (neg p) e = left-off (G (neg p)) _ e
-root-off G (finally p) e = left-off (G (finally p)) _ e
-root-off G (globally p) e = left-off (G (globally p)) _ e
-root-off G (next p) e = left-off (G (next p)) _ e
-root-off G (until p q) e = left-off (G (until p q)) _ e
-root-off G (weakUntil p q) e = left-off (G (weakUntil p q)) _ e
+root-off G (or p q) e = none-left (G (or p q)) _ e
+root-off G (and p q) e = none-left (G (and p q)) _ e
+root-off G (neg p) e = none-left (G (neg p)) _ e
+root-off G (finally p) e = none-left (G (finally p)) _ e
+root-off G (globally p) e = none-left (G (globally p)) _ e
+root-off G (next p) e = none-left (G (next p)) _ e
+root-off G (until p q) e = none-left (G (until p q)) _ e
+root-off G (weakUntil p q) e = none-left (G (weakUntil p q)) _ e
 
 first-off : (f : ℕ → Bool) (n : ℕ) → 0 < n → someBelow f n ≡ false → f 0 ≡ false
 first-off f zero h e = absurd (omega arith)
-first-off f (suc zero) h e = left-off (f 0) false e
-first-off f (suc (suc n)) h e = first-off f (suc n) (omega arith) (right-off (f (suc n)) (someBelow f (suc n)) e)
+first-off f (suc zero) h e = none-left (f 0) false e
+first-off f (suc (suc n)) h e = first-off f (suc n) (omega arith) (none-right (f (suc n)) (someBelow f (suc n)) e)
 
 -- not refused by 8, a text has few runs at the first record
 pub few-first : (r : List Coded) (p : Text) → 0 < length r → refused8 r p ≡ false → largeAt r p 0 ≡ false

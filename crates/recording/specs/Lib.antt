@@ -3,8 +3,6 @@ pub mod Reading
 pub mod Recording
 pub mod Output
 pub mod R1
-pub mod Booleans
-pub mod LeastLaws
 pub mod ValueLaws
 pub mod RecordLaws
 pub mod AcceptanceLaws

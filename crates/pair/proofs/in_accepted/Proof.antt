@@ -11,7 +11,7 @@ use lib.IntN.{ℤ}
 use Rattle.number.specs.Axis.{whole}
 use Rattle.refusal.specs.Outcome.{judged}
 use Rattle.refusal.specs.declared.Refusal.the-variants.{NoRecord, BadTarget}
-use Rattle.recording.specs.Booleans.{or-right}
+use Rattle.number.specs.BooleanLaws.{or-right}
 use Rattle.recording.specs.Recording.{records, readings}
 use Rattle.recording.specs.RecordLaws.{length-records}
 use Rattle.tops.specs.Tops.{curveOf}

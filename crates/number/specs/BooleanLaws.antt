@@ -1,11 +1,10 @@
--- Laws of Boolean tests.
-use Prim.Native.Nat.{ℕ, _≤_, _<_}
-use native.Mathlib.Omega.{arith}
-use native.Mathlib.Decide.{decLt}
-use mathlib.Core.Path.{_≡_, refl, sym, ap, _∙_}
-use mathlib.Core.Bool.{Bool, true, false, _&&_, _||_, not, true≢false}
-use lib.Dec.{leb, ltb}
-use borrow.Author.Tests.{lt-ltb, le-ltb, le-leb, lt-leb}
+-- Laws of Boolean tests, and of a test with what it decides.
+use mathlib.Core.Path.{_≡_, refl, sym, _∙_}
+use mathlib.Core.Bool.{Bool, true, false, _&&_, _||_, not, So, true≢false, false≢true}
+use mathlib.Core.Logic.{_⊎_, inl, inr, ⊎-elim, _↔_}
+use lib.Dec.{T}
+
+-- ---- as equations
 
 pub clash : {e : Bool} → e ≡ true → e ≡ false → ⊥
 clash h k = true≢false (sym h ∙ k)
@@ -38,6 +37,9 @@ pub or-cases : {C : Type 0} (e f : Bool) → (e || f) ≡ true → (e ≡ true �
 or-cases true f h l r = l refl
 or-cases false f h l r = r h
 
+pub or-none : {e f : Bool} → e ≡ false → f ≡ false → (e || f) ≡ false
+or-none {e} {f} h k = cc
+
 pub none-left : (e f : Bool) → (e || f) ≡ false → e ≡ false
 none-left e f h = off (or-left e f) h
 
@@ -69,26 +71,32 @@ pub not-make : (e : Bool) → (e ≡ true → ⊥) → not e ≡ true
 not-make true h = absurd (h refl)
 not-make false h = refl
 
--- two tests with the same meaning
-pub ltb-same : (a b c d : ℕ) → (a < b → c < d) → (c < d → a < b) → ltb a b ≡ ltb c d
-ltb-same a b c d f g = go (decLt a b)
-  where
-    out : (a < b → ⊥) → b ≤ a
-    out n = omega arith
+-- ---- as equivalences
 
-    out′ : (c < d → ⊥) → d ≤ c
-    out′ n = omega arith
+pub then : {A B C : Type 0} → A ↔ B → B ↔ C → A ↔ C
+then f g = (λ a. g .0 (f .0 a), λ c. f .1 (g .1 c))
 
-    go : Dec (a < b) → ltb a b ≡ ltb c d
-    go (yes h) = lt-ltb a b h ∙ sym (lt-ltb c d (f h))
-    go (no n) = le-ltb a b (out n) ∙ sym (le-ltb c d (out′ (λ h. n (g h))))
+pub back : {A B : Type 0} → A ↔ B → B ↔ A
+back f = (f .1, f .0)
 
-pub leb-not-ltb : (m n : ℕ) → leb m n ≡ not (ltb n m)
-leb-not-ltb m n = go (decLt n m)
-  where
-    out : (n < m → ⊥) → m ≤ n
-    out h = omega arith
+pub either : {A B C D : Type 0} → A ↔ C → B ↔ D → (A ⊎ B) ↔ (C ⊎ D)
+either f g = (⊎-elim (λ a. inl (f .0 a)) (λ b. inr (g .0 b)), ⊎-elim (λ a. inl (f .1 a)) (λ b. inr (g .1 b)))
 
-    go : Dec (n < m) → leb m n ≡ not (ltb n m)
-    go (yes h) = lt-leb m n h ∙ ap not (sym (lt-ltb n m h))
-    go (no h) = le-leb m n (out h) ∙ ap not (sym (le-ltb n m (out h)))
+pub both : {A B C D : Type 0} → A ↔ C → B ↔ D → (A × B) ↔ (C × D)
+both f g = (λ h. (f .0 (h .0), g .0 (h .1)), λ h. (f .1 (h .0), g .1 (h .1)))
+
+pub so-or : (a b : Bool) → So (a || b) ↔ (So a ⊎ So b)
+so-or true b = (λ h. inl refl, λ h. refl)
+so-or false b = (λ h. inr h, ⊎-elim (λ e. absurd (false≢true e)) (λ h. h))
+
+pub so-and : (a b : Bool) → So (a && b) ↔ (So a × So b)
+so-and true b = (λ h. (refl, h), λ h. h .1)
+so-and false b = (λ h. absurd (false≢true h), λ h. h .0)
+
+pub so-not : (a : Bool) → So (not a) ↔ (¬ So a)
+so-not true = (λ h e. false≢true h, λ h. absurd (h refl))
+so-not false = (λ h e. false≢true e, λ h. refl)
+
+pub so-test : (b : Bool) → So b ↔ T b
+so-test true = (λ h. tt, λ h. refl)
+so-test false = (λ h. false≢true h, λ h. absurd h)
