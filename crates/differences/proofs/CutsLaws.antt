@@ -12,12 +12,12 @@ use lib.Seq.{take-suc-set, getD-set-other}
 use borrow.Author.Tests.{le-leb, lt-leb, lt-ltb, le-ltb}
 use Rattle.number.specs.Axis.{axis}
 use Rattle.runset.specs.Runs.{startsAt, runCount, mostRuns}
-use Rattle.number.specs.BooleanLaws.{clash, and-make}
-use Rattle.meaning.specs.RunLaws.{starts, run-count, runs-ext}
+use Rattle.number.specs.laws.Boolean.{clash, and-make}
+use Rattle.meaning.specs.laws.Run.{starts, run-count, runs-ext}
 use Rattle.differences.specs.declared.Cuts.{Cuts}
 use Rattle.runset.specs.Set.{xor, inside, Ascending}
-use Rattle.differences.specs.Cuts.{Collects}
-use Rattle.differences.specs.Search.{Least, Past, from}
+use Rattle.differences.specs.inner.Cuts.{Collects}
+use Rattle.differences.specs.inner.Search.{Least, Past, from}
 
 -- ---- counting runs
 

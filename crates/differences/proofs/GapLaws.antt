@@ -8,10 +8,10 @@ use lib.Dec.{leb}
 use lib.ListN.{length, getD}
 use borrow.Author.Tests.{eqb-true, leb-true, le-leb, ne-eqb}
 use Rattle.number.specs.Axis.{origin}
-use Rattle.number.specs.BooleanLaws.{same, or-left, or-right, or-cases, and-left, and-right, and-make}
-use Rattle.meaning.specs.Truth.{someOf, somePair, apart}
-use Rattle.differences.specs.Times.{Times, lagsOf, gapsOf}
-use Rattle.differences.specs.Search.{from}
+use Rattle.number.specs.laws.Boolean.{same, or-left, or-right, or-cases, and-left, and-right, and-make}
+use Rattle.meaning.specs.inner.Truth.{someOf, somePair, apart}
+use Rattle.differences.specs.inner.Times.{Times, lagsOf, gapsOf}
+use Rattle.differences.specs.inner.Search.{from}
 
 -- all over lo, and ascending
 abbrev Sorted : ℕ → List ℕ → Type 0

@@ -10,9 +10,9 @@ use lib.Dec.{eqb}
 use lib.ListN.{length, getD}
 use borrow.Author.Tests.{eqb-true, eq-eqb}
 use Rattle.number.specs.Axis.{axis}
-use Rattle.meaning.specs.PickLaws.{some-at, some-find}
-use Rattle.differences.specs.Times.{Times, momentsOf}
-use Rattle.differences.specs.Search.{Least, Past, Streak}
+use Rattle.meaning.specs.laws.Pick.{some-at, some-find}
+use Rattle.differences.specs.inner.Times.{Times, momentsOf}
+use Rattle.differences.specs.inner.Search.{Least, Past, Streak}
 use Rattle.differences.proofs.SearchLaws.{times-up}
 
 -- ---- a stretch

@@ -9,10 +9,10 @@ use mathlib.Core.List.{List, [], _∷_}
 use lib.ListN.{length}
 use borrow.Author.Tests.{eqb-true, eq-eqb}
 use Rattle.number.specs.Axis.{origin, axis}
-use Rattle.number.specs.BooleanLaws.{or-left, or-right, or-cases}
-use Rattle.meaning.specs.Truth.{apart}
-use Rattle.differences.specs.Times.{stepsOf}
-use Rattle.differences.specs.Search.{Least, Better}
+use Rattle.number.specs.laws.Boolean.{or-left, or-right, or-cases}
+use Rattle.meaning.specs.inner.Truth.{apart}
+use Rattle.differences.specs.inner.Times.{stepsOf}
+use Rattle.differences.specs.inner.Search.{Least, Better}
 use Rattle.differences.proofs.SearchLaws.{At}
 
 step-at : (w : ℕ) (l : List ℕ) (i : ℕ) → suc i < length l → At l l i (suc i) w → stepsOf l w ≡ true

@@ -9,9 +9,9 @@ use mathlib.Core.List.{List}
 use lib.ListN.{length, getD, set, length-set, replicate}
 use lib.Seq.{getD-set-same, getD-set-other}
 use Rattle.number.specs.Axis.{axis}
-use Rattle.number.specs.BooleanLaws.{same}
-use Rattle.differences.specs.Times.{Times, lagsOf}
-use Rattle.differences.specs.Search.{Past, windowSize, Marked, Lead}
+use Rattle.number.specs.laws.Boolean.{same}
+use Rattle.differences.specs.inner.Times.{Times, lagsOf}
+use Rattle.differences.specs.inner.Search.{Past, windowSize, Marked, Lead}
 use Rattle.differences.proofs.SearchLaws.{At, Diff, times-up, lags-diff, diff-lags, Full}
 
 -- THE SWEEP: rows before i are weighed, row i before column j, and columns before lo are under x from row i on

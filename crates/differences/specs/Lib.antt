@@ -1,4 +1,2 @@
-pub mod Times
-pub mod Cuts
-pub mod Search
-pub mod TimesLaws
+pub mod inner
+pub mod laws

@@ -5,9 +5,9 @@ ghost use mathlib.Core.Bool.{true};
 ghost use Prim.Native.Nat.{ℕ, suc, _+_, _-_, _<_, _≤_, min};
 ghost use lib.ListN.{getD, length};
 ghost use Rattle.number.specs.Axis.{origin, axis};
-ghost use Rattle.differences.specs.Times.{Times, lagsOf, gapsOf, stepsOf, momentsOf};
-ghost use Rattle.differences.specs.Search.{Least, Past, Follows, chosen, from, Better, Marked, Lead, Streak};
-ghost use Rattle.differences.specs.Cuts.{Collects};
+ghost use Rattle.differences.specs.inner.Times.{Times, lagsOf, gapsOf, stepsOf, momentsOf};
+ghost use Rattle.differences.specs.inner.Search.{Least, Past, Follows, chosen, from, Better, Marked, Lead, Streak};
+ghost use Rattle.differences.specs.inner.Cuts.{Collects};
 use runset::CUTS;
 
 // How many numbers are looked at in one sweep over the times.

@@ -1,11 +1,2 @@
-pub mod Askable
-pub mod Evaluation
-pub mod Step
-pub mod Slots
-pub mod Evaluate
-pub mod SlotsLaws
-pub mod StepLaws
-pub mod TreeLaws
-pub mod NodeLaws
-pub mod EvaluateLaws
-pub mod WalkLaws
+pub mod inner
+pub mod laws

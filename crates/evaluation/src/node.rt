@@ -5,12 +5,12 @@ ghost use Prim.Native.Nat.{ℕ, _*_, _≤_, _<_};
 ghost use lib.ListN.{length};
 ghost use Rattle.runset.specs.Runs.{mostRuns};
 ghost use Rattle.runset.specs.Set.{inside};
-ghost use Rattle.runset.specs.Lent.{Lent};
+ghost use Rattle.runset.specs.inner.Lent.{Lent};
 ghost use Rattle.grammar.specs.Size.{mostNodes};
-ghost use Rattle.grammar.specs.Kinds.{NOT, AND};
-ghost use Rattle.grammar.specs.Table.{unaryFrom, binaryFrom, kinds};
-ghost use Rattle.evaluation.specs.Step.{unaryOf, binaryOf};
-ghost use Rattle.evaluation.specs.Slots.{slot, Sized, Puts};
+ghost use Rattle.grammar.specs.inner.Kinds.{NOT, AND};
+ghost use Rattle.grammar.specs.inner.Table.{unaryFrom, binaryFrom, kinds};
+ghost use Rattle.evaluation.specs.inner.Step.{unaryOf, binaryOf};
+ghost use Rattle.evaluation.specs.inner.Slots.{slot, Sized, Puts};
 
 // A node with one child.
 pub fn one_at(

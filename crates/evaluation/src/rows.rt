@@ -2,7 +2,7 @@
 ghost use mathlib.Core.Path.{_≡_};
 ghost use Prim.Native.Nat.{ℕ, _+_, _*_, _≤_};
 ghost use lib.ListN.{length};
-ghost use Rattle.grammar.specs.Table.{rowAt};
+ghost use Rattle.grammar.specs.inner.Table.{rowAt};
 use grammar::Row;
 
 // Row n.

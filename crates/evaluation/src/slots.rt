@@ -3,10 +3,10 @@ ghost use mathlib.Core.Path.{_≡_};
 ghost use Prim.Native.Nat.{ℕ, _+_, _*_, _≤_, _<_};
 ghost use lib.ListN.{length, take};
 ghost use Rattle.runset.specs.Runs.{mostRuns};
-ghost use Rattle.runset.specs.Lent.{Fills};
+ghost use Rattle.runset.specs.inner.Lent.{Fills};
 ghost use mathlib.Core.Bool.{Bool, false};
 ghost use Rattle.grammar.specs.Size.{mostNodes};
-ghost use Rattle.evaluation.specs.Slots.{slot, Sized, Stored, Puts, Copied};
+ghost use Rattle.evaluation.specs.inner.Slots.{slot, Sized, Stored, Puts, Copied};
 use runset::merge::Filled;
 
 // The numbers of a slot.

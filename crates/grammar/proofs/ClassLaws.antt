@@ -9,8 +9,8 @@ use borrow.Author.Tests.{eqb-true, eqb-false, ne-eqb}
 use Rattle.grammar.specs.declared.Class.{Class}
 use Rattle.grammar.specs.declared.Class.the-variants.{Digit, Letter, Sign, Foreign}
 use Rattle.grammar.specs.Classes.{classOf, isDigit, isLetter, isSign}
-use Rattle.grammar.specs.WordLaws.{and-left, and-right}
-use Rattle.grammar.specs.ClassLaws.{number, same-number}
+use Rattle.grammar.specs.laws.Word.{and-left, and-right}
+use Rattle.grammar.specs.laws.Class.{number, same-number}
 
 or-right : (x y : Bool) → (x || y) ≡ true → x ≡ false → y ≡ true
 or-right true y e f = let z : _≡_ {A = ℕ} 0 1 = cc in absurd (omega arith)

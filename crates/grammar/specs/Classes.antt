@@ -30,7 +30,7 @@ abbrev pub among : ℕ → List ℕ → Bool
 among b [] = false
 among b (x ∷ w) = eqb x b || among b w
 
--- THE CLASSES BY THEIR CHARACTERS, the same of each byte: ClassLaws, `classes-listed`
+-- THE CLASSES BY THEIR CHARACTERS, the same of each byte: laws/Class, `classes-listed`
 unfoldable pub listedClass : ℕ → Class
 listedClass b =
     cond (among b (bytes "0123456789")) Digit

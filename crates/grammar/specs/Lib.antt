@@ -3,12 +3,5 @@ pub mod Bytes
 pub mod Classes
 pub mod Size
 pub mod Grammar
-pub mod Kinds
-pub mod Table
-pub mod Lexer
-pub mod Parse
-pub mod WordLaws
-pub mod ClassLaws
-pub mod NumberLaws
-pub mod LeafLaws
-pub mod Unique
+pub mod inner
+pub mod laws

@@ -1,10 +1,3 @@
 pub mod Kept
 pub mod Selection
-pub mod ExampleR1
-pub mod Stability
-pub mod RuleLaws
-pub mod OnLaws
-pub mod KeptLaws
-pub mod LimitLaws
-pub mod MarkLaws
-pub mod FlagLaws
+pub mod laws

@@ -1,10 +1,2 @@
-pub mod Leaf
-pub mod Span
-pub mod Extreme
-pub mod Stamps
-pub mod CodingLaws
-pub mod CodeLaws
-pub mod SpanLaws
-pub mod ExtremeLaws
-pub mod StampLaws
-pub mod LeafLaws
+pub mod inner
+pub mod laws

@@ -5,10 +5,10 @@ ghost use lib.ListN.{length};
 ghost use Rattle.number.specs.Axis.{axis};
 ghost use Rattle.recording.specs.Recording.{Accepted};
 ghost use Rattle.tops.specs.Tops as tops;
-ghost use Rattle.grammar.specs.Table as table;
-ghost use Rattle.meaning.specs.Coded.{codedValue, codedSlope};
-ghost use Rattle.meaning.specs.Truth.{codedAt, codedField};
-ghost use Rattle.meaning.specs.Coded.{coded};
+ghost use Rattle.grammar.specs.inner.Table as table;
+ghost use Rattle.meaning.specs.inner.Coded.{codedValue, codedSlope};
+ghost use Rattle.meaning.specs.inner.Truth.{codedAt, codedField};
+ghost use Rattle.meaning.specs.inner.Coded.{coded};
 
 // Slopes as recorded.
 pub const FALLING: u8 = 0;

@@ -2,7 +2,7 @@
 ghost use Prim.Native.Nat.{_<_};
 ghost use lib.Dec.{leb, ltb};
 ghost use Rattle.number.specs.Axis.{axis};
-ghost use Rattle.leaves.specs.Span.{Spans};
+ghost use Rattle.leaves.specs.inner.Span.{Spans};
 
 // The numbers from low to high; none where high < low.
 pub struct Span {

@@ -12,8 +12,8 @@ use Rattle.grammar.specs.declared.Found.{Found}
 use Rattle.grammar.specs.declared.Found.the-variants.{At, Missing}
 use Rattle.grammar.specs.declared.Leaf.{Leaf}
 use Rattle.grammar.specs.declared.Leaf.the-variants.{Node, Open, Nothing}
-use Rattle.grammar.specs.Table.{row}
-use Rattle.grammar.specs.Lexer.{byte, firstOf, curves, relations, heads, numberAt, whenFound, closedBy, operandAt, comparisonAt, timedAt, argumentsAt, namedAt, headedAt, leafAt}
+use Rattle.grammar.specs.inner.Table.{row}
+use Rattle.grammar.specs.inner.Lexer.{byte, firstOf, curves, relations, heads, numberAt, whenFound, closedBy, operandAt, comparisonAt, timedAt, argumentsAt, namedAt, headedAt, leafAt}
 
 -- the leaf with the number that was found
 abbrev pub numbered : ℕ → ℕ → ℕ → ℕ → Leaf

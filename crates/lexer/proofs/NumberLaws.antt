@@ -11,9 +11,9 @@ use Rattle.grammar.specs.declared.Found.{Found}
 use Rattle.grammar.specs.declared.Found.the-variants.{At, Missing}
 use Rattle.grammar.specs.Classes.{isDigit}
 use Rattle.grammar.specs.Grammar.{decimal, decimalFrom}
-use Rattle.grammar.specs.Lexer.{byte, digitRun, unsignedAt, numberAt, negated, shifted}
-use Rattle.grammar.specs.WordLaws.{bound}
-use Rattle.grammar.specs.NumberLaws.{run-ends, run-first, digit-low, digit-high, Unsigned, naught, counted, unsigned-sound, number-sound}
+use Rattle.grammar.specs.inner.Lexer.{byte, digitRun, unsignedAt, numberAt, negated, shifted}
+use Rattle.grammar.specs.laws.Word.{bound}
+use Rattle.grammar.specs.laws.Number.{run-ends, run-first, digit-low, digit-high, Unsigned, naught, counted, unsigned-sound, number-sound}
 
 -- the value of digits, held
 abbrev pub held : ℕ → List ℕ → ℕ

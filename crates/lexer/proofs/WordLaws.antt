@@ -7,8 +7,8 @@ use native.Mathlib.Omega.{arith}
 use lib.ListN.{length}
 use Rattle.grammar.specs.declared.Found.{Found}
 use Rattle.grammar.specs.declared.Found.the-variants.{At, Missing}
-use Rattle.grammar.specs.Lexer.{spelledAt, Word, firstOf, curves, relations, heads}
-use Rattle.grammar.specs.WordLaws.{and-left, and-right, bound, solid, stands-solid}
+use Rattle.grammar.specs.inner.Lexer.{spelledAt, Word, firstOf, curves, relations, heads}
+use Rattle.grammar.specs.laws.Word.{and-left, and-right, bound, solid, stands-solid}
 
 unfoldable pub allSolid : List Word → Bool
 allSolid [] = true

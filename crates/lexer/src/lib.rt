@@ -4,7 +4,7 @@ ghost use mathlib.Core.Bool.{_&&_};
 ghost use Prim.Native.Nat.{_+_, _≤_, _<_};
 ghost use lib.Dec.{eqb};
 ghost use lib.ListN.{length};
-ghost use Rattle.grammar.specs.Lexer.{closedBy, operandAt, comparisonAt, timedAt, argumentsAt, namedAt, headedAt, leafAt};
+ghost use Rattle.grammar.specs.inner.Lexer.{closedBy, operandAt, comparisonAt, timedAt, argumentsAt, namedAt, headedAt, leafAt};
 
 mod numbers;
 

@@ -4,7 +4,7 @@ ghost use Prim.Native.Nat.{_+_, _-_, _*_, _≤_, _<_, min};
 ghost use lib.ListN.{length, drop};
 ghost use Rattle.number.specs.Axis.{origin};
 ghost use Rattle.grammar.specs.Grammar.{decimal};
-ghost use Rattle.grammar.specs.Lexer.{digitRun, unsignedAt, numberAt};
+ghost use Rattle.grammar.specs.inner.Lexer.{digitRun, unsignedAt, numberAt};
 use grammar::Found;
 use grammar::classes;
 use number::ORIGIN;

@@ -1,2 +1,2 @@
 pub mod Boundary
-pub mod BoundaryLaws
+pub mod laws

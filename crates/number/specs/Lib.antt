@@ -1,7 +1,4 @@
 pub mod Axis
 pub mod Words
 pub mod Least
-pub mod BooleanLaws
-pub mod OrderLaws
-pub mod WordsLaws
-pub mod LeastLaws
+pub mod laws

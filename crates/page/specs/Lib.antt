@@ -3,14 +3,5 @@ pub mod Decimal
 pub mod Typed
 pub mod Printed
 pub mod Intake
-pub mod Puts
-pub mod PutsLaws
-pub mod DecimalLaws
-pub mod PageLaws
-pub mod TypedLaws
-pub mod IntakeLaws
-pub mod PrintedLaws
-pub mod LengthLaws
-pub mod TenLaws
-pub mod Examples
-pub mod R1Page
+pub mod inner
+pub mod laws

@@ -8,7 +8,7 @@ use Rattle.question.specs.Question.{questionOf}
 use Rattle.page.specs.Page.{page}
 use Rattle.page.specs.Typed.{withoutNewline}
 
--- the output that the question call is given: a set that is answered fits, so 10 is never printed (TenLaws, `never-ten`)
+-- the output that the question call is given: a set that is answered fits, so 10 is never printed (laws/Ten, `never-ten`)
 abbrev pub setRoom : ℕ
 setRoom = 8 * mostRuns
 

@@ -6,7 +6,7 @@ ghost use Rattle.refusal.specs.Numbers.{numberOf, placeOf};
 ghost use Rattle.number.specs.Words.{signed};
 ghost use Rattle.page.specs.Page.{page, runLine, runLines};
 ghost use Rattle.page.specs.Printed.{pageSize};
-ghost use Rattle.page.specs.Puts.{Puts};
+ghost use Rattle.page.specs.inner.Puts.{Puts};
 use crate::numbers;
 use crate::put;
 use refusal::Refusal;

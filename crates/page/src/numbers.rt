@@ -3,7 +3,7 @@ ghost use Prim.Native.Nat.{_+_, _≤_, _<_};
 ghost use lib.ListN.{length};
 ghost use Rattle.number.specs.Words.{signed};
 ghost use Rattle.page.specs.Decimal.{decimal, signedDecimal};
-ghost use Rattle.page.specs.Puts.{Puts};
+ghost use Rattle.page.specs.inner.Puts.{Puts};
 use crate::put;
 
 // Where 0 stands among the signed numbers of 32 bits, counted from the least.

@@ -2,7 +2,7 @@
 ghost use mathlib.Core.List.{[], _∷_};
 ghost use Prim.Native.Nat.{_+_, _≤_, _<_};
 ghost use lib.ListN.{length};
-ghost use Rattle.page.specs.Puts.{Puts};
+ghost use Rattle.page.specs.inner.Puts.{Puts};
 
 // Puts one byte.
 pub fn byte(out: &mut [u8], at: usize, b: u8) -> usize

@@ -1,5 +1,3 @@
 pub mod Pair
-pub mod Examples
-pub mod Search
-pub mod SearchLaws
-pub mod PairLaws
+pub mod inner
+pub mod laws

@@ -65,7 +65,7 @@ firstApart g (p ∷ ps) = cond (eqZ (subℕ (p .later) (p .earlier)) g) (times (
 unfoldable pub firstPair : List Reading → Curve → ℤ → Given
 firstPair r c g = firstApart g (pairsOf (topTimes c r))
 
--- ---- what that says of the records: `first-fitting` (PairLaws)
+-- ---- what that says of the records: `first-fitting` (laws/Pair)
 
 -- t and u are the times of two tops that fit
 pub record OfTops (r : List Reading) (c : Curve) (g : ℤ) (t u : ℕ) : Type 0 where

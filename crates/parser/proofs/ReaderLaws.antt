@@ -13,14 +13,14 @@ use Rattle.parser.specs.declared.Got.the-variants.{Upto, Unread}
 use Rattle.grammar.specs.declared.Leaf.{Leaf}
 use Rattle.grammar.specs.declared.Leaf.the-variants.{Node, Open, Nothing}
 use Rattle.grammar.specs.Syntax.{Text}
-use Rattle.grammar.specs.Table.{row, rowAt}
-use Rattle.grammar.specs.Lexer.{byte, leafAt}
-use Rattle.grammar.specs.Parse.{Joiner, bars, ampersands, sign, Task, chain, more, not-at, prim-at, argument, part, joinKind, leafOf, node, Out, got, unread, after, opened, begun, closed, parse, rank}
-use Rattle.parser.specs.Rows.{Put, Same, Laid, leaf, unary, binary, Room, Ahead, Onward, Within, Fits, Answers, AnswersMore, AnswersOpened}
-use Rattle.parser.specs.RowsLaws.{ahead-of}
-use Rattle.grammar.specs.WordLaws.{inside, bound}
-use Rattle.grammar.specs.LeafLaws.{Opening, round, single, double, open-held, leaf-held, leaf-low}
-use Rattle.grammar.specs.Unique.{longer, rank-part, rank-low, rank-high}
+use Rattle.grammar.specs.inner.Table.{row, rowAt}
+use Rattle.grammar.specs.inner.Lexer.{byte, leafAt}
+use Rattle.grammar.specs.inner.Parse.{Joiner, bars, ampersands, sign, Task, chain, more, not-at, prim-at, argument, part, joinKind, leafOf, node, Out, got, unread, after, opened, begun, closed, parse, rank}
+use Rattle.parser.specs.inner.Rows.{Put, Same, Laid, leaf, unary, binary, Room, Ahead, Onward, Within, Fits, Answers, AnswersMore, AnswersOpened}
+use Rattle.parser.specs.laws.Rows.{ahead-of}
+use Rattle.grammar.specs.laws.Word.{inside, bound}
+use Rattle.grammar.specs.laws.Leaf.{Opening, round, single, double, open-held, leaf-held, leaf-low}
+use Rattle.grammar.specs.laws.Unique.{longer, rank-part, rank-low, rank-high}
 
 -- room further on, in a table of the same length
 pub room : {s T : List ℕ} {at n : ℕ} (U : List ℕ) (e m : ℕ) → Room s T at n → length U ≡ length T → e ≤ length s → m ≤ e → Room s U e m

@@ -6,8 +6,8 @@ use native.Mathlib.Omega.{arith}
 use lib.ListN.{length, getD, set, length-set}
 use lib.Seq.{getD-set-same, getD-set-other}
 use Rattle.grammar.specs.declared.Row.{Row}
-use Rattle.grammar.specs.Table.{row}
-use Rattle.parser.specs.Rows.{Put}
+use Rattle.grammar.specs.inner.Table.{row}
+use Rattle.parser.specs.inner.Rows.{Put}
 
 pub same-row : {k a b n : ℕ} {r : Row} → k ≡ r .kind → a ≡ r .first → b ≡ r .second → n ≡ r .number → row k a b n ≡ r
 same-row p q u v = λ i. record { kind = p i; first = q i; second = u i; number = v i }

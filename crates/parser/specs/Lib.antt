@@ -1,2 +1,2 @@
-pub mod Rows
-pub mod RowsLaws
+pub mod inner
+pub mod laws

@@ -2,9 +2,9 @@
 // Each writes the nodes of what it reads behind the n rows that stand in the table.
 ghost use mathlib.Core.Path.{_≡_};
 ghost use Prim.Native.Nat.{_+_, _≤_, _<_};
-ghost use Rattle.grammar.specs.Table.{unaryFrom, binaryFrom, kinds};
-ghost use Rattle.grammar.specs.Parse.{bars, ampersands, chain, not-at, prim-at, argument};
-ghost use Rattle.parser.specs.Rows.{Room, Answers, AnswersMore, AnswersOpened};
+ghost use Rattle.grammar.specs.inner.Table.{unaryFrom, binaryFrom, kinds};
+ghost use Rattle.grammar.specs.inner.Parse.{bars, ampersands, chain, not-at, prim-at, argument};
+ghost use Rattle.parser.specs.inner.Rows.{Room, Answers, AnswersMore, AnswersOpened};
 
 mod table;
 

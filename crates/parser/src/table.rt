@@ -1,9 +1,9 @@
 // Rows of the node table: four numbers to a row.
 ghost use Prim.Native.Nat.{_+_, _-_, _*_, _≤_, _<_};
 ghost use lib.ListN.{length};
-ghost use Rattle.grammar.specs.Table.{row};
+ghost use Rattle.grammar.specs.inner.Table.{row};
 ghost use Rattle.grammar.specs.Size.{mostBytes};
-ghost use Rattle.parser.specs.Rows.{Put};
+ghost use Rattle.parser.specs.inner.Rows.{Put};
 use grammar::Row;
 
 // Writes row n.

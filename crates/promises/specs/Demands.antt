@@ -1,6 +1,6 @@
 -- THE THREE DEMANDS, sentence by sentence, of the calls of the C boundary: of the 64-bit number that a call returns and of the memory that it leaves,
 -- for every call that meets its contract (mill/specs/Boundary: QuestionCall, DegreeCall, PairCall, ThinCall). Each call of the library is proved to
--- meet it, for every input, with no condition. That `Demands` holds is `demands` (DemandsLaws).
+-- meet it, for every input, with no condition. That `Demands` holds is `demands` (laws/Demands).
 use Prim.Native.Nat.{ℕ, _*_, _<_}
 use mathlib.Core.Path.{_≡_}
 use mathlib.Core.Bool.{Bool, true}
@@ -21,7 +21,7 @@ use Rattle.grammar.specs.Size.{afterTimes}
 use Rattle.meaning.specs.Meaning.{Holds}
 use Rattle.meaning.specs.Overfull.{IsSet}
 use Rattle.meaning.specs.Alike.{markIndex}
-use Rattle.meaning.specs.Coded.{index}
+use Rattle.meaning.specs.inner.Coded.{index}
 use Rattle.degree.specs.Degree.{Value}
 use Rattle.degree.specs.Nearest.{Near}
 use Rattle.marks.specs.Marks.{marksOf, marksLine, AcceptedMarks}

@@ -1,5 +1,5 @@
 -- Document 01, "Listed questions": asked alone, each of the first six equals its formula, asked alone, in set and in refusal 8. Here of the calls.
--- The formulas are those of `Formula`; that the calls agree is `first-six-asked` (FirstSixAskedLaws).
+-- The formulas are those of `Formula`; that the calls agree is `first-six-asked` (laws/FirstSixAsked).
 use Prim.Native.Nat.{ℕ}
 use Prim.Native.String.{String}
 use mathlib.Core.Path.{_≡_}

@@ -6,15 +6,4 @@ pub mod StandIn
 pub mod Lasting
 pub mod FirstSixAsked
 pub mod MarkedLines
-pub mod TableLaws
-pub mod CallLinesLaws
-pub mod ObservationLaws
-pub mod StandInLaws
-pub mod KeptAsFullLaws
-pub mod LastingLaws
-pub mod R1Lasting
-pub mod MarkedLinesLaws
-pub mod FirstSixAskedLaws
-pub mod OperatorLaws
-pub mod DemandsLaws
-pub mod AskedOfKeptLaws
+pub mod laws

@@ -1,5 +1,5 @@
 -- Document 01, "Recording R1" and "Four lines on promises": the marked lines of R1 as one list, over the bytes of R1 and the texts as they are written.
--- That each of them holds is `marked-hold` (MarkedLinesLaws).
+-- That each of them holds is `marked-hold` (laws/MarkedLines).
 use Prim.Native.Nat.{ℕ, _<_}
 use mathlib.Core.Path.{_≡_}
 use mathlib.Core.Bool.{So}

@@ -1,11 +1,4 @@
 pub mod Question
 pub mod Meant
-pub mod Prepare
-pub mod Answered
-pub mod PrepareLaws
-pub mod LimitLaws
-pub mod AnsweredLaws
-pub mod CallLaws
-pub mod AnswerLaws
-pub mod SizeLaws
-pub mod MeantLaws
+pub mod inner
+pub mod laws

@@ -10,12 +10,12 @@ use Rattle.runset.specs.Written.{inBytes}
 use Rattle.grammar.specs.Syntax.{Text}
 use Rattle.grammar.specs.Grammar.{ReadsWhole}
 use Rattle.grammar.specs.Size.{nodes, mostNodes, tooDeep}
-use Rattle.grammar.specs.Parse.{reading}
+use Rattle.grammar.specs.inner.Parse.{reading}
 use Rattle.text.specs.Told.{noReading, tooLarge}
 use Rattle.meaning.specs.Meaning.{Holds}
 use Rattle.meaning.specs.Overfull.{Overfull, TooManyTops}
-use Rattle.meaning.specs.Coded.{coded}
-use Rattle.meaning.specs.Truth.{refused8, refused9}
+use Rattle.meaning.specs.inner.Coded.{coded}
+use Rattle.meaning.specs.inner.Truth.{refused8, refused9}
 use Rattle.question.specs.Question.{read}
 
 -- DEMAND 2, of the bytes that a call wrote: the text has a reading under the printed rules, and no other; and a whole number of the axis lies in

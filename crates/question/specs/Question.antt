@@ -7,10 +7,10 @@ use Rattle.recording.specs.Recording.{recordingLines, noRecord}
 use Rattle.recording.specs.Output.{outputLine}
 use Rattle.runset.specs.Runs.{setBytes}
 use Rattle.grammar.specs.Syntax.{Text, listed, lag}
-use Rattle.grammar.specs.Parse.{Reading, one, none, reading}
+use Rattle.grammar.specs.inner.Parse.{Reading, one, none, reading}
 use Rattle.text.specs.Told.{textLines}
-use Rattle.meaning.specs.Truth.{val, refused8, refused9}
-use Rattle.meaning.specs.Coded.{coded}
+use Rattle.meaning.specs.inner.Truth.{val, refused8, refused9}
+use Rattle.meaning.specs.inner.Coded.{coded}
 
 -- the text that was read; what stands for a text without a reading is never asked
 abbrev pub theText : Reading → Text

@@ -1,8 +1,8 @@
 // The answered set of a text that was read: the refusals 9 and 8.
 ghost use Prim.Native.Nat.{ℕ, _*_, _≤_};
 ghost use lib.ListN.{length};
-ghost use Rattle.evaluation.specs.Evaluation.{textOf};
-ghost use Rattle.question.specs.Answered.{Ready, Gives};
+ghost use Rattle.evaluation.specs.inner.Evaluation.{textOf};
+ghost use Rattle.question.specs.inner.Answered.{Ready, Gives};
 use refusal::Refusal;
 use runset::RunSet;
 

@@ -2,9 +2,9 @@
 ghost use Prim.Native.Nat.{ℕ, _*_, _≤_};
 ghost use lib.ListN.{length};
 ghost use Rattle.recording.specs.Output.{Answers};
-ghost use Rattle.evaluation.specs.Evaluation.{textOf};
+ghost use Rattle.evaluation.specs.inner.Evaluation.{textOf};
 ghost use Rattle.question.specs.Question.{questionOf, answerOf, writtenOf};
-ghost use Rattle.question.specs.Answered.{Ready};
+ghost use Rattle.question.specs.inner.Answered.{Ready};
 ghost use Rattle.runset.specs.Set.{member, Valid};
 use crate::answered::Verdict;
 use crate::prepare::Prepared;

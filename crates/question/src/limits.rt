@@ -4,10 +4,10 @@ ghost use Prim.Native.Nat.{ℕ, _*_, _≤_, _<_};
 ghost use lib.ListN.{length};
 ghost use Rattle.recording.specs.Recording.{Accepted};
 ghost use Rattle.tops.specs.Tops as tops;
-ghost use Rattle.grammar.specs.Table as nodes;
-ghost use Rattle.meaning.specs.Coded.{coded};
-ghost use Rattle.meaning.specs.Truth.{manyTops, asksTooMany, ofListed, refused9};
-ghost use Rattle.leaves.specs.Leaf.{leafOf};
+ghost use Rattle.grammar.specs.inner.Table as nodes;
+ghost use Rattle.meaning.specs.inner.Coded.{coded};
+ghost use Rattle.meaning.specs.inner.Truth.{manyTops, asksTooMany, ofListed, refused9};
+ghost use Rattle.leaves.specs.inner.Leaf.{leafOf};
 use grammar::Row;
 use grammar::kinds;
 

@@ -2,7 +2,7 @@
 ghost use Prim.Native.Nat.{ℕ, _*_, _≤_};
 ghost use lib.ListN.{length};
 ghost use Rattle.grammar.specs.Size.{mostBytes};
-ghost use Rattle.question.specs.Prepare.{Prepares};
+ghost use Rattle.question.specs.inner.Prepare.{Prepares};
 use recording::Checked;
 use refusal::Refusal;
 use text::Answer;

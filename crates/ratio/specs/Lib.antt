@@ -1,2 +1,2 @@
 pub mod Degree
-pub mod DegreeLaws
+pub mod laws

@@ -3,7 +3,4 @@ pub mod Reading
 pub mod Recording
 pub mod Output
 pub mod R1
-pub mod ValueLaws
-pub mod RecordLaws
-pub mod AcceptanceLaws
-pub mod OutcomeLaws
+pub mod laws

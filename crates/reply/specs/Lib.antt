@@ -1,3 +1,2 @@
 pub mod Reply
-pub mod PlaceLaws
-pub mod UnpackedLaws
+pub mod laws

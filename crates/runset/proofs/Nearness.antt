@@ -9,13 +9,13 @@ use lib.Dec.{ltb}
 use lib.ListN.{length, take, drop, getD}
 use borrow.Author.Tests.{lt-ltb, le-ltb}
 use Rattle.number.specs.Axis.{axis}
-use Rattle.number.specs.OrderLaws.{less-or-not}
+use Rattle.number.specs.laws.Order.{less-or-not}
 use Rattle.runset.specs.Set.{inside, Ascending, Canonical, nearestOf}
 use Rattle.runset.specs.Distance.{distance}
-use Rattle.runset.specs.Gap.{gapTo, nearerOf}
-use Rattle.runset.specs.CutsLaws.{none, outside, weaken, past, before-run, in-run, behind-run}
-use Rattle.runset.specs.MergeLaws.{front, all-passed}
-use Rattle.runset.specs.DistanceLaws.{between, distance-is, distance-none}
+use Rattle.runset.specs.inner.Gap.{gapTo, nearerOf}
+use Rattle.runset.specs.laws.Cuts.{none, outside, weaken, past, before-run, in-run, behind-run}
+use Rattle.runset.specs.laws.Merge.{front, all-passed}
+use Rattle.runset.specs.laws.Distance.{between, distance-is, distance-none}
 use Rattle.runset.specs.declared.Nearest.{Nearest}
 use Rattle.runset.specs.declared.Nearest.the-variants.{At, Nothing}
 

@@ -9,12 +9,12 @@ use lib.ListN.{length, take, drop, getD, length-append}
 use lib.Seq.{length-take-le, getD-take, take-suc, take-all}
 use Rattle.number.specs.Axis.{axis, whole}
 use Rattle.number.specs.Words.{bits, wordBytes}
-use Rattle.number.specs.WordsLaws.{put-behind}
+use Rattle.number.specs.laws.Words.{put-behind}
 use Rattle.runset.specs.Runs.{mostRuns, lows, highs, runCount, numberBytes, runBytes, setBytes}
 use Rattle.runset.specs.Set.{cutsOf, inside, member, Ascending, Canonical, Valid}
-use Rattle.runset.specs.CutsLaws.{lowCuts, highCuts, lone, rest-ended}
-use Rattle.runset.specs.RunsLaws.{lows-are, highs-are, lows-highs, runBytes-length, setBytes-length}
-use Rattle.runset.specs.SetLaws.{valid-cuts}
+use Rattle.runset.specs.laws.Cuts.{lowCuts, highCuts, lone, rest-ended}
+use Rattle.runset.specs.laws.Runs.{lows-are, highs-are, lows-highs, runBytes-length, setBytes-length}
+use Rattle.runset.specs.laws.Set.{valid-cuts}
 use Rattle.runset.specs.declared.RunSet.{RunSet}
 
 -- run i of a list of cuts

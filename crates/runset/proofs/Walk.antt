@@ -10,8 +10,8 @@ use lib.ListN.{length, take, drop, set, length-append, length-set, take-append-d
 use lib.Seq.{length-take-le, take-suc-set, drop-set-lt, drop-drop}
 use borrow.Author.Tests.{lt-ltb, le-ltb}
 use Rattle.runset.specs.Set.{xor}
-use Rattle.runset.specs.Merge.{emit, Merged}
-use Rattle.runset.specs.MergeLaws.{emitted, passed}
+use Rattle.runset.specs.inner.Merge.{emit, Merged}
+use Rattle.runset.specs.laws.Merge.{emitted, passed}
 
 -- n cuts of m are written over `before`, and `left` is to come
 pub record Progress (m before out : List ℕ) (n : ℕ) (left : List ℕ) : Type 0 where

@@ -7,8 +7,8 @@ ghost use lib.ListN.{length};
 ghost use Rattle.number.specs.Axis.{axis};
 ghost use Rattle.runset.specs.Runs.{mostRuns};
 ghost use Rattle.runset.specs.Set.{inside, Canonical};
-ghost use Rattle.runset.specs.Merge.{opOf};
-ghost use Rattle.runset.specs.Lent.{Lent, Fills};
+ghost use Rattle.runset.specs.inner.Merge.{opOf};
+ghost use Rattle.runset.specs.inner.Lent.{Lent, Fills};
 use crate::merge::Filled;
 use crate::merge::Op;
 

@@ -13,9 +13,9 @@ ghost use lib.ListN.{length, getD, take, drop};
 ghost use Rattle.number.specs.Axis.{axis};
 ghost use Rattle.runset.specs.Runs.{runCount, lows, highs, setBytes};
 ghost use Rattle.runset.specs.Set.{inside, member, Valid, Represents, Makes, nearestOf};
-ghost use Rattle.runset.specs.Lent.{Lent};
-ghost use Rattle.runset.specs.Merge.{opOf, Operand};
-ghost use Rattle.runset.specs.Gap.{gapTo, nearerOf};
+ghost use Rattle.runset.specs.inner.Lent.{Lent};
+ghost use Rattle.runset.specs.inner.Merge.{opOf, Operand};
+ghost use Rattle.runset.specs.inner.Gap.{gapTo, nearerOf};
 
 // The most runs of a set.
 pub const MOST_RUNS: usize = 64;

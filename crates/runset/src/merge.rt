@@ -5,7 +5,7 @@ ghost use Prim.Native.Nat.{ℕ, _+_, _*_, _≤_, _<_};
 ghost use lib.ListN.{length, take};
 ghost use Rattle.runset.specs.Runs.{mostRuns};
 ghost use Rattle.runset.specs.Set.{xor};
-ghost use Rattle.runset.specs.Merge.{opOf, mergeCuts, Stepped, Merged};
+ghost use Rattle.runset.specs.inner.Merge.{opOf, mergeCuts, Stepped, Merged};
 
 pub enum Op {
     Or,

@@ -6,8 +6,8 @@ ghost use Prim.Native.Nat.{_*_, _≤_, _<_, min, max};
 ghost use lib.ListN.{length};
 ghost use Rattle.runset.specs.Runs.{mostRuns};
 ghost use Rattle.runset.specs.Set.{Canonical};
-ghost use Rattle.runset.specs.Merge.{opOf, mergeCuts, Merged};
-ghost use Rattle.runset.specs.OneRun.{runCuts, OneRun};
+ghost use Rattle.runset.specs.inner.Merge.{opOf, mergeCuts, Merged};
+ghost use Rattle.runset.specs.inner.OneRun.{runCuts, OneRun};
 use crate::merge::Filled;
 use crate::merge::Op;
 

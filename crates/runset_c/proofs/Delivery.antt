@@ -10,10 +10,10 @@ use borrow.Author.Tests.{lt-ltb, le-ltb, le-leb, lt-leb, eq-eqb, ne-eqb, ltb-fal
 use Rattle.number.specs.Axis.{axis}
 use Rattle.runset.specs.Runs.{mostRuns, runCount, setBytes}
 use Rattle.runset.specs.Distance.{distance}
-use Rattle.runset.specs.DistanceLaws.{distance-ext}
+use Rattle.runset.specs.laws.Distance.{distance-ext}
 use Rattle.runset.specs.Set.{member, Valid, Makes}
-use Rattle.runset.specs.RunsLaws.{runCount-ext, setBytes-ext}
-use Rattle.runset.specs.SetLaws.{makes-ext}
+use Rattle.runset.specs.laws.Runs.{runCount-ext, setBytes-ext}
+use Rattle.runset.specs.laws.Set.{makes-ext}
 use Rattle.runset.specs.declared.Made.{Made}
 use Rattle.runset_c.specs.Bytes.{chosen, asked, setOf, unfit, unfitAny, replyOf, outputOf, memberReply, distanceReply}
 use Rattle.runset_c.specs.Promises.{Loaded, Delivered}

@@ -12,8 +12,8 @@ use Rattle.number.specs.Axis.{axis}
 use Rattle.number.specs.Words.{word, turned}
 use Rattle.runset.specs.Runs.{mostRuns, runCount}
 use Rattle.runset.specs.Set.{member, Valid, Represents, Makes}
-use Rattle.runset.specs.RunsLaws.{runCount-ext}
-use Rattle.runset.specs.SetLaws.{makes-ext}
+use Rattle.runset.specs.laws.Runs.{runCount-ext}
+use Rattle.runset.specs.laws.Set.{makes-ext}
 use Rattle.runset.specs.declared.RunSet.{RunSet}
 use Rattle.runset.specs.declared.Made.{Made}
 use Rattle.runset_c.specs.Bytes.{indexAt, inRuns, unfitRuns, unfit, setOf}

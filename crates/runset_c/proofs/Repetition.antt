@@ -11,7 +11,7 @@ use borrow.Author.Tests.{eq-eqb, ne-eqb}
 use Rattle.number.specs.Axis.{axis}
 use Rattle.runset.specs.Runs.{mostRuns, runCount, lows}
 use Rattle.runset.specs.Set.{member, Makes}
-use Rattle.runset.specs.RunsLaws.{runCount-ext, lows-ext}
+use Rattle.runset.specs.laws.Runs.{runCount-ext, lows-ext}
 use Rattle.runset.specs.declared.Made.{Made}
 use Rattle.runset_c.specs.Bytes.{sumOf, repeatReply}
 

@@ -7,12 +7,12 @@ use native.Mathlib.Numerals.{add-one}
 use mathlib.Core.Bool.{Bool, true, false, _&&_, _||_, or-true}
 use lib.Dec.{ltb}
 use borrow.Author.Tests.{ltb-true, ltb-false}
-use Rattle.grammar.specs.Table.{rowAt, some}
+use Rattle.grammar.specs.inner.Table.{rowAt, some}
 use Rattle.grammar.specs.Classes.{within}
 use Rattle.grammar.specs.Syntax.{Text}
 use Rattle.grammar.specs.Size.{temporal, hasListed, mixed, nodes}
-use Rattle.parser.specs.Rows.{Laid}
-use Rattle.text.specs.TableLaws.{held-nodes, held-some, some-either, listedKind, temporalKind, listed-by-kind, temporal-by-kind}
+use Rattle.parser.specs.inner.Rows.{Laid}
+use Rattle.text.specs.laws.Table.{held-nodes, held-some, some-either, listedKind, temporalKind, listed-by-kind, temporal-by-kind}
 
 -- SCANS over the kinds
 pub some-here : (P : ℕ → Bool) (T : List ℕ) (n i k : ℕ) (t : Bool) → i < n → k ≡ rowAt T i .kind → t ≡ P k → t ≡ true → true ≡ some P T 0 n

@@ -15,11 +15,11 @@ use Rattle.text.specs.declared.Answer.{Answer}
 use Rattle.text.specs.declared.Answer.the-variants.{Nodes, Refused}
 use Rattle.grammar.specs.Syntax.{Text}
 use Rattle.grammar.specs.Size.{mixed, nodes, tooDeep, mostBytes, mostNodes}
-use Rattle.grammar.specs.Table.{treeAt, Falling}
-use Rattle.grammar.specs.Parse.{Out, got, unread, chain, bars, parse, Reading, one, none, unmixed, atEnd, reading}
-use Rattle.parser.specs.Rows.{Laid, Fits, Answers}
-use Rattle.text.specs.Judge.{judgedText}
-use Rattle.text.specs.TableLaws.{decoded, held-falling, held-nodes}
+use Rattle.grammar.specs.inner.Table.{treeAt, Falling}
+use Rattle.grammar.specs.inner.Parse.{Out, got, unread, chain, bars, parse, Reading, one, none, unmixed, atEnd, reading}
+use Rattle.parser.specs.inner.Rows.{Laid, Fits, Answers}
+use Rattle.text.specs.inner.Judge.{judgedText}
+use Rattle.text.specs.laws.Table.{decoded, held-falling, held-nodes}
 use Rattle.text.specs.Told.{badLength, noReading, tooLarge, textLines, nodesOf, outcomeOf, Tabled, Told}
 
 -- JUDGING a text whose tree is read

@@ -1,5 +1,3 @@
 pub mod Told
-pub mod Judge
-pub mod TableLaws
-pub mod ToldLaws
-pub mod Examples
+pub mod inner
+pub mod laws

@@ -10,9 +10,9 @@ use Rattle.refusal.specs.Numbers.{numberOf, placeOf}
 use Rattle.text.specs.declared.Answer.{Answer}
 use Rattle.text.specs.declared.Answer.the-variants.{Nodes, Refused}
 use Rattle.grammar.specs.Size.{nodes, tooDeep, mostBytes, mostNodes}
-use Rattle.grammar.specs.Table.{treeAt, Falling}
-use Rattle.grammar.specs.Parse.{Reading, one, none, reading}
-use Rattle.parser.specs.Rows.{Laid}
+use Rattle.grammar.specs.inner.Table.{treeAt, Falling}
+use Rattle.grammar.specs.inner.Parse.{Reading, one, none, reading}
+use Rattle.parser.specs.inner.Rows.{Laid}
 
 -- 5: the text is empty or over 256 bytes long
 abbrev pub badLength : List ℕ → Bool

@@ -4,8 +4,8 @@ ghost use Prim.Native.Nat.{ℕ, _*_, _≤_};
 ghost use lib.ListN.{length};
 ghost use Rattle.grammar.specs.Size.{mostBytes};
 ghost use Rattle.grammar.specs.Syntax.{Text};
-ghost use Rattle.parser.specs.Rows.{Laid};
-ghost use Rattle.text.specs.Judge.{judgedText};
+ghost use Rattle.parser.specs.inner.Rows.{Laid};
+ghost use Rattle.text.specs.inner.Judge.{judgedText};
 ghost use Rattle.text.specs.Told.{Told};
 
 mod brackets;

@@ -2,11 +2,11 @@
 ghost use mathlib.Core.Path.{_≡_};
 ghost use Prim.Native.Nat.{_+_, _*_, _≤_};
 ghost use lib.ListN.{length};
-ghost use Rattle.grammar.specs.Table.{rowAt, some};
+ghost use Rattle.grammar.specs.inner.Table.{rowAt, some};
 ghost use Rattle.grammar.specs.Classes.{within};
 ghost use Rattle.grammar.specs.Syntax.{Text};
 ghost use Rattle.grammar.specs.Size.{temporal, hasListed, mixed};
-ghost use Rattle.parser.specs.Rows.{Laid};
+ghost use Rattle.parser.specs.inner.Rows.{Laid};
 use grammar::kinds;
 
 // The kind of node n.

@@ -1,6 +1,3 @@
 pub mod Tops
-pub mod Scan
-pub mod EdgeLaws
-pub mod ScanLaws
-pub mod PickLaws
-pub mod TopLaws
+pub mod inner
+pub mod laws

@@ -14,8 +14,8 @@ use Rattle.grammar.specs.declared.Class.the-variants.{Digit, Letter, Sign, Fore
 use Rattle.grammar.specs.declared.Found.{Found}
 use Rattle.grammar.specs.declared.Found.the-variants.{At, Missing}
 use Rattle.grammar.specs.Classes.{classOf}
-use Rattle.grammar.specs.Lexer.{byte, spelledAt, Word, firstOf, heads}
-use Rattle.grammar.specs.WordLaws.{and-left, and-right}
+use Rattle.grammar.specs.inner.Lexer.{byte, spelledAt, Word, firstOf, heads}
+use Rattle.grammar.specs.laws.Word.{and-left, and-right}
 
 module _ (s : List ℕ) (at : ℕ) (w : List ℕ) where
   pub spelled-start : spelledAt s at w ≡ spelledAt s (at + 0) (drop 0 w)

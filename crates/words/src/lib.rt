@@ -4,7 +4,7 @@ ghost use mathlib.Core.List.{[], _∷_, _++_};
 ghost use Prim.Native.Nat.{_+_, _≤_, _<_};
 ghost use lib.ListN.{length};
 ghost use Rattle.grammar.specs.Bytes.{bytes};
-ghost use Rattle.grammar.specs.Lexer.{byte, word, spelledAt, firstOf, curves, relations, fields, levelNames, topNames, openings, heads};
+ghost use Rattle.grammar.specs.inner.Lexer.{byte, word, spelledAt, firstOf, curves, relations, fields, levelNames, topNames, openings, heads};
 use grammar::Class;
 use grammar::Found;
 use grammar::classes;

@@ -2,8 +2,8 @@
 use native.Mathlib.Omega.{arith}
 use mir.Syntax.{w64}
 use mir.ValLaws.{toZ-ofZ}
-use Rattle.question.specs.CallLaws.{prepared-ready}
-use Rattle.degree.specs.CallLaws.{degree-refused, degree-answered}
+use Rattle.question.specs.laws.Call.{prepared-ready}
+use Rattle.degree.specs.laws.Call.{degree-refused, degree-answered}
 use borrow.Author.Needs.{needs}
 use Rattle.degree.proofs.degree.Statement.{statement}
 use Rattle.degree.proofs.degree.Tie as tie

@@ -1,5 +1,5 @@
 -- By the distance.
-use Rattle.degree.specs.CallLaws.{grade-met, grade-short}
+use Rattle.degree.specs.laws.Call.{grade-met, grade-short}
 use borrow.Author.Needs.{needs}
 use Rattle.degree.proofs.grade.Statement.{statement}
 use Rattle.degree.proofs.grade.Tie as tie

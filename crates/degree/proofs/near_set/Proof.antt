@@ -1,7 +1,7 @@
 -- By the nearest member.
 use mathlib.Core.Path.{sym, _∙_}
 use Rattle.runset.specs.Set.{member}
-use Rattle.degree.specs.CallLaws.{near-at, near-nothing}
+use Rattle.degree.specs.laws.Call.{near-at, near-nothing}
 use borrow.Author.Needs.{needs}
 use Rattle.degree.proofs.near_set.Statement.{statement}
 use Rattle.degree.proofs.near_set.Tie as tie

@@ -1,12 +1,12 @@
 -- Refused by 12, or by the text.
-use Rattle.evaluation.specs.Evaluation.{textOf}
-use Rattle.meaning.specs.Coded.{coded}
-use Rattle.meaning.specs.Truth.{val}
+use Rattle.evaluation.specs.inner.Evaluation.{textOf}
+use Rattle.meaning.specs.inner.Coded.{coded}
+use Rattle.meaning.specs.inner.Truth.{val}
 use Rattle.question.specs.Question.{setLines}
 use Rattle.targets.specs.Target.{Placed}
-use Rattle.targets.specs.TargetLaws.{placed-handed}
+use Rattle.targets.specs.laws.Target.{placed-handed}
 use Rattle.targets.specs.declared.OnAxis.the-variants.{Index, Off}
-use Rattle.degree.specs.CallLaws.{target-off, target-on}
+use Rattle.degree.specs.laws.Call.{target-off, target-on}
 use borrow.Author.Needs.{needs}
 use Rattle.degree.proofs.near_target.Statement.{statement}
 use Rattle.degree.proofs.near_target.Tie as tie

@@ -1,6 +1,6 @@
 -- Refused by 9 or 8, or by the set.
-use Rattle.evaluation.specs.Evaluation.{textOf}
-use Rattle.degree.specs.CallLaws.{text-refused, text-near}
+use Rattle.evaluation.specs.inner.Evaluation.{textOf}
+use Rattle.degree.specs.laws.Call.{text-refused, text-near}
 use borrow.Author.Needs.{needs}
 use Rattle.degree.proofs.near_text.Statement.{statement}
 use Rattle.degree.proofs.near_text.Tie as tie

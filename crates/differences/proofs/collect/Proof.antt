@@ -8,8 +8,8 @@ use lib.ListN.{set, replicate}
 use borrow.Author.Tests.{lt-leb}
 use Rattle.number.specs.Axis.{axis}
 use Rattle.runset.specs.Runs.{mostRuns}
-use Rattle.differences.specs.Search.{Least, Follows, from, chosen}
-use Rattle.differences.specs.Cuts.{Collects}
+use Rattle.differences.specs.inner.Search.{Least, Follows, from, chosen}
+use Rattle.differences.specs.inner.Cuts.{Collects}
 use Rattle.differences.proofs.CutsLaws.{least-from, past-from, Gathered, gathered-none, gathered-room, gathered-run, run-grows, gathered-end, gathered-over}
 use borrow.Author.Needs.{needs}
 use Rattle.differences.proofs.collect.Statement.{statement}

@@ -1,8 +1,8 @@
 -- `gaps` meets its contract. A later time minus an earlier one is a difference over 0.
 use Prim.Native.Nat.{suc}
 use Rattle.number.specs.Axis.{origin}
-use Rattle.differences.specs.Search.{from}
-use Rattle.differences.specs.Times.{lagsOf, gapsOf}
+use Rattle.differences.specs.inner.Search.{from}
+use Rattle.differences.specs.inner.Times.{lagsOf, gapsOf}
 use Rattle.differences.proofs.CutsLaws.{collects-ext}
 use Rattle.differences.proofs.GapLaws.{gaps-are}
 use borrow.Author.Needs.{needs}

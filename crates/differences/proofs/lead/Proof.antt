@@ -5,7 +5,7 @@ use mathlib.Core.Path.{_≡_}
 use mathlib.Core.Bool.{true, false}
 use lib.ListN.{getD}
 use borrow.Author.Tests.{not-true, not-false}
-use Rattle.differences.specs.Search.{windowSize}
+use Rattle.differences.specs.inner.Search.{windowSize}
 use Rattle.differences.proofs.WindowLaws.{lead-more, lead-start}
 use borrow.Author.Needs.{needs}
 use Rattle.differences.proofs.lead.Statement.{statement}

@@ -1,7 +1,7 @@
 -- `least_of` meets its contract.
 use mathlib.Core.Path.{sym, subst}
 use mathlib.Core.Bool.{Bool}
-use Rattle.differences.specs.Search.{Least, chosen}
+use Rattle.differences.specs.inner.Search.{Least, chosen}
 use borrow.Author.Needs.{needs}
 use Rattle.differences.proofs.least_of.Statement.{statement}
 use Rattle.differences.proofs.least_of.Tie as tie

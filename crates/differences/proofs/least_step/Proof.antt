@@ -5,7 +5,7 @@ use mathlib.Core.Path.{_≡_, sym, ap, _∙_, subst}
 use mathlib.Core.List.{List}
 use lib.ListN.{length, getD}
 use Rattle.number.specs.Axis.{origin}
-use Rattle.differences.specs.Search.{Better}
+use Rattle.differences.specs.inner.Search.{Better}
 use Rattle.differences.proofs.StepLaws.{Walked, walked-start, walked-on, walked-end}
 use borrow.Author.Needs.{needs}
 use Rattle.differences.proofs.least_step.Statement.{statement}

@@ -6,9 +6,9 @@ use mathlib.Core.Bool.{true, false}
 use mathlib.Core.List.{List}
 use lib.ListN.{length, getD, set, replicate}
 use Rattle.runset.specs.Runs.{mostRuns}
-use Rattle.differences.specs.Times.{Times, momentsOf}
-use Rattle.differences.specs.Search.{Streak}
-use Rattle.differences.specs.Cuts.{Collects}
+use Rattle.differences.specs.inner.Times.{Times, momentsOf}
+use Rattle.differences.specs.inner.Search.{Streak}
+use Rattle.differences.specs.inner.Cuts.{Collects}
 use Rattle.differences.proofs.CutsLaws.{Gathered, gathered-none, gathered-room, gathered-run, gathered-end, gathered-over}
 use Rattle.differences.proofs.MomentLaws.{Parted, parted-start, parted-on, moment-least, moment-past, on-axis, nothing-left}
 use borrow.Author.Needs.{needs}

@@ -1,7 +1,7 @@
 -- `past` meets its contract. The invariant: all from x up to e are differences.
 use Prim.Native.Nat.{_-_}
 use Rattle.number.specs.Axis.{axis}
-use Rattle.differences.specs.Times.{lagsOf}
+use Rattle.differences.specs.inner.Times.{lagsOf}
 use Rattle.differences.proofs.SearchLaws.{Full, full-start, full-end}
 use Rattle.differences.proofs.WindowLaws.{window-all, window-end}
 use borrow.Author.Needs.{needs}

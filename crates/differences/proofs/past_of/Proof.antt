@@ -1,7 +1,7 @@
 -- `past_of` meets its contract.
 use mathlib.Core.Path.{sym, subst}
 use mathlib.Core.Bool.{Bool}
-use Rattle.differences.specs.Search.{Past, chosen}
+use Rattle.differences.specs.inner.Search.{Past, chosen}
 use borrow.Author.Needs.{needs}
 use Rattle.differences.proofs.past_of.Statement.{statement}
 use Rattle.differences.proofs.past_of.Tie as tie

@@ -3,7 +3,7 @@ use Prim.Native.Nat.{_-_}
 use native.Mathlib.Numerals.{add-one}
 use Rattle.number.specs.Axis.{axis}
 use Rattle.differences.proofs.SearchLaws.{Full, full-start, full-more, full-out, full-end}
-use Rattle.differences.specs.Times.{stepsOf}
+use Rattle.differences.specs.inner.Times.{stepsOf}
 use borrow.Author.Needs.{needs}
 use Rattle.differences.proofs.past_step.Statement.{statement}
 use Rattle.differences.proofs.past_step.Tie as tie

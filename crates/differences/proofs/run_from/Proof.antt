@@ -1,5 +1,5 @@
 -- `run_from` meets its contract. Where the next difference is not d + 1, the run is d alone.
-use Rattle.differences.specs.Search.{chosen}
+use Rattle.differences.specs.inner.Search.{chosen}
 use Rattle.differences.proofs.SearchLaws.{alone}
 use borrow.Author.Needs.{needs}
 use Rattle.differences.proofs.run_from.Statement.{statement}

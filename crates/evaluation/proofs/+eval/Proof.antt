@@ -5,8 +5,8 @@ use native.Mathlib.Omega.{arith}
 use borrow.Author.Needs.{needs}
 use borrow.Fn.Kinds.{In}
 use borrow.Fn.PlainCycle.{Measures, is, falls, and}
-use Rattle.evaluation.specs.SlotsLaws.{fills-fit}
-use Rattle.evaluation.specs.EvaluateLaws.{coded-length, line-asked, line-leaf, first-falls, first-small, first-fit, first-askable, first-over, line-first-lent, line-one-lent, line-one, kind-fits, second-falls, second-small, second-fit, second-askable, second-over, line-two-first, line-two-second, line-two-lent, line-two}
+use Rattle.evaluation.specs.laws.Slots.{fills-fit}
+use Rattle.evaluation.specs.laws.Evaluate.{coded-length, line-asked, line-leaf, first-falls, first-small, first-fit, first-askable, first-over, line-first-lent, line-one-lent, line-one, kind-fits, second-falls, second-small, second-fit, second-askable, second-over, line-two-first, line-two-second, line-two-lent, line-two}
 use Rattle.evaluation.proofs.eval.Reads as eval
 use Rattle.evaluation.proofs.eval.Kinds as eval-kinds
 use Rattle.evaluation.proofs.+eval.Lts-eval as eval-lts

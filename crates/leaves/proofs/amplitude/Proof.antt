@@ -4,10 +4,10 @@ use native.Mathlib.Omega.{arith}
 use Rattle.recording.specs.Reading.{Curve}
 use Rattle.grammar.specs.Syntax as asks
 use Rattle.grammar.specs.Syntax.{Text}
-use Rattle.meaning.specs.Truth.{val, truth}
-use Rattle.meaning.specs.Coded.{coded}
-use Rattle.leaves.specs.Span.{Spans}
-use Rattle.leaves.specs.LeafLaws.{by-kind}
+use Rattle.meaning.specs.inner.Truth.{val, truth}
+use Rattle.meaning.specs.inner.Coded.{coded}
+use Rattle.leaves.specs.inner.Span.{Spans}
+use Rattle.leaves.specs.laws.Leaf.{by-kind}
 use borrow.Author.Needs.{needs}
 use Rattle.leaves.proofs.amplitude.Statement.{statement}
 use Rattle.leaves.proofs.amplitude.Tie as tie

@@ -4,11 +4,11 @@ use Prim.Native.Nat.{ℕ}
 use mathlib.Core.Bool.{Bool}
 use mathlib.Core.List.{List}
 use Rattle.grammar.specs.declared.Row.{Row}
-use Rattle.meaning.specs.Truth.{val}
-use Rattle.meaning.specs.Coded.{coded}
-use Rattle.leaves.specs.Leaf.{leafOf}
-use Rattle.leaves.specs.SpanLaws.{spans-fill}
-use Rattle.leaves.specs.StampLaws.{cuts-there, cuts-lent, cuts-over, cuts-fill}
+use Rattle.meaning.specs.inner.Truth.{val}
+use Rattle.meaning.specs.inner.Coded.{coded}
+use Rattle.leaves.specs.inner.Leaf.{leafOf}
+use Rattle.leaves.specs.laws.Span.{spans-fill}
+use Rattle.leaves.specs.laws.Stamp.{cuts-there, cuts-lent, cuts-over, cuts-fill}
 use borrow.Author.Needs.{needs}
 use Rattle.leaves.proofs.leaf.Statement.{statement}
 use Rattle.leaves.proofs.leaf.Tie as tie

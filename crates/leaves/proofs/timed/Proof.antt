@@ -5,14 +5,14 @@ use lib.ListN.{length}
 use Rattle.recording.specs.Reading.{Curve}
 use Rattle.grammar.specs.Syntax as asks
 use Rattle.grammar.specs.Syntax.{Text}
-use Rattle.grammar.specs.Table.{curveOf}
-use Rattle.meaning.specs.Coded.{topTimes}
+use Rattle.grammar.specs.inner.Table.{curveOf}
+use Rattle.meaning.specs.inner.Coded.{topTimes}
 use Rattle.tops.specs.Tops.{mostTops}
-use Rattle.meaning.specs.Truth.{val, truth, refused9}
-use Rattle.meaning.specs.Coded.{coded}
+use Rattle.meaning.specs.inner.Truth.{val, truth, refused9}
+use Rattle.meaning.specs.inner.Coded.{coded}
 use mathlib.Core.Bool.{false}
-use Rattle.differences.specs.Cuts.{Collects}
-use Rattle.leaves.specs.LeafLaws.{by-kind, of-kind, few-gaps, few-steps, few-lag, past, just, under}
+use Rattle.differences.specs.inner.Cuts.{Collects}
+use Rattle.leaves.specs.laws.Leaf.{by-kind, of-kind, few-gaps, few-steps, few-lag, past, just, under}
 use borrow.Author.Needs.{needs}
 use Rattle.leaves.proofs.timed.Statement.{statement}
 use Rattle.leaves.proofs.timed.Tie as tie

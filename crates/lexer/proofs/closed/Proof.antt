@@ -2,7 +2,7 @@
 use mathlib.Core.Path.{sym, _∙_}
 use borrow.Author.Needs.{needs}
 use borrow.Author.Tests.{eq-eqb, ne-eqb}
-use Rattle.grammar.specs.Lexer.{byte}
+use Rattle.grammar.specs.inner.Lexer.{byte}
 use Rattle.lexer.proofs.closed.Statement.{statement}
 use Rattle.lexer.proofs.closed.Tie as tie
 

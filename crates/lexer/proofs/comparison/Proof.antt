@@ -1,7 +1,7 @@
 -- Each way out cites its law.
 use mathlib.Core.Path.{_∙_}
 use borrow.Author.Needs.{needs}
-use Rattle.grammar.specs.Lexer.{operandAt}
+use Rattle.grammar.specs.inner.Lexer.{operandAt}
 use Rattle.lexer.proofs.LeafLaws.{comparison-is, when-found, when-missing}
 use Rattle.lexer.proofs.WordLaws.{relation-within}
 use Rattle.lexer.proofs.comparison.Statement.{statement}

@@ -1,7 +1,7 @@
 -- Each way out cites its law.
 use mathlib.Core.Path.{_∙_}
 use borrow.Author.Needs.{needs}
-use Rattle.grammar.specs.Lexer.{headedAt}
+use Rattle.grammar.specs.inner.Lexer.{headedAt}
 use Rattle.lexer.proofs.LeafLaws.{leaf-is, when-found, when-missing}
 use Rattle.lexer.proofs.WordLaws.{head-within}
 use Rattle.lexer.proofs.leaf.Statement.{statement}

@@ -2,7 +2,7 @@
 use mathlib.Core.Path.{sym, _∙_}
 use native.Mathlib.Omega.{arith}
 use borrow.Author.Needs.{needs}
-use Rattle.grammar.specs.WordLaws.{inside}
+use Rattle.grammar.specs.laws.Word.{inside}
 use Rattle.lexer.proofs.LeafLaws.{timing, timed-is, timed-none, when-found, when-missing}
 use Rattle.lexer.proofs.NumberLaws.{number-within}
 use Rattle.lexer.proofs.timed.Statement.{statement}

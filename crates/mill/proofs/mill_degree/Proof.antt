@@ -8,7 +8,7 @@ use mir.ValLaws.{toZ-ofZ}
 use Rattle.refusal.specs.Numbers.{numberOf, placeOf}
 use Rattle.degree.specs.Degree.{nearnessOf, outcomeOf}
 use Rattle.degree.specs.declared.Nearness.{Nearness}
-use Rattle.mill.specs.BoundaryLaws.{degree-place, short-given, degrees-met, degrees-short, degrees-none, degrees-refusal}
+use Rattle.mill.specs.laws.Boundary.{degree-place, short-given, degrees-met, degrees-short, degrees-none, degrees-refusal}
 use borrow.Author.Needs.{needs}
 use Rattle.mill.proofs.mill_degree.Statement.{statement}
 use Rattle.mill.proofs.mill_degree.Tie as tie

@@ -14,7 +14,7 @@ use Rattle.pair.specs.declared.TopPair.{TopPair}
 use Rattle.pair.specs.declared.TopPair.the-variants as answer
 use Rattle.reply.specs.Reply.{half, packed}
 use Rattle.mill.specs.Boundary.{told, earlierAfter, laterAfter, Pairs}
-use Rattle.mill.specs.BoundaryLaws.{pair-place}
+use Rattle.mill.specs.laws.Boundary.{pair-place}
 use Rattle.mill.proofs.mill_pair.Statement.{statement}
 use Rattle.mill.proofs.mill_pair.Tie as tie
 

@@ -2,7 +2,7 @@
 use mathlib.Core.Path.{sym, _∙_}
 use native.Mathlib.Omega.{arith}
 use borrow.Author.Needs.{needs}
-use Rattle.number.specs.WordsLaws.{bits-whole}
+use Rattle.number.specs.laws.Words.{bits-whole}
 use Rattle.number.proofs.bits_at.Statement.{statement}
 use Rattle.number.proofs.bits_at.Tie as tie
 

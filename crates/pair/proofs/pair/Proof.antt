@@ -10,12 +10,12 @@ use mir.ValLaws.{toZ-ofZ}
 use Rattle.refusal.specs.Outcome.{judged}
 use Rattle.recording.specs.Output.{found}
 use Rattle.recording.specs.Recording.{recordingLines, readings, Accepted}
-use Rattle.recording.specs.OutcomeLaws.{result-none}
+use Rattle.recording.specs.laws.Outcome.{result-none}
 use Rattle.recording.specs.declared.Checked.{Checked}
 use Rattle.recording.specs.declared.Checked.the-variants as checked
 use Rattle.tops.specs.Tops.{curveOf}
 use Rattle.pair.specs.Pair.{firstPair, acceptedLines, outcomeOf, pairOf}
-use Rattle.pair.specs.PairLaws.{answer-pass, answer-refused}
+use Rattle.pair.specs.laws.Pair.{answer-pass, answer-refused}
 use Rattle.pair.proofs.pair.Statement.{statement}
 use Rattle.pair.proofs.pair.Tie as tie
 

@@ -7,10 +7,10 @@ use mathlib.Core.List.{List}
 use Prim.Native.Nat.{ℕ, _+_, _-_, _≤_, _<_}
 use native.Mathlib.Omega.{arith}
 use lib.ListN.{getD}
-use Rattle.number.specs.OrderLaws.{less-or-not, less-more-equal}
+use Rattle.number.specs.laws.Order.{less-or-not, less-more-equal}
 use Rattle.refusal.specs.Outcome.{result}
-use Rattle.pair.specs.Search.{Spaced}
-use Rattle.pair.specs.SearchLaws.{found-first, found-none}
+use Rattle.pair.specs.inner.Search.{Spaced}
+use Rattle.pair.specs.laws.Search.{found-first, found-none}
 use Rattle.pair.proofs.search.Statement.{statement}
 use Rattle.pair.proofs.search.Tie as tie
 

@@ -12,14 +12,14 @@ use Rattle.refusal.specs.Outcome.{result, judged, NoneMeets}
 use Rattle.refusal.specs.declared.Refusal.the-variants.{TooManyTops}
 use Rattle.recording.specs.Condition.{pick}
 use Rattle.recording.specs.Reading.{top}
-use Rattle.recording.specs.OutcomeLaws.{judged-none}
+use Rattle.recording.specs.laws.Outcome.{judged-none}
 use Rattle.recording.specs.Recording.{chunks, reading, readings, Accepted}
 use Rattle.tops.specs.Tops.{curveOf, topTimes, mostTops}
-use Rattle.tops.specs.Scan.{Scanned}
+use Rattle.tops.specs.inner.Scan.{Scanned}
 use Rattle.pair.specs.declared.TopPair.{TopPair}
 use Rattle.pair.specs.declared.TopPair.the-variants as answer
 use Rattle.pair.specs.Pair.{Given, pairsOf, firstApart, firstPair, tooManyTops, outcomeOf}
-use Rattle.pair.specs.PairLaws.{scanned-all, count-tops, none-for-low, whole-below, whole-above, answer-first}
+use Rattle.pair.specs.laws.Pair.{scanned-all, count-tops, none-for-low, whole-below, whole-above, answer-first}
 use Rattle.pair.proofs.tops_apart.Statement.{statement}
 use Rattle.pair.proofs.tops_apart.Tie as tie
 

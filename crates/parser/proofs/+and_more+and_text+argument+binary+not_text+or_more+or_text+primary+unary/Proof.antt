@@ -4,9 +4,9 @@ use Prim.Native.Nat.{ℕ, _<_, _+_, _-_, _*_}
 use native.Mathlib.Omega.{arith}
 use borrow.Author.Needs.{needs}
 use lib.ListN.{length}
-use Rattle.grammar.specs.Parse.{bars, ampersands}
-use Rattle.grammar.specs.WordLaws.{inside}
-use Rattle.parser.specs.RowsLaws.{ahead-of}
+use Rattle.grammar.specs.inner.Parse.{bars, ampersands}
+use Rattle.grammar.specs.laws.Word.{inside}
+use Rattle.parser.specs.laws.Rows.{ahead-of}
 use Rattle.parser.proofs.ReaderLaws.{room, chain-some, chain-none, more-some, more-none, more-stop, not-some, not-none, not-else, argument-some, argument-other, argument-none, unary-some, unary-none, binary-some, binary-half, binary-none, node-ends, opening-ends, open-unary, open-binary, prim-leaf, prim-round, prim-opened, prim-none}
 use borrow.Fn.Kinds.{In}
 use borrow.Fn.PlainCycle.{Measures, is, falls, and}

@@ -3,7 +3,7 @@ use mathlib.Core.Path.{ap}
 use lib.Ieee.{Float, binary64, div, ofBits}
 use native.Mathlib.Omega.{arith}
 use Rattle.ratio.specs.Degree.{one, degreeOf}
-use Rattle.ratio.specs.DegreeLaws.{sum-exact}
+use Rattle.ratio.specs.laws.Degree.{sum-exact}
 use Rattle.ratio.proofs.degree_of.Statement.{statement}
 use Rattle.ratio.proofs.degree_of.Tie as tie
 

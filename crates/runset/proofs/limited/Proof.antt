@@ -5,9 +5,9 @@ use native.Mathlib.Omega.{arith}
 use borrow.Author.Needs.{needs}
 use denote.Ref.{now}
 use lib.ListN.{take}
-use Rattle.runset.specs.Merge.{opOf, mergeCuts}
-use Rattle.runset.specs.MergeLaws.{merged-inside, merged-canonical}
-use Rattle.runset.specs.SetLaws.{makes-over, makes-set}
+use Rattle.runset.specs.inner.Merge.{opOf, mergeCuts}
+use Rattle.runset.specs.laws.Merge.{merged-inside, merged-canonical}
+use Rattle.runset.specs.laws.Set.{makes-over, makes-set}
 use Rattle.runset.specs.declared.merge.Op.{Op}
 use Rattle.runset.specs.declared.merge.Op.the-variants.{Or, And, Xor}
 use Rattle.runset.proofs.limited.Statement.{statement}

@@ -2,7 +2,7 @@
 use native.Mathlib.Omega.{arith}
 use borrow.Author.Needs.{needs}
 use denote.Ref.{now}
-use Rattle.runset.specs.SetLaws.{valid-count}
+use Rattle.runset.specs.laws.Set.{valid-count}
 use Rattle.runset_c.proofs.Delivery.{delivered-over, delivered-short, delivered-set}
 use Rattle.runset_c.proofs.deliver.Statement.{statement}
 use Rattle.runset_c.proofs.deliver.Tie as tie

@@ -3,7 +3,7 @@ use mathlib.Core.Path.{_≡_, sym, _∙_}
 use borrow.Author.Needs.{needs}
 use denote.Ref.{now}
 use Rattle.runset.specs.Set.{member, nearestOf}
-use Rattle.runset.specs.DistanceLaws.{at-distance, nothing-distance}
+use Rattle.runset.specs.laws.Distance.{at-distance, nothing-distance}
 use Rattle.runset.specs.declared.Nearest.the-variants.{At, Nothing}
 use Rattle.runset_c.proofs.Delivery.{distance-refused, distance-off, distance-said}
 use Rattle.runset_c.proofs.runset_distance.Statement.{statement}

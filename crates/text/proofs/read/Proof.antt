@@ -3,7 +3,7 @@ use native.Mathlib.Omega.{arith}
 use mathlib.Core.Path.{_≡_}
 use borrow.Author.Needs.{needs}
 use lib.ListN.{length}
-use Rattle.parser.specs.RowsLaws.{ahead-of}
+use Rattle.parser.specs.laws.Rows.{ahead-of}
 use Rattle.text.proofs.ToldLaws.{told-length, told-none, told-read, length-bad, length-over, length-good, read-part, read-nothing}
 use Rattle.text.proofs.read.Statement.{statement}
 use Rattle.text.proofs.read.Tie as tie

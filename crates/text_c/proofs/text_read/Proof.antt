@@ -7,12 +7,12 @@ use borrow.Author.Needs.{needs}
 use Rattle.refusal.specs.Outcome.{refused}
 use Rattle.refusal.specs.Numbers.{numberOf, placeOf}
 use Rattle.refusal.specs.declared.Refusal.{Refusal}
-use Rattle.grammar.specs.Parse.{reading}
+use Rattle.grammar.specs.inner.Parse.{reading}
 use Rattle.text.specs.Told.{textLines, nodesOf, outcomeOf, Told}
 use Rattle.text.specs.declared.Answer.{Answer}
 use Rattle.text.specs.declared.Answer.the-variants.{Nodes, Refused}
 use Rattle.reply.specs.Reply.{half, packed}
-use Rattle.reply.specs.PlaceLaws.{plain-place}
+use Rattle.reply.specs.laws.Place.{plain-place}
 use Rattle.text_c.specs.Reads.{nodesOrRefusal}
 use Rattle.text_c.proofs.text_read.Statement.{statement}
 use Rattle.text_c.proofs.text_read.Tie as tie

@@ -2,7 +2,7 @@
 use mathlib.Core.List.{[], _∷_}
 use borrow.Author.Needs.{needs}
 use Rattle.grammar.specs.Bytes.{bytes}
-use Rattle.grammar.specs.Lexer.{word, curves}
+use Rattle.grammar.specs.inner.Lexer.{word, curves}
 use Rattle.words.proofs.WordLaws.{in-first, in-rest}
 use Rattle.words.proofs.field.Statement.{statement}
 use Rattle.words.proofs.field.Tie as tie

@@ -3,7 +3,7 @@ use mathlib.Core.Path.{_≡_, refl}
 use Prim.Native.Nat.{_≤_, _+_, _-_}
 use borrow.Author.Needs.{needs}
 use lib.ListN.{length, drop}
-use Rattle.grammar.specs.Lexer.{spelledAt}
+use Rattle.grammar.specs.inner.Lexer.{spelledAt}
 use Rattle.words.proofs.WordLaws.{spelled-start, spelled-step, spelled-stop, spelled-end}
 use Rattle.words.proofs.spelled.Statement.{statement}
 use Rattle.words.proofs.spelled.Tie as tie

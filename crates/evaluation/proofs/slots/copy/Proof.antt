@@ -1,8 +1,8 @@
 use Prim.Native.Nat.{ℕ, _≤_, _-_}
 use mathlib.Core.Path.{_≡_, subst}
 use native.Mathlib.Omega.{arith}
-use Rattle.evaluation.specs.Slots.{Copied}
-use Rattle.evaluation.specs.SlotsLaws.{copied-none, copied-more}
+use Rattle.evaluation.specs.inner.Slots.{Copied}
+use Rattle.evaluation.specs.laws.Slots.{copied-none, copied-more}
 use borrow.Author.Needs.{needs}
 use Rattle.evaluation.proofs.slots.copy.Statement.{statement}
 use Rattle.evaluation.proofs.slots.copy.Tie as tie

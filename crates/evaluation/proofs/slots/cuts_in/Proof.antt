@@ -5,8 +5,8 @@ use mathlib.Core.List.{List}
 use native.Mathlib.Omega.{arith}
 use lib.ListN.{take, drop}
 use Rattle.runset.specs.Runs.{mostRuns}
-use Rattle.evaluation.specs.Slots.{width}
-use Rattle.evaluation.specs.SlotsLaws.{slot-full, slot-short}
+use Rattle.evaluation.specs.inner.Slots.{width}
+use Rattle.evaluation.specs.laws.Slots.{slot-full, slot-short}
 use borrow.Author.Needs.{needs}
 use Rattle.evaluation.proofs.slots.cuts_in.Statement.{statement}
 use Rattle.evaluation.proofs.slots.cuts_in.Tie as tie

@@ -3,8 +3,8 @@ use native.Mathlib.Omega.{arith}
 use Prim.Native.Nat.{_*_}
 use mathlib.Core.Path.{_∙_}
 use lib.ListN.{length-set}
-use Rattle.evaluation.specs.Slots.{width}
-use Rattle.evaluation.specs.SlotsLaws.{stored}
+use Rattle.evaluation.specs.inner.Slots.{width}
+use Rattle.evaluation.specs.laws.Slots.{stored}
 use borrow.Author.Needs.{needs}
 use Rattle.evaluation.proofs.slots.store.Statement.{statement}
 use Rattle.evaluation.proofs.slots.store.Tie as tie

@@ -1,9 +1,9 @@
 -- What is related to the field.
 use mathlib.Core.Path.{ap}
 use Prim.Native.Nat.{ℕ}
-use Rattle.grammar.specs.Table.{relationOf}
-use Rattle.meaning.specs.Truth.{relate}
-use Rattle.leaves.specs.SpanLaws.{spans-ext}
+use Rattle.grammar.specs.inner.Table.{relationOf}
+use Rattle.meaning.specs.inner.Truth.{relate}
+use Rattle.leaves.specs.laws.Span.{spans-ext}
 use Rattle.leaves.proofs.atoms.against_v.Statement.{statement}
 use Rattle.leaves.proofs.atoms.against_v.Tie as tie
 

@@ -3,13 +3,13 @@ use mathlib.Core.Path.{sym, ap}
 use native.Mathlib.Omega.{arith}
 use Prim.Native.Nat.{ℕ, _+_}
 use Rattle.grammar.specs.Syntax.{Relation}
-use Rattle.grammar.specs.Table.{relationOf}
-use Rattle.meaning.specs.Truth.{relate}
-use Rattle.leaves.specs.CodeLaws.{relation-else}
+use Rattle.grammar.specs.inner.Table.{relationOf}
+use Rattle.meaning.specs.inner.Truth.{relate}
+use Rattle.leaves.specs.laws.Code.{relation-else}
 use Rattle.leaves.specs.declared.span.Span.{Span}
 use lib.Dec.{leb, ltb}
-use Rattle.leaves.specs.Span.{Spans}
-use Rattle.leaves.specs.SpanLaws.{spans-ext, spans-point, above-from}
+use Rattle.leaves.specs.inner.Span.{Spans}
+use Rattle.leaves.specs.laws.Span.{spans-ext, spans-point, above-from}
 use borrow.Author.Needs.{needs}
 use Rattle.leaves.proofs.atoms.related.Statement.{statement}
 use Rattle.leaves.proofs.atoms.related.Tie as tie

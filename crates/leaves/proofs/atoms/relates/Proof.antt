@@ -2,9 +2,9 @@
 use mathlib.Core.Path.{sym, ap}
 use native.Mathlib.Omega.{arith}
 use Rattle.grammar.specs.Syntax.{Relation}
-use Rattle.grammar.specs.Table.{relationOf}
-use Rattle.meaning.specs.Truth.{relate}
-use Rattle.leaves.specs.CodeLaws.{relation-else}
+use Rattle.grammar.specs.inner.Table.{relationOf}
+use Rattle.meaning.specs.inner.Truth.{relate}
+use Rattle.leaves.specs.laws.Code.{relation-else}
 use Rattle.leaves.proofs.atoms.relates.Statement.{statement}
 use Rattle.leaves.proofs.atoms.relates.Tie as tie
 

@@ -1,12 +1,12 @@
 -- One test for all numbers.
 use mathlib.Core.Path.{ap, _∙_}
 use Prim.Native.Nat.{ℕ}
-use Rattle.meaning.specs.Truth.{codedAt}
-use Rattle.meaning.specs.Coded.{coded}
-use Rattle.leaves.specs.SpanLaws.{spans-ext}
+use Rattle.meaning.specs.inner.Truth.{codedAt}
+use Rattle.meaning.specs.inner.Coded.{coded}
+use Rattle.leaves.specs.laws.Span.{spans-ext}
 use lib.Dec.{eqb}
 use Rattle.recording.specs.Reading.{Curve}
-use Rattle.meaning.specs.Coded.{codedSlope}
+use Rattle.meaning.specs.inner.Coded.{codedSlope}
 use borrow.Author.Needs.{needs}
 use Rattle.leaves.proofs.atoms.sloped.Statement.{statement}
 use Rattle.leaves.proofs.atoms.sloped.Tie as tie

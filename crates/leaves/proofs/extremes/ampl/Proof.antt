@@ -5,9 +5,9 @@ use native.Mathlib.Omega.{arith}
 use lib.ListN.{length-map}
 use Rattle.recording.specs.Recording.{readings}
 use Rattle.tops.specs.Tops.{curveOf}
-use Rattle.meaning.specs.Coded.{code}
-use Rattle.meaning.specs.Coded.{coded}
-use Rattle.leaves.specs.SpanLaws.{spans-ext}
+use Rattle.meaning.specs.inner.Coded.{code}
+use Rattle.meaning.specs.inner.Coded.{coded}
+use Rattle.leaves.specs.laws.Span.{spans-ext}
 use lib.ListN.{length, getD}
 use lib.Dec.{leb}
 use mathlib.Core.Bool.{true, false}
@@ -15,11 +15,11 @@ use Rattle.number.specs.Axis.{origin}
 use Rattle.grammar.specs.Syntax as asks
 use Rattle.recording.specs.Recording.{Accepted}
 use mathlib.Core.List.{List}
-use Rattle.meaning.specs.Truth.{truth}
-use Rattle.meaning.specs.Coded.{Coded, blank, codedValue}
-use Rattle.leaves.specs.Extreme.{Extreme}
-use Rattle.leaves.specs.CodingLaws.{at-index, ValueIndex, value-range}
-use Rattle.leaves.specs.ExtremeLaws.{spread-order, spread-small, ampl-upto}
+use Rattle.meaning.specs.inner.Truth.{truth}
+use Rattle.meaning.specs.inner.Coded.{Coded, blank, codedValue}
+use Rattle.leaves.specs.inner.Extreme.{Extreme}
+use Rattle.leaves.specs.laws.Coding.{at-index, ValueIndex, value-range}
+use Rattle.leaves.specs.laws.Extreme.{spread-order, spread-small, ampl-upto}
 use Rattle.leaves.proofs.extremes.ampl.Statement.{statement}
 use Rattle.leaves.proofs.extremes.ampl.Tie as tie
 

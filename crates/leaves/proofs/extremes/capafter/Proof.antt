@@ -1,8 +1,8 @@
 -- From the greatest on; all where there is no record.
 use Rattle.tops.specs.Tops.{curveOf}
-use Rattle.meaning.specs.Coded.{coded}
-use Rattle.leaves.specs.SpanLaws.{spans-ext}
-use Rattle.leaves.specs.ExtremeLaws.{capafter-from}
+use Rattle.meaning.specs.inner.Coded.{coded}
+use Rattle.leaves.specs.laws.Span.{spans-ext}
+use Rattle.leaves.specs.laws.Extreme.{capafter-from}
 use borrow.Author.Needs.{needs}
 use Rattle.leaves.proofs.extremes.capafter.Statement.{statement}
 use Rattle.leaves.proofs.extremes.capafter.Tie as tie

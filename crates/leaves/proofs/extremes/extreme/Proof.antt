@@ -4,10 +4,10 @@ use Prim.Native.Nat.{_-_, _≤_, _<_}
 use native.Mathlib.Omega.{arith}
 use lib.ListN.{length, take}
 use Rattle.tops.specs.Tops.{curveOf}
-use Rattle.meaning.specs.Coded.{coded}
-use Rattle.leaves.specs.CodingLaws.{length-coded}
-use Rattle.leaves.specs.Extreme.{Extreme}
-use Rattle.leaves.specs.ExtremeLaws.{extreme-start, extreme-turn, extreme-end}
+use Rattle.meaning.specs.inner.Coded.{coded}
+use Rattle.leaves.specs.laws.Coding.{length-coded}
+use Rattle.leaves.specs.inner.Extreme.{Extreme}
+use Rattle.leaves.specs.laws.Extreme.{extreme-start, extreme-turn, extreme-end}
 use borrow.Author.Needs.{needs}
 use Rattle.leaves.proofs.extremes.extreme.Statement.{statement}
 use Rattle.leaves.proofs.extremes.extreme.Tie as tie

@@ -2,7 +2,7 @@
 use mathlib.Core.Path.{_≡_, sym, ap, _∙_}
 use native.Mathlib.Omega.{arith}
 use mathlib.Core.Bool.{Bool, true, false}
-use Rattle.leaves.specs.Extreme.{farther}
+use Rattle.leaves.specs.inner.Extreme.{farther}
 use Rattle.leaves.proofs.extremes.farther.Statement.{statement}
 use Rattle.leaves.proofs.extremes.farther.Tie as tie
 

@@ -4,9 +4,9 @@ use native.Mathlib.Omega.{arith}
 use lib.ListN.{length-map}
 use Rattle.recording.specs.Recording.{readings}
 use Rattle.tops.specs.Tops.{curveOf}
-use Rattle.meaning.specs.Coded.{code}
-use Rattle.leaves.specs.SpanLaws.{spans-ext}
-use Rattle.leaves.specs.ExtremeLaws.{high-upto}
+use Rattle.meaning.specs.inner.Coded.{code}
+use Rattle.leaves.specs.laws.Span.{spans-ext}
+use Rattle.leaves.specs.laws.Extreme.{high-upto}
 use Rattle.leaves.proofs.extremes.high.Statement.{statement}
 use Rattle.leaves.proofs.extremes.high.Tie as tie
 

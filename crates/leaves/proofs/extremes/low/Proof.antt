@@ -3,9 +3,9 @@ use native.Mathlib.Omega.{arith}
 use lib.ListN.{length-map}
 use Rattle.recording.specs.Recording.{readings}
 use Rattle.tops.specs.Tops.{curveOf}
-use Rattle.meaning.specs.Coded.{code}
-use Rattle.leaves.specs.SpanLaws.{spans-ext}
-use Rattle.leaves.specs.ExtremeLaws.{low-from}
+use Rattle.meaning.specs.inner.Coded.{code}
+use Rattle.leaves.specs.laws.Span.{spans-ext}
+use Rattle.leaves.specs.laws.Extreme.{low-from}
 use borrow.Author.Needs.{needs}
 use Rattle.leaves.proofs.extremes.low.Statement.{statement}
 use Rattle.leaves.proofs.extremes.low.Tie as tie

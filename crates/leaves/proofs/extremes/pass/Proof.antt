@@ -3,11 +3,11 @@ use mathlib.Core.Path.{ap, _∙_, subst}
 use Prim.Native.Nat.{ℕ, _<_}
 use native.Mathlib.Omega.{arith}
 use Rattle.number.specs.Axis.{axis}
-use Rattle.meaning.specs.Truth.{codedAt}
+use Rattle.meaning.specs.inner.Truth.{codedAt}
 use Rattle.tops.specs.Tops.{curveOf}
-use Rattle.meaning.specs.Coded.{coded}
-use Rattle.leaves.specs.Extreme.{farther}
-use Rattle.leaves.specs.ExtremeLaws.{pass-over, pass-by}
+use Rattle.meaning.specs.inner.Coded.{coded}
+use Rattle.leaves.specs.inner.Extreme.{farther}
+use Rattle.leaves.specs.laws.Extreme.{pass-over, pass-by}
 use borrow.Author.Needs.{needs}
 use Rattle.leaves.proofs.extremes.pass.Statement.{statement}
 use Rattle.leaves.proofs.extremes.pass.Tie as tie

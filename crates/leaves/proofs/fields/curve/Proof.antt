@@ -1,8 +1,8 @@
 -- By the code.
 use mathlib.Core.Path.{sym, ap}
 use native.Mathlib.Omega.{arith}
-use Rattle.grammar.specs.Table.{curveOf}
-use Rattle.leaves.specs.CodeLaws.{curve-else}
+use Rattle.grammar.specs.inner.Table.{curveOf}
+use Rattle.leaves.specs.laws.Code.{curve-else}
 use Rattle.leaves.proofs.fields.curve.Statement.{statement}
 use Rattle.leaves.proofs.fields.curve.Tie as tie
 

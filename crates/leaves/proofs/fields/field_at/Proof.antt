@@ -2,10 +2,10 @@
 use mathlib.Core.Path.{sym, ap, _∙_}
 use native.Mathlib.Omega.{arith}
 use Rattle.grammar.specs.Syntax.{Field}
-use Rattle.grammar.specs.Table.{fieldOf}
-use Rattle.meaning.specs.Truth.{codedAt, codedField}
-use Rattle.meaning.specs.Coded.{coded}
-use Rattle.leaves.specs.CodeLaws.{field-else}
+use Rattle.grammar.specs.inner.Table.{fieldOf}
+use Rattle.meaning.specs.inner.Truth.{codedAt, codedField}
+use Rattle.meaning.specs.inner.Coded.{coded}
+use Rattle.leaves.specs.laws.Code.{field-else}
 use Rattle.leaves.proofs.fields.field_at.Statement.{statement}
 use Rattle.leaves.proofs.fields.field_at.Tie as tie
 

@@ -1,6 +1,6 @@
 -- The byte read is the slope.
 use mathlib.Core.Path.{_∙_}
-use Rattle.leaves.specs.CodingLaws.{record-inside, slope-field}
+use Rattle.leaves.specs.laws.Coding.{record-inside, slope-field}
 use native.Mathlib.Omega.{arith}
 use borrow.Author.Needs.{needs}
 use Rattle.leaves.proofs.fields.slope_at.Statement.{statement}

@@ -3,7 +3,7 @@ use mathlib.Core.Path.{ap, _∙_}
 use native.Mathlib.Omega.{arith}
 use Prim.Native.Nat.{ℕ, _+_}
 use Rattle.number.specs.Axis.{origin}
-use Rattle.leaves.specs.CodingLaws.{record-inside, time-field, time-most}
+use Rattle.leaves.specs.laws.Coding.{record-inside, time-field, time-most}
 use Rattle.leaves.proofs.fields.time_at.Statement.{statement}
 use Rattle.leaves.proofs.fields.time_at.Tie as tie
 

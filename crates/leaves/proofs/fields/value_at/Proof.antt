@@ -3,7 +3,7 @@ use mathlib.Core.Path.{ap, _∙_}
 use native.Mathlib.Omega.{arith}
 use Prim.Native.Nat.{ℕ, _+_, _%_}
 use Rattle.number.specs.Axis.{origin}
-use Rattle.leaves.specs.CodingLaws.{record-inside, value-field, value-range}
+use Rattle.leaves.specs.laws.Coding.{record-inside, value-field, value-range}
 use borrow.Author.Needs.{needs}
 use Rattle.leaves.proofs.fields.value_at.Statement.{statement}
 use Rattle.leaves.proofs.fields.value_at.Tie as tie

@@ -1,6 +1,6 @@
 -- The condition is the same for every number.
 use mathlib.Core.Path.{sym}
-use Rattle.leaves.specs.SpanLaws.{spans-ext, spans-all, spans-none}
+use Rattle.leaves.specs.laws.Span.{spans-ext, spans-all, spans-none}
 use Rattle.leaves.proofs.span.all_if.Statement.{statement}
 use Rattle.leaves.proofs.span.all_if.Tie as tie
 

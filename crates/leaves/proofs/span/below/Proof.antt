@@ -2,7 +2,7 @@
 use mathlib.Core.Path.{sym, ap}
 use lib.Dec.{ltb}
 use native.Mathlib.Omega.{arith}
-use Rattle.leaves.specs.SpanLaws.{spans-ext, spans-low, spans-below}
+use Rattle.leaves.specs.laws.Span.{spans-ext, spans-low, spans-below}
 use borrow.Author.Needs.{needs}
 use Rattle.leaves.proofs.span.below.Statement.{statement}
 use Rattle.leaves.proofs.span.below.Tie as tie

@@ -1,5 +1,5 @@
 -- The span is the ray itself.
-use Rattle.leaves.specs.SpanLaws.{spans-from}
+use Rattle.leaves.specs.laws.Span.{spans-from}
 use Rattle.leaves.proofs.span.from.Statement.{statement}
 use Rattle.leaves.proofs.span.from.Tie as tie
 

@@ -1,5 +1,5 @@
 -- The span is the ray itself.
-use Rattle.leaves.specs.SpanLaws.{spans-upto}
+use Rattle.leaves.specs.laws.Span.{spans-upto}
 use Rattle.leaves.proofs.span.upto.Statement.{statement}
 use Rattle.leaves.proofs.span.upto.Tie as tie
 

@@ -3,10 +3,10 @@ use mathlib.Core.Path.{refl, sym, subst}
 use Prim.Native.Nat.{ℕ}
 use mathlib.Core.List.{List}
 use lib.Seq.{length-take-le}
-use Rattle.meaning.specs.Truth.{truth}
-use Rattle.differences.specs.Cuts.{Collects}
-use Rattle.differences.specs.Times.{Times, momentsOf}
-use Rattle.leaves.specs.StampLaws.{crossing-times, crossings-few}
+use Rattle.meaning.specs.inner.Truth.{truth}
+use Rattle.differences.specs.inner.Cuts.{Collects}
+use Rattle.differences.specs.inner.Times.{Times, momentsOf}
+use Rattle.leaves.specs.laws.Stamp.{crossing-times, crossings-few}
 use Rattle.leaves.proofs.times.cross.Statement.{statement}
 use Rattle.leaves.proofs.times.cross.Tie as tie
 

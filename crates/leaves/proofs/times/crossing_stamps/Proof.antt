@@ -3,9 +3,9 @@ use mathlib.Core.Path.{_∙_}
 use native.Mathlib.Omega.{arith}
 use Rattle.recording.specs.Recording.{readings}
 use Rattle.tops.specs.Tops as raw
-use Rattle.meaning.specs.Coded.{crossingTimes}
-use Rattle.meaning.specs.Coded.{coded}
-use Rattle.leaves.specs.StampLaws.{scan-long, scan-there, scan-early, scan-stamps, crossing-stamps, crossing-times}
+use Rattle.meaning.specs.inner.Coded.{crossingTimes}
+use Rattle.meaning.specs.inner.Coded.{coded}
+use Rattle.leaves.specs.laws.Stamp.{scan-long, scan-there, scan-early, scan-stamps, crossing-stamps, crossing-times}
 use Rattle.leaves.proofs.times.crossing_stamps.Statement.{statement}
 use Rattle.leaves.proofs.times.crossing_stamps.Tie as tie
 

@@ -4,10 +4,10 @@ use Prim.Native.Nat.{ℕ}
 use mathlib.Core.List.{List}
 use lib.Seq.{length-take-le}
 use Rattle.tops.specs.Tops.{curveOf}
-use Rattle.meaning.specs.Truth.{truth}
-use Rattle.differences.specs.Cuts.{Collects}
-use Rattle.differences.specs.Times.{Times, momentsOf}
-use Rattle.leaves.specs.StampLaws.{top-times, tops-few}
+use Rattle.meaning.specs.inner.Truth.{truth}
+use Rattle.differences.specs.inner.Cuts.{Collects}
+use Rattle.differences.specs.inner.Times.{Times, momentsOf}
+use Rattle.leaves.specs.laws.Stamp.{top-times, tops-few}
 use Rattle.leaves.proofs.times.peaks.Statement.{statement}
 use Rattle.leaves.proofs.times.peaks.Tie as tie
 

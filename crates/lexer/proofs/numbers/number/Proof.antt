@@ -2,7 +2,7 @@
 use mathlib.Core.Path.{sym, _∙_}
 use native.Mathlib.Omega.{arith}
 use borrow.Author.Needs.{needs}
-use Rattle.grammar.specs.WordLaws.{inside}
+use Rattle.grammar.specs.laws.Word.{inside}
 use Rattle.lexer.proofs.NumberLaws.{unsigned-low, minus-some, minus-zero, minus-none, plain-some, plain-none}
 use Rattle.lexer.proofs.numbers.number.Statement.{statement}
 use Rattle.lexer.proofs.numbers.number.Tie as tie

@@ -1,9 +1,9 @@
 -- The call tells its outcome, and the page is that of the outcome.
 use Prim.Native.Nat.{ℕ}
 use Rattle.page.specs.Page.{page}
-use Rattle.page.specs.PageLaws.{set-fits}
+use Rattle.page.specs.laws.Page.{set-fits}
 use Rattle.page.specs.Printed.{setRoom, printed}
-use Rattle.page.specs.PrintedLaws.{told-refusal, told-set, told-within, puts-prints, prints-within}
+use Rattle.page.specs.laws.Printed.{told-refusal, told-set, told-within, puts-prints, prints-within}
 use Rattle.question.specs.Question.{questionOf}
 use borrow.Author.Needs.{needs}
 use lib.ListN.{take}

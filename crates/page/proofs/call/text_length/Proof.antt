@@ -1,6 +1,6 @@
 -- By the last byte.
 use Prim.Native.Nat.{_-_}
-use Rattle.page.specs.TypedLaws.{nothing-typed, line-typed, plain-typed}
+use Rattle.page.specs.laws.Typed.{nothing-typed, line-typed, plain-typed}
 use borrow.Author.Needs.{needs}
 use lib.ListN.{length}
 use lib.Seq.{length-take-le}

@@ -1,6 +1,6 @@
 -- Past the limit only the length is kept.
 use Prim.Native.Nat.{_-_}
-use Rattle.page.specs.IntakeLaws.{intake-over, stands-within, puts-behind}
+use Rattle.page.specs.laws.Intake.{intake-over, stands-within, puts-behind}
 use borrow.Author.Needs.{needs}
 use lib.ListN.{length}
 use lib.Seq.{length-take-le}

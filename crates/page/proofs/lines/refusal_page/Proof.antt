@@ -1,9 +1,9 @@
 -- The parts in turn.
 use Prim.Native.Nat.{ℕ}
-use Rattle.page.specs.DecimalLaws.{decimal-fits}
+use Rattle.page.specs.laws.Decimal.{decimal-fits}
 use Rattle.page.specs.Page.{page}
-use Rattle.page.specs.PageLaws.{refusal-length}
-use Rattle.page.specs.PutsLaws.{puts-five, puts-same}
+use Rattle.page.specs.laws.Page.{refusal-length}
+use Rattle.page.specs.laws.Puts.{puts-five, puts-same}
 use Rattle.refusal.specs.Outcome.{refused}
 use borrow.Author.Needs.{needs}
 use mathlib.Core.Path.{ap₂}

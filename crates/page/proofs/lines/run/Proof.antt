@@ -1,8 +1,8 @@
 -- The parts in turn.
 use Rattle.number.specs.Words.{signed}
 use Rattle.page.specs.Page.{runLine}
-use Rattle.page.specs.PageLaws.{runLine-length}
-use Rattle.page.specs.PutsLaws.{puts-four}
+use Rattle.page.specs.laws.Page.{runLine-length}
+use Rattle.page.specs.laws.Puts.{puts-four}
 use borrow.Author.Needs.{needs}
 use native.Mathlib.Omega.{arith}
 use Rattle.page.proofs.lines.run.Statement.{statement}

@@ -2,9 +2,9 @@
 use Prim.Native.Nat.{ℕ, _-_, _≤_}
 use Rattle.number.specs.Words.{signed}
 use Rattle.page.specs.Page.{runLine, runLines}
-use Rattle.page.specs.PageLaws.{runs-none, runs-next, run-within}
-use Rattle.page.specs.Puts.{Puts}
-use Rattle.page.specs.PutsLaws.{puts-same}
+use Rattle.page.specs.laws.Page.{runs-none, runs-next, run-within}
+use Rattle.page.specs.inner.Puts.{Puts}
+use Rattle.page.specs.laws.Puts.{puts-same}
 use borrow.Author.Needs.{needs}
 use lib.ListN.{length}
 use mathlib.Core.Path.{_≡_, _∙_, ap, ap₂}

@@ -1,7 +1,7 @@
 -- The parts in turn.
 use Rattle.page.specs.Page.{page}
-use Rattle.page.specs.PageLaws.{set-length}
-use Rattle.page.specs.PutsLaws.{puts-four}
+use Rattle.page.specs.laws.Page.{set-length}
+use Rattle.page.specs.laws.Puts.{puts-four}
 use borrow.Author.Needs.{needs}
 use native.Mathlib.Omega.{arith}
 use Rattle.page.proofs.lines.set_page.Statement.{statement}

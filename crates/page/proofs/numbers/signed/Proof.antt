@@ -1,8 +1,8 @@
 -- By the sign.
 use Prim.Native.Nat.{_-_}
 use Rattle.page.specs.Decimal.{decimal}
-use Rattle.page.specs.DecimalLaws.{middle, signed-below, signed-above}
-use Rattle.page.specs.PutsLaws.{puts-same, puts-then}
+use Rattle.page.specs.laws.Decimal.{middle, signed-below, signed-above}
+use Rattle.page.specs.laws.Puts.{puts-same, puts-then}
 use borrow.Author.Needs.{needs}
 use lib.ListN.{length}
 use mathlib.Core.List.{[], _∷_}

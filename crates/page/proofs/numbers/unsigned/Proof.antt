@@ -1,6 +1,6 @@
 -- The digits are those that `io::decimal` gives, the fewest.
-use Rattle.page.specs.DecimalLaws.{decimal-is}
-use Rattle.page.specs.PutsLaws.{puts-same}
+use Rattle.page.specs.laws.Decimal.{decimal-is}
+use Rattle.page.specs.laws.Puts.{puts-same}
 use borrow.Author.Needs.{needs}
 use lib.ListN.{length}
 use mathlib.Core.Path.{ap, _∙_}

@@ -1,5 +1,5 @@
 -- One byte is stored.
-use Rattle.page.specs.PutsLaws.{puts-byte}
+use Rattle.page.specs.laws.Puts.{puts-byte}
 use borrow.Author.Needs.{needs}
 use Rattle.page.proofs.put.byte.Statement.{statement}
 use Rattle.page.proofs.put.byte.Tie as tie

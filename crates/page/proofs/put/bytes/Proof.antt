@@ -1,6 +1,6 @@
 -- The invariant: the first i bytes are put.
 use Prim.Native.Nat.{ℕ, _+_, _-_, _≤_}
-use Rattle.page.specs.PutsLaws.{puts-all}
+use Rattle.page.specs.laws.Puts.{puts-all}
 use borrow.Author.Needs.{needs}
 use lib.ListN.{length, set, getD}
 use lib.Seq.{paste, paste-zero, paste-suc}

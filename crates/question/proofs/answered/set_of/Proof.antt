@@ -2,8 +2,8 @@
 use mathlib.Core.Path.{refl, sym, _∙_}
 use native.Mathlib.Omega.{arith}
 use lib.Seq.{length-take-le}
-use Rattle.evaluation.specs.Evaluation.{textOf}
-use Rattle.question.specs.AnsweredLaws.{gives-nine, gives-eight, gives-set, asking, made-set}
+use Rattle.evaluation.specs.inner.Evaluation.{textOf}
+use Rattle.question.specs.laws.Answered.{gives-nine, gives-eight, gives-set, asking, made-set}
 use borrow.Author.Needs.{needs}
 use Rattle.question.proofs.answered.set_of.Statement.{statement}
 use Rattle.question.proofs.answered.set_of.Tie as tie

@@ -1,6 +1,6 @@
 -- Refused by 9 or 8, or the set is written.
-use Rattle.evaluation.specs.Evaluation.{textOf}
-use Rattle.question.specs.CallLaws.{answer-refused, answer-fine}
+use Rattle.evaluation.specs.inner.Evaluation.{textOf}
+use Rattle.question.specs.laws.Call.{answer-refused, answer-fine}
 use borrow.Author.Needs.{needs}
 use Rattle.question.proofs.call.answer.Statement.{statement}
 use Rattle.question.proofs.call.answer.Tie as tie

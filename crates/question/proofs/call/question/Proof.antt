@@ -1,6 +1,6 @@
 -- Refused by 1 to 7, or answered.
 use native.Mathlib.Omega.{arith}
-use Rattle.question.specs.CallLaws.{question-refused, prepared-ready, question-answered}
+use Rattle.question.specs.laws.Call.{question-refused, prepared-ready, question-answered}
 use borrow.Author.Needs.{needs}
 use Rattle.question.proofs.call.question.Statement.{statement}
 use Rattle.question.proofs.call.question.Tie as tie

@@ -5,7 +5,7 @@ use native.Mathlib.Omega.{arith}
 use borrow.Author.Needs.{needs}
 use borrow.Fn.Kinds.{In}
 use borrow.Fn.PlainCycle.{Measures, is, falls, and}
-use Rattle.question.specs.LimitLaws as laws
+use Rattle.question.specs.laws.Limit as laws
 use Rattle.question.proofs.limits.asks.Reads as asks
 use Rattle.question.proofs.limits.asks.Kinds as asks-kinds
 use Rattle.question.proofs.limits.+asks.Lts-asks as asks-lts

@@ -1,9 +1,9 @@
 -- Every code but 1 is A.
 use mathlib.Core.Path.{refl}
 use native.Mathlib.Omega.{arith}
-use Rattle.question.specs.LimitLaws.{curve-other}
+use Rattle.question.specs.laws.Limit.{curve-other}
 use mathlib.Core.Path.{ap, sym, _∙_}
-use Rattle.grammar.specs.Table.{curveOf}
+use Rattle.grammar.specs.inner.Table.{curveOf}
 use Rattle.question.proofs.limits.curve.Statement.{statement}
 use Rattle.question.proofs.limits.curve.Tie as tie
 

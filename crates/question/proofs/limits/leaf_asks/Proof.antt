@@ -3,9 +3,9 @@ use mathlib.Core.Path.{ap, sym, _∙_}
 use mathlib.Core.Bool.{Bool, _||_}
 use native.Mathlib.Omega.{arith}
 use Rattle.recording.specs.Reading.{Curve, B}
-use Rattle.meaning.specs.Coded.{coded}
-use Rattle.meaning.specs.Truth.{manyTops}
-use Rattle.question.specs.LimitLaws.{leaf-none, leaf-one, leaf-both}
+use Rattle.meaning.specs.inner.Coded.{coded}
+use Rattle.meaning.specs.inner.Truth.{manyTops}
+use Rattle.question.specs.laws.Limit.{leaf-none, leaf-one, leaf-both}
 use borrow.Author.Needs.{needs}
 use Rattle.question.proofs.limits.leaf_asks.Statement.{statement}
 use Rattle.question.proofs.limits.leaf_asks.Tie as tie

@@ -1,5 +1,5 @@
 -- Each answer is the first refusal that meets, or the table of the text.
-use Rattle.question.specs.PrepareLaws.{prepare-empty, prepare-refused, prepare-unread, prepare-read}
+use Rattle.question.specs.laws.Prepare.{prepare-empty, prepare-refused, prepare-unread, prepare-read}
 use borrow.Author.Needs.{needs}
 use Rattle.question.proofs.prepare.prepare.Statement.{statement}
 use Rattle.question.proofs.prepare.prepare.Tie as tie

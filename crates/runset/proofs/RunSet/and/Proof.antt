@@ -1,7 +1,7 @@
 -- The operation on the members, by the walk along the cuts.
 use borrow.Author.Needs.{needs}
 use Rattle.runset.specs.Set.{member}
-use Rattle.runset.specs.SetLaws.{valid-operand}
+use Rattle.runset.specs.laws.Set.{valid-operand}
 use Rattle.runset.proofs.RunSet.and.Statement.{statement}
 use Rattle.runset.proofs.RunSet.and.Tie as tie
 

@@ -4,8 +4,8 @@ use mathlib.Core.Path.{_≡_, refl, ap, _∙_}
 use native.Mathlib.Omega.{arith}
 use lib.ListN.{length, drop, getD}
 use Rattle.runset.specs.Set.{cutsOf, member}
-use Rattle.runset.specs.Gap.{gapTo, nearerOf}
-use Rattle.runset.specs.SetLaws.{valid-cuts}
+use Rattle.runset.specs.inner.Gap.{gapTo, nearerOf}
+use Rattle.runset.specs.laws.Set.{valid-cuts}
 use Rattle.runset.proofs.Nearness.{Reaches, two-ascend, next-reach, first-reach, nearest-at, nearest-nothing}
 use borrow.Author.Needs.{needs}
 use Rattle.runset.proofs.RunSet.distance.Statement.{statement}

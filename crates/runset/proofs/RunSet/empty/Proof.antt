@@ -1,6 +1,6 @@
 -- No cut, and zeros behind.
 use mathlib.Core.Path.{refl}
-use Rattle.runset.specs.SetLaws.{empty-represents}
+use Rattle.runset.specs.laws.Set.{empty-represents}
 use Rattle.runset.proofs.RunSet.empty.Statement.{statement}
 use Rattle.runset.proofs.RunSet.empty.Tie as tie
 

@@ -5,8 +5,8 @@ use mathlib.Core.List.{List}
 use native.Mathlib.Omega.{arith}
 use lib.ListN.{length, getD, set, length-replicate}
 use Rattle.runset.specs.Runs.{mostRuns}
-use Rattle.runset.specs.SetLaws.{zeros, held-represents}
-use Rattle.runset.specs.LentLaws.{fronted, fronted-more, fronted-whole}
+use Rattle.runset.specs.laws.Set.{zeros, held-represents}
+use Rattle.runset.specs.laws.Lent.{fronted, fronted-more, fronted-whole}
 use borrow.Author.Needs.{needs}
 use Rattle.runset.proofs.RunSet.from_cuts.Statement.{statement}
 use Rattle.runset.proofs.RunSet.from_cuts.Tie as tie

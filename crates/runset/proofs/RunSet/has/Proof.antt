@@ -7,8 +7,8 @@ use native.Mathlib.Omega.{arith}
 use lib.Dec.{leb}
 use lib.ListN.{length, take, drop, getD}
 use Rattle.runset.specs.Set.{xor, cutsOf, inside, member}
-use Rattle.runset.specs.CutsLaws.{xor-false, xor-assoc, none}
-use Rattle.runset.specs.MergeLaws.{front, all-passed}
+use Rattle.runset.specs.laws.Cuts.{xor-false, xor-assoc, none}
+use Rattle.runset.specs.laws.Merge.{front, all-passed}
 use borrow.Author.Needs.{needs}
 use Rattle.runset.proofs.RunSet.has.Statement.{statement}
 use Rattle.runset.proofs.RunSet.has.Tie as tie

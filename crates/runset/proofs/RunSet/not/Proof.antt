@@ -3,7 +3,7 @@ use mathlib.Core.Path.{ap}
 use mathlib.Core.Bool.{Bool, not}
 use borrow.Author.Needs.{needs}
 use Rattle.runset.specs.Set.{xor, cutsOf, inside, member}
-use Rattle.runset.specs.SetLaws.{valid-operand, axis-operand, axis-inside, makes-ext}
+use Rattle.runset.specs.laws.Set.{valid-operand, axis-operand, axis-inside, makes-ext}
 use Rattle.runset.proofs.RunSet.not.Statement.{statement}
 use Rattle.runset.proofs.RunSet.not.Tie as tie
 

@@ -4,7 +4,7 @@ use mathlib.Core.Bool.{Bool, _||_, _&&_}
 use borrow.Author.Needs.{needs}
 use native.Mathlib.Omega.{arith}
 use Rattle.runset.specs.Set.{cutsOf, inside, member}
-use Rattle.runset.specs.SetLaws.{valid-operand, shared-operand, shared-inside, makes-ext}
+use Rattle.runset.specs.laws.Set.{valid-operand, shared-operand, shared-inside, makes-ext}
 use Rattle.runset.proofs.RunSet.or_and.Statement.{statement}
 use Rattle.runset.proofs.RunSet.or_and.Tie as tie
 

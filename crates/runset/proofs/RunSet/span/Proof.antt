@@ -2,7 +2,7 @@
 use mathlib.Core.Path.{refl, sym}
 use mathlib.Core.Bool.{false}
 use borrow.Author.Needs.{needs}
-use Rattle.runset.specs.SetLaws.{run-represents, represents-ext, nothing-between}
+use Rattle.runset.specs.laws.Set.{run-represents, represents-ext, nothing-between}
 use Rattle.runset.proofs.RunSet.span.Statement.{statement}
 use Rattle.runset.proofs.RunSet.span.Tie as tie
 

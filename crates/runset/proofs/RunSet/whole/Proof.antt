@@ -1,7 +1,7 @@
 -- Every number of the axis lies between its ends.
 use mathlib.Core.Bool.{true}
 use borrow.Author.Needs.{needs}
-use Rattle.runset.specs.SetLaws.{represents-ext, everything-between}
+use Rattle.runset.specs.laws.Set.{represents-ext, everything-between}
 use Rattle.runset.proofs.RunSet.whole.Statement.{statement}
 use Rattle.runset.proofs.RunSet.whole.Tie as tie
 

@@ -7,10 +7,10 @@ use lib.ListN.{length, drop, getD}
 use denote.Ref.{now}
 use Rattle.number.specs.Axis.{axis, whole}
 use Rattle.number.specs.Words.{bits}
-use Rattle.number.specs.WordsLaws.{put-length}
+use Rattle.number.specs.laws.Words.{put-length}
 use Rattle.runset.specs.Runs.{runCount, lows, highs}
 use Rattle.runset.specs.Set.{member}
-use Rattle.runset.specs.SetLaws.{valid-cuts}
+use Rattle.runset.specs.laws.Set.{valid-cuts}
 use Rattle.runset.proofs.Reading.{RunAt, run, front, next-run, all-runs}
 use borrow.Author.Needs.{needs}
 use Rattle.runset.proofs.RunSet.write.Statement.{statement}

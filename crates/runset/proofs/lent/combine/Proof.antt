@@ -1,6 +1,6 @@
 -- The cuts of the operation, whole.
 use native.Mathlib.Omega.{arith}
-use Rattle.runset.specs.LentLaws.{combined}
+use Rattle.runset.specs.laws.Lent.{combined}
 use borrow.Author.Needs.{needs}
 use Rattle.runset.proofs.lent.combine.Statement.{statement}
 use Rattle.runset.proofs.lent.combine.Tie as tie

@@ -3,8 +3,8 @@ use mathlib.Core.Path.{_≡_, ap, ap₂}
 use mathlib.Core.Bool.{Bool, not}
 use native.Mathlib.Omega.{arith}
 use Rattle.runset.specs.Set.{xor, inside}
-use Rattle.runset.specs.SetLaws.{axis-canonical, axis-inside}
-use Rattle.runset.specs.LentLaws.{fills-ext}
+use Rattle.runset.specs.laws.Set.{axis-canonical, axis-inside}
+use Rattle.runset.specs.laws.Lent.{fills-ext}
 use borrow.Author.Needs.{needs}
 use Rattle.runset.proofs.lent.not.Statement.{statement}
 use Rattle.runset.proofs.lent.not.Tie as tie

@@ -5,7 +5,7 @@ use native.Mathlib.Omega.{arith}
 use lib.ListN.{length-take}
 use lib.Seq.{length-take-le}
 use Rattle.runset.specs.Set.{inside}
-use Rattle.runset.specs.LentLaws.{shared-there, shared-short, shared-canonical, shared-members, fills-ext}
+use Rattle.runset.specs.laws.Lent.{shared-there, shared-short, shared-canonical, shared-members, fills-ext}
 use borrow.Author.Needs.{needs}
 use Rattle.runset.proofs.lent.or_and.Statement.{statement}
 use Rattle.runset.proofs.lent.or_and.Tie as tie

@@ -5,7 +5,7 @@ use mathlib.Core.Path.{_≡_, refl, sym, ap, _∙_}
 use native.Mathlib.Omega.{arith}
 use lib.ListN.{length, getD, take, length-set}
 use lib.Seq.{take-length}
-use Rattle.runset.specs.LentLaws.{fills-front, one-more}
+use Rattle.runset.specs.laws.Lent.{fills-front, one-more}
 use Rattle.runset.proofs.lent.same.Statement.{statement}
 use Rattle.runset.proofs.lent.same.Tie as tie
 use Rattle.runset.proofs.lent.same.Reads as reads

@@ -4,8 +4,8 @@ use mathlib.Core.Path.{_≡_, refl, ap, ap₂, _∙_}
 use mathlib.Core.List.{[], _∷_}
 use Prim.Native.Nat.{_+_}
 use native.Mathlib.Omega.{arith}
-use Rattle.runset.specs.SetLaws.{nothing-between}
-use Rattle.runset.specs.LentLaws.{fills-front, span-cuts, no-cuts, two-front}
+use Rattle.runset.specs.laws.Set.{nothing-between}
+use Rattle.runset.specs.laws.Lent.{fills-front, span-cuts, no-cuts, two-front}
 use borrow.Author.Needs.{needs}
 use Rattle.runset.proofs.lent.span.Statement.{statement}
 use Rattle.runset.proofs.lent.span.Tie as tie

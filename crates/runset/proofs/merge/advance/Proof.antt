@@ -1,7 +1,7 @@
 -- Each return is one step of the walk, by the heads of what is left of both lists.
 use denote.Ref.{now}
 use borrow.Author.Needs.{needs}
-use Rattle.runset.specs.MergeLaws.{next-right, next-left, next-lt, next-gt, next-eq}
+use Rattle.runset.specs.laws.Merge.{next-right, next-left, next-lt, next-gt, next-eq}
 use Rattle.runset.proofs.merge.advance.Statement.{statement}
 use Rattle.runset.proofs.merge.advance.Tie as tie
 

@@ -7,8 +7,8 @@ use native.Mathlib.Omega.{arith}
 use lib.ListN.{length, take, drop}
 use denote.Ref.{now}
 use borrow.Author.Needs.{needs}
-use Rattle.runset.specs.Merge.{opOf, mergeCuts}
-use Rattle.runset.specs.MergeLaws.{all-passed, merge-nil}
+use Rattle.runset.specs.inner.Merge.{opOf, mergeCuts}
+use Rattle.runset.specs.laws.Merge.{all-passed, merge-nil}
 use Rattle.runset.proofs.Walk.{Progress, begin, pass, write, full, done, told}
 use Rattle.runset.proofs.merge.merge.Statement.{statement}
 use Rattle.runset.proofs.merge.merge.Tie as tie

@@ -1,6 +1,6 @@
 -- From the lesser of the lows to the greater of the ends, where neither run ends before the other begins.
 use Prim.Native.Nat.{min, max}
-use Rattle.runset.specs.OneRunLaws.{known, not-known, joined-run}
+use Rattle.runset.specs.laws.OneRun.{known, not-known, joined-run}
 use borrow.Author.Needs.{needs}
 use Rattle.runset.proofs.run.joined.Statement.{statement}
 use Rattle.runset.proofs.run.joined.Tie as tie

@@ -1,5 +1,5 @@
 -- One run at once, or the walk along both lists, whole.
-use Rattle.runset.specs.OneRunLaws.{merged-is, merged-whole}
+use Rattle.runset.specs.laws.OneRun.{merged-is, merged-whole}
 use borrow.Author.Needs.{needs}
 use Rattle.runset.proofs.run.merge.Statement.{statement}
 use Rattle.runset.proofs.run.merge.Tie as tie

@@ -1,6 +1,6 @@
 -- By the operation.
 use Rattle.runset.specs.declared.merge.Op.the-variants.{Or, And}
-use Rattle.runset.specs.OneRunLaws.{not-known, of-op}
+use Rattle.runset.specs.laws.OneRun.{not-known, of-op}
 use borrow.Author.Needs.{needs}
 use Rattle.runset.proofs.run.of_runs.Statement.{statement}
 use Rattle.runset.proofs.run.of_runs.Tie as tie

@@ -1,5 +1,5 @@
 -- Lists of two cuts are one run each.
-use Rattle.runset.specs.OneRunLaws.{not-known, of-cuts, two-ascend}
+use Rattle.runset.specs.laws.OneRun.{not-known, of-cuts, two-ascend}
 use borrow.Author.Needs.{needs}
 use Rattle.runset.proofs.run.of_two.Statement.{statement}
 use Rattle.runset.proofs.run.of_two.Tie as tie

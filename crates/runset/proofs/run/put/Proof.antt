@@ -1,5 +1,5 @@
 -- Two cuts, or none.
-use Rattle.runset.specs.OneRunLaws.{none-put, run-put}
+use Rattle.runset.specs.laws.OneRun.{none-put, run-put}
 use borrow.Author.Needs.{needs}
 use Rattle.runset.proofs.run.put.Statement.{statement}
 use Rattle.runset.proofs.run.put.Tie as tie

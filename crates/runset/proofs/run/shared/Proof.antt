@@ -1,6 +1,6 @@
 -- From the greater of the lows to the lesser of the ends.
 use Prim.Native.Nat.{min, max}
-use Rattle.runset.specs.OneRunLaws.{known, shared-run}
+use Rattle.runset.specs.laws.OneRun.{known, shared-run}
 use borrow.Author.Needs.{needs}
 use Rattle.runset.proofs.run.shared.Statement.{statement}
 use Rattle.runset.proofs.run.shared.Tie as tie

@@ -4,7 +4,7 @@ use mathlib.Core.Bool.{false}
 use Prim.Native.Nat.{_-_, _≤_}
 use borrow.Author.Needs.{needs}
 use Rattle.grammar.specs.Classes.{within}
-use Rattle.grammar.specs.Table.{some}
+use Rattle.grammar.specs.inner.Table.{some}
 use Rattle.text.proofs.TableLaws.{some-here, some-next, some-end}
 use Rattle.text.proofs.table.some_kind.Statement.{statement}
 use Rattle.text.proofs.table.some_kind.Tie as tie

@@ -1,0 +1,3 @@
+pub mod Times
+pub mod Cuts
+pub mod Search

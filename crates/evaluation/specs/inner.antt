@@ -1,0 +1,5 @@
+pub mod Askable
+pub mod Evaluation
+pub mod Step
+pub mod Slots
+pub mod Evaluate

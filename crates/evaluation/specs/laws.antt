@@ -1,0 +1,6 @@
+pub mod Slots
+pub mod Step
+pub mod Tree
+pub mod Node
+pub mod Evaluate
+pub mod Walk

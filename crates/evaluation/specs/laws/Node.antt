@@ -1,0 +1,129 @@
+-- The nodes of a text, and the nodes under a node of its table.
+use Prim.Native.Nat.{ℕ, zero, suc, _+_, _*_, _-_, _<_, _≤_}
+use native.Mathlib.Omega.{arith}
+use native.Mathlib.Nat.{le-of-suc-le-suc, not-suc-le-zero}
+use native.Mathlib.Decide.{decLt}
+use mathlib.Core.Path.{_≡_, refl, sym, ap, ap₂, subst, _∙_}
+use mathlib.Core.Bool.{Bool, true, false, false≢true, _||_}
+use mathlib.Core.List.{List, [], _∷_}
+use lib.ListN.{length, getD}
+use Rattle.grammar.specs.Syntax.{Text, listed, lag}
+use Rattle.grammar.specs.declared.Row.{Row}
+use Rattle.grammar.specs.inner.Table.{row, leaves, build, rowAt, treeAt, Falling}
+use Rattle.meaning.specs.inner.Truth.{someNode}
+use Rattle.leaves.specs.inner.Leaf.{leafOf}
+use Rattle.evaluation.specs.laws.Step.{four}
+use Rattle.evaluation.specs.laws.Tree.{build-leaf, tree-step, falls-first, falls-second, kind-known}
+use Rattle.evaluation.specs.inner.Evaluate.{kind, first, second, Under, here, on-first, on-second}
+
+or-first : (a b : Bool) → a ≡ true → (a || b) ≡ true
+or-first a b e = ap (λ (x : Bool). x || b) e
+
+or-second : (a b : Bool) → b ≡ true → (a || b) ≡ true
+or-second true b e = refl
+or-second false b e = e
+
+pub or-none : (a b : Bool) → (a || b) ≡ false → (a ≡ false) × (b ≡ false)
+or-none true b e = absurd (false≢true (sym e))
+or-none false b e = (refl, e)
+
+or-false : (a b : Bool) → a ≡ false → b ≡ false → (a || b) ≡ false
+or-false a b e f = ap₂ _||_ e f
+
+-- what holds of each element of a list
+Each : (Text → Type 0) → List Text → Type 0
+Each P [] = Unit {0}
+Each P (x ∷ l) = P x × Each P l
+
+each-at : (P : Text → Type 0) (l : List Text) (d : Text) → Each P l → (k : ℕ) → k < length l → P (getD l k d)
+unfolding Each
+each-at P [] d a k h = absurd (not-suc-le-zero h)
+each-at P (x ∷ l) d a zero h = a .0
+each-at P (x ∷ l) d a (suc k) h = each-at P l d (a .1) k (le-of-suc-le-suc h)
+
+module _ (G : Text → Bool) where
+  some-leaf : (r : Row) → r .kind < 15 → someNode G (leafOf r) ≡ G (leafOf r)
+  unfolding someNode Each
+  some-leaf r h =
+      each-at (λ (t : Text). someNode G t ≡ G t) (leaves r) (listed lag)
+      (refl, (refl, (refl, (refl, (refl, (refl, (refl, (refl, (refl, (refl, (refl, (refl, (refl, (refl, (refl, tt))))))))))))))) (r .kind) h
+
+  some-one : (k a b n : ℕ) (p q : Text) → 15 ≤ k → k < 19 → someNode G (build (row k a b n) p q) ≡ (G (build (row k a b n) p q) || someNode G p)
+  unfolding someNode
+  some-one k a b n p q l h =
+      four (λ (k : ℕ). someNode G (build (row k a b n) p q) ≡ (G (build (row k a b n) p q) || someNode G p)) 15 k l h refl refl refl refl
+
+  some-two : (k a b n : ℕ) (p q : Text) → 19 ≤ k → k < 23
+      → someNode G (build (row k a b n) p q) ≡ (G (build (row k a b n) p q) || (someNode G p || someNode G q))
+  unfolding someNode
+  some-two k a b n p q l h =
+      four (λ (k : ℕ). someNode G (build (row k a b n) p q) ≡ (G (build (row k a b n) p q) || (someNode G p || someNode G q))) 19 k l h refl refl refl refl
+
+  module _ (table : List ℕ) (count : ℕ) (falling : Falling table count) (n : ℕ) (inn : n < count) where
+    pub here-leaf : kind table n < 15 → someNode G (treeAt table n) ≡ G (treeAt table n)
+    here-leaf h =
+        let e = tree-step table count falling n inn ∙ build-leaf (rowAt table n) (treeAt table (first table n)) (treeAt table (second table n)) h in
+        ap (someNode G) e ∙ some-leaf (rowAt table n) h ∙ ap G (sym e)
+
+    pub here-one : 15 ≤ kind table n → kind table n < 19 → someNode G (treeAt table n) ≡ (G (treeAt table n) || someNode G (treeAt table (first table n)))
+    here-one l h =
+        let e = tree-step table count falling n inn in
+        ap (someNode G) e ∙ some-one (kind table n) (first table n) (second table n) (rowAt table n .number) (treeAt table (first table n)) (treeAt table (second table n)) l h
+        ∙ ap (λ (t : Text). G t || someNode G (treeAt table (first table n))) (sym e)
+
+    pub here-two : 19 ≤ kind table n → someNode G (treeAt table n) ≡ (G (treeAt table n) || (someNode G (treeAt table (first table n)) || someNode G (treeAt table (second table n))))
+    here-two l =
+        let e = tree-step table count falling n inn in
+        ap (someNode G) e ∙ some-two (kind table n) (first table n) (second table n) (rowAt table n .number) (treeAt table (first table n)) (treeAt table (second table n)) l (kind-known table count falling n inn)
+        ∙ ap (λ (t : Text). G t || (someNode G (treeAt table (first table n)) || someNode G (treeAt table (second table n)))) (sym e)
+
+    -- what no node of the text has, no node of the children has
+    pub none-first : 15 ≤ kind table n → someNode G (treeAt table n) ≡ false → someNode G (treeAt table (first table n)) ≡ false
+    none-first l e = by (decLt (kind table n) 19)
+      where
+        by : Dec (kind table n < 19) → someNode G (treeAt table (first table n)) ≡ false
+        by (yes h) = or-none (G (treeAt table n)) (someNode G (treeAt table (first table n))) (sym (here-one l h) ∙ e) .1
+        by (no h) =
+            or-none (someNode G (treeAt table (first table n))) (someNode G (treeAt table (second table n)))
+            (or-none (G (treeAt table n)) (someNode G (treeAt table (first table n)) || someNode G (treeAt table (second table n))) (sym (here-two (omega arith)) ∙ e) .1) .0
+
+    pub none-second : 19 ≤ kind table n → someNode G (treeAt table n) ≡ false → someNode G (treeAt table (second table n)) ≡ false
+    none-second l e =
+        or-none (someNode G (treeAt table (first table n))) (someNode G (treeAt table (second table n)))
+        (or-none (G (treeAt table n)) (someNode G (treeAt table (first table n)) || someNode G (treeAt table (second table n))) (sym (here-two l) ∙ e) .1) .1
+
+  module _ (table : List ℕ) (count : ℕ) (falling : Falling table count) where
+    -- a node under n that has G is a node of the text
+    pub some-under : (n m : ℕ) → n < count → Under table n m → G (treeAt table m) ≡ true → someNode G (treeAt table n) ≡ true
+    some-under n m inn here e = by (decLt (kind table n) 15) (decLt (kind table n) 19)
+      where
+        by : Dec (kind table n < 15) → Dec (kind table n < 19) → someNode G (treeAt table n) ≡ true
+        by (yes h) d = here-leaf table count falling n inn h ∙ e
+        by (no h) (yes k) = here-one table count falling n inn (omega arith) k ∙ or-first (G (treeAt table n)) _ e
+        by (no h) (no k) = here-two table count falling n inn (omega arith) ∙ or-first (G (treeAt table n)) _ e
+    some-under n m inn (on-first l u) e =
+        let s = falls-first table count falling n inn l in by (decLt (kind table n) 19) (some-under (first table n) m (omega arith) u e)
+      where
+        by : Dec (kind table n < 19) → someNode G (treeAt table (first table n)) ≡ true → someNode G (treeAt table n) ≡ true
+        by (yes k) child = here-one table count falling n inn l k ∙ or-second (G (treeAt table n)) _ child
+        by (no k) child = here-two table count falling n inn (omega arith) ∙ or-second (G (treeAt table n)) _ (or-first (someNode G (treeAt table (first table n))) _ child)
+    some-under n m inn (on-second l u) e =
+        let s = falls-second table count falling n inn l in
+        here-two table count falling n inn l
+        ∙ or-second (G (treeAt table n)) _ (or-second (someNode G (treeAt table (first table n))) _ (some-under (second table n) m (omega arith) u e))
+
+    -- where no node under n has G, no node of the text has
+    pub none-under : (f n : ℕ) → n < f → n < count → ((m : ℕ) → Under table n m → G (treeAt table m) ≡ false) → someNode G (treeAt table n) ≡ false
+    none-under zero n h inn e = absurd (not-suc-le-zero h)
+    none-under (suc f) n h inn e =
+        by (decLt (kind table n) 15) (decLt (kind table n) 19)
+        (λ l. let s = falls-first table count falling n inn l in none-under f (first table n) (omega arith) (omega arith) (λ m u. e m (on-first l u)))
+        (λ l. let s = falls-second table count falling n inn l in none-under f (second table n) (omega arith) (omega arith) (λ m u. e m (on-second l u)))
+      where
+        by : Dec (kind table n < 15) → Dec (kind table n < 19) → (15 ≤ kind table n → someNode G (treeAt table (first table n)) ≡ false)
+            → (19 ≤ kind table n → someNode G (treeAt table (second table n)) ≡ false) → someNode G (treeAt table n) ≡ false
+        by (yes k) d p q = here-leaf table count falling n inn k ∙ e n here
+        by (no k) (yes j) p q = here-one table count falling n inn (omega arith) j ∙ or-false (G (treeAt table n)) _ (e n here) (p (omega arith))
+        by (no k) (no j) p q =
+            here-two table count falling n inn (omega arith)
+            ∙ or-false (G (treeAt table n)) _ (e n here) (or-false (someNode G (treeAt table (first table n))) _ (p (omega arith)) (q (omega arith)))

@@ -1,0 +1,4 @@
+pub mod Kinds
+pub mod Table
+pub mod Lexer
+pub mod Parse

@@ -1,0 +1,5 @@
+pub mod Word
+pub mod Class
+pub mod Number
+pub mod Leaf
+pub mod Unique

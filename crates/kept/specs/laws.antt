@@ -1,0 +1,8 @@
+pub mod ExampleR1
+pub mod Stability
+pub mod Rule
+pub mod On
+pub mod Kept
+pub mod Limit
+pub mod Mark
+pub mod Flag

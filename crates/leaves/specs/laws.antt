@@ -1,0 +1,6 @@
+pub mod Coding
+pub mod Code
+pub mod Span
+pub mod Extreme
+pub mod Stamp
+pub mod Leaf

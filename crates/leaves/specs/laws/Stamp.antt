@@ -1,0 +1,156 @@
+-- The times that a scan leaves in an array, shifted to indices; and the cuts of the sets that are taken of them.
+use Prim.Native.Nat.{ℕ, zero, suc, _+_, _≤_, _<_}
+use native.Mathlib.Omega.{arith}
+use native.Mathlib.Nat.{not-suc-le-zero, le-of-suc-le-suc}
+use mathlib.Core.Path.{_≡_, refl, sym, ap, _∙_}
+use mathlib.Core.Bool.{Bool, true, false, true≢false}
+use mathlib.Core.Logic.{⊎-elim}
+use mathlib.Core.List.{List, [], _∷_, _++_, map}
+use lib.ListN.{length, getD, take, drop, length-map, length-append, length-drop, length-set}
+use lib.ListN as list
+use lib.Seq.{take-all, ext-getD, getD-take, length-take-le, getD-set-same, getD-set-other}
+use Rattle.number.specs.Axis.{axis}
+use Rattle.number.specs.laws.Order.{less-or-not}
+use Rattle.recording.specs.Condition.{pick}
+use Rattle.recording.specs.Reading.{Curve, top, crossing}
+use Rattle.recording.specs.Recording.{readings, mostRecords, Accepted}
+use Rattle.recording.specs.laws.Acceptance.{accepted-sound}
+use Rattle.tops.specs.Tops as raw
+use Rattle.tops.specs.inner.Scan.{Scanned}
+use Rattle.tops.specs.laws.Scan.{scanned-at}
+use Rattle.tops.specs.laws.Top.{tops-half, crossings-half}
+use Rattle.runset.specs.Set.{inside}
+use Rattle.runset.specs.inner.Lent.{Lent, Fills}
+use Rattle.runset.specs.laws.Lent.{fills-ext}
+use Rattle.runset.specs.declared.merge.Filled.{Filled}
+use Rattle.meaning.specs.inner.Coded.{codedTop, codedCrossing, topTimes, crossingTimes}
+use Rattle.meaning.specs.laws.Recorded.{accepted-recorded}
+use Rattle.meaning.specs.laws.Pick.{map-map}
+use Rattle.meaning.specs.laws.Listed.{all-settled, tops-code, crossings-code}
+use Rattle.differences.specs.inner.Times.{Times}
+use Rattle.differences.specs.laws.Times.{picked-times}
+use Rattle.differences.specs.inner.Cuts.{cutsOf, Collects}
+use Rattle.differences.specs.declared.Cuts.{Cuts}
+use Rattle.meaning.specs.inner.Coded.{coded}
+use Rattle.leaves.specs.laws.Coding.{length-readings}
+use Rattle.leaves.specs.inner.Stamps.{mostEdges, indexOf, Early, Shifted, Stamped}
+
+-- ---- from times to indices
+
+-- the first k are shifted
+pub record Shifting (old : List ℕ) (k : ℕ) (new : List ℕ) : Type 0 where
+  pub long : length new ≡ length old
+  pub shifted : (j : ℕ) → j < k → getD new j 0 ≡ indexOf (getD old j 0)
+  pub rest : (j : ℕ) → k ≤ j → getD new j 0 ≡ getD old j 0
+
+pub shifting-start : (old : List ℕ) → Shifting old 0 old
+shifting-start old = record { long = refl; shifted = λ j h. absurd (not-suc-le-zero h); rest = λ j h. refl }
+
+pub shifting-turn : (old : List ℕ) (k : ℕ) (new : List ℕ) → k < length old → Shifting old k new → Shifting old (k + 1) (list.set new k (indexOf (getD new k 0)))
+shifting-turn old k new h t = record {
+  long = length-set new k (indexOf (getD new k 0)) ∙ t .long;
+  shifted = λ j g. ⊎-elim
+      (λ l. getD-set-other new k j (indexOf (getD new k 0)) 0 (λ e. omega arith) ∙ t .shifted j l)
+      (λ l. let e : j ≡ k = omega arith in
+      ap (λ (i : ℕ). getD (list.set new k (indexOf (getD new k 0))) i 0) e ∙ getD-set-same new k (indexOf (getD new k 0)) 0 (omega (arith, t .long))
+      ∙ ap indexOf (t .rest k (omega arith) ∙ ap (λ (i : ℕ). getD old i 0) (sym e)))
+      (less-or-not j k);
+  rest = λ j g. getD-set-other new k j (indexOf (getD new k 0)) 0 (λ e. omega arith) ∙ t .rest j (omega arith);
+}
+
+map-at : (f : ℕ → ℕ) (l : List ℕ) (k : ℕ) → k < length l → getD (map f l) k 0 ≡ f (getD l k 0)
+map-at f [] k h = absurd (not-suc-le-zero h)
+map-at f (x ∷ l) zero h = refl
+map-at f (x ∷ l) (suc k) h = map-at f l k (le-of-suc-le-suc h)
+
+-- a scan for the times `raw`, whose indices are `found`
+module _ (raw found old new : List ℕ) (count : ℕ) (is : found ≡ map indexOf raw) (s : Scanned raw old count new) (fits : length found ≤ length old) where
+  room : length raw ≤ length old
+  room = let e = ap length is ∙ length-map raw indexOf in omega arith
+
+  pub scan-long : length new ≡ length old
+  scan-long =
+      ap length (s .held ∙ ap (λ (l : List ℕ). l ++ drop (length raw) old) (take-all (length old) raw room))
+      ∙ length-append raw (drop (length raw) old) ∙ (let d = length-drop (length raw) old in omega (arith, room))
+
+  pub scan-there : count ≤ length new
+  scan-there = omega (arith, s .counted, room, scan-long)
+
+  pub scan-early : Times found → Early count new
+  scan-early t k h =
+      let l : k < length raw = omega (arith, s .counted) in
+      let e = scanned-at raw old new count k s l (omega (arith, room)) in
+      let m = ap (λ (l : List ℕ). getD l k 0) is ∙ map-at indexOf raw k l in
+      let n = ap length is ∙ length-map raw indexOf in
+      omega (arith, t .most k (omega arith))
+
+  pub scan-stamps : (final : List ℕ) → Shifted count new final → Stamped found count final
+  scan-stamps final t = record {
+    room = there;
+    stamps = ext-getD 0 (take count final) (map indexOf raw) (length-take-le count final there ∙ s .counted ∙ sym (length-map raw indexOf)) each ∙ sym is;
+  }
+    where
+      there : count ≤ length final
+      there = omega (arith, scan-there, t .long)
+
+      each : (k : ℕ) → k < length (take count final) → getD (take count final) k 0 ≡ getD (map indexOf raw) k 0
+      each k h =
+          let i : k < count = omega (arith, length-take-le count final there) in
+          let l : k < length raw = omega (arith, s .counted) in
+          getD-take count final k 0 i ∙ t .shifted k i ∙ ap indexOf (scanned-at raw old new count k s l (omega (arith, room))) ∙ sym (map-at indexOf raw k l)
+
+-- ---- tops and crossings
+
+module _ (rec : List ℕ) (a : Accepted rec) where
+  few : length (readings rec) ≤ mostRecords
+  few = omega (arith, length-readings rec, accepted-sound rec a .few)
+
+  pub top-stamps : (c : Curve) → topTimes c (coded rec) ≡ map indexOf (raw.topTimes c (readings rec))
+  unfolding raw.topTimes
+  top-stamps c =
+      tops-code c (readings rec) (all-settled (readings rec) (accepted-recorded rec a .in-range))
+      ∙ sym (map-map raw.timeOf indexOf (pick (top c) (readings rec)))
+
+  pub top-times : (c : Curve) → Times (topTimes c (coded rec))
+  top-times c = picked-times (readings rec) (accepted-recorded rec a) (codedTop c)
+
+  pub tops-few : (c : Curve) → length (topTimes c (coded rec)) ≤ mostEdges
+  tops-few c =
+      let e = ap length (top-stamps c) ∙ length-map (raw.topTimes c (readings rec)) indexOf in
+      omega (arith, tops-half c (readings rec), few)
+
+  pub crossing-stamps : crossingTimes (coded rec) ≡ map indexOf (raw.crossingTimes (readings rec))
+  unfolding raw.crossingTimes
+  crossing-stamps =
+      crossings-code (readings rec) (all-settled (readings rec) (accepted-recorded rec a .in-range))
+      ∙ sym (map-map raw.timeOf indexOf (pick crossing (readings rec)))
+
+  pub crossing-times : Times (crossingTimes (coded rec))
+  crossing-times = picked-times (readings rec) (accepted-recorded rec a) codedCrossing
+
+  pub crossings-few : length (crossingTimes (coded rec)) ≤ mostEdges
+  crossings-few =
+      let e = ap length crossing-stamps ∙ length-map (raw.crossingTimes (readings rec)) indexOf in
+      omega (arith, crossings-half (readings rec), few)
+
+-- ---- cuts
+
+module _ (f : ℕ → Bool) (s : Cuts) (c : Collects f s) where
+  pub cuts-there : s .n ≤ length (s .cuts)
+  cuts-there = omega (arith, c .few, c .size)
+
+  pub cuts-lent : Lent (cutsOf s)
+  cuts-lent = record {
+    canonical = record { ascending = c .ascending; ended = c .ended };
+    few = omega (arith, c .few, length-take-le (s .n) (s .cuts) cuts-there);
+  }
+
+  pub cuts-over : (out : List ℕ) (r : Filled) → s .over ≡ true → r .over ≡ true → Fills f out r
+  cuts-over out r o e = record {
+    over = e ∙ sym o ∙ c .over;
+    few = λ z. absurd (true≢false (sym e ∙ z));
+    cuts = λ z. absurd (true≢false (sym e ∙ z));
+  }
+
+  pub cuts-fill : (out : List ℕ) (r : Filled) → s .over ≡ false → Fills (inside (cutsOf s)) out r → Fills f out r
+  cuts-fill out r o = fills-ext (inside (cutsOf s)) f out r (λ v h. c .members o v h)

@@ -1,0 +1,3 @@
+pub mod Recorded
+pub mod Coded
+pub mod Truth

@@ -1,0 +1,13 @@
+pub mod Whole
+pub mod Pick
+pub mod Listed
+pub mod Step
+pub mod Truth
+pub mod Meaning
+pub mod Run
+pub mod Overfull
+pub mod Extreme
+pub mod R1Lines
+pub mod Recorded
+pub mod FirstSix
+pub mod Alike

@@ -1,0 +1,4 @@
+pub mod Boolean
+pub mod Order
+pub mod Words
+pub mod Least

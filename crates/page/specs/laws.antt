@@ -1,0 +1,10 @@
+pub mod Puts
+pub mod Decimal
+pub mod Page
+pub mod Typed
+pub mod Intake
+pub mod Printed
+pub mod Length
+pub mod Ten
+pub mod Examples
+pub mod R1Page

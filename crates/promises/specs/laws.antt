@@ -1,0 +1,12 @@
+pub mod Table
+pub mod CallLines
+pub mod Observation
+pub mod StandIn
+pub mod KeptAsFull
+pub mod Lasting
+pub mod R1Lasting
+pub mod MarkedLines
+pub mod FirstSixAsked
+pub mod Operator
+pub mod Demands
+pub mod AskedOfKept

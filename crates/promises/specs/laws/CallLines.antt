@@ -1,0 +1,357 @@
+-- The lines of each call agree with the table. For the question call this is said of readings that stand in for a recording, of which the recording
+-- itself is one case and its kept readings another.
+use Prim.Native.Nat.{ℕ, suc, _*_, _/_, _%_, _≤_, _<_}
+use native.Mathlib.Omega.{arith}
+use mathlib.Core.Path.{_≡_, refl, sym, ap, subst, _∙_}
+use mathlib.Core.Bool.{Bool, true, false, So, not, cond, _||_, true≢false, false≢true}
+use mathlib.Core.Logic.{_⊎_, inl, inr, ⊎-elim, _↔_}
+use mathlib.Core.List.{List, [], _∷_, _++_, List·Memᴰ, List·Memᴰ·head, List·Memᴰ·tail, List·Memᴰ·not-nil, List·Memᴰ·cases-cons}
+use lib.Dec.{eqb, ltb, leb→le, le→leb}
+use lib.IntN.{ℤ, pos, negsuc}
+use lib.ListN.{length}
+use lib.Signed.{_≤ℤ_, leZ-yes}
+use borrow.Author.Tests.{eqb-true, eqb-false, eq-eqb, ltb-true, ltb-false, lt-ltb, le-ltb, not-true, not-false}
+use Rattle.number.specs.Axis.{axis, whole}
+use Rattle.number.specs.Least.{least}
+use Rattle.number.specs.laws.Least.{least-holds, least-first}
+use Rattle.number.specs.laws.Order.{less-or-not}
+use Rattle.refusal.specs.Outcome.{Line, line, NoneMeets}
+use Rattle.recording.specs.Condition.{pick}
+use Rattle.recording.specs.Reading.{top}
+use Rattle.recording.specs.Recording.{records, readings, recordingLines, noRecord, Accepted}
+use Rattle.recording.specs.Output.{outputLine}
+use Rattle.runset.specs.Runs.{runCount, setBytes}
+use Rattle.runset.specs.laws.Runs.{runCount-ext, setBytes-length}
+use Rattle.targets.specs.Target.{offAxis}
+use Rattle.tops.specs.Tops.{curveOf, mostTops}
+use Rattle.grammar.specs.Syntax.{Text}
+use Rattle.grammar.specs.Grammar.{ReadsWhole}
+use Rattle.grammar.specs.inner.Parse.{reading}
+use Rattle.grammar.specs.Size.{nodes, openAt, tooDeep, mostBytes, mostNodes, mostOpen}
+use Rattle.text.specs.Told.{badLength, noReading, tooLarge, textLines}
+use Rattle.meaning.specs.Alike.{Same}
+use Rattle.number.specs.laws.Boolean.{same, or-left, or-right, or-none, none-left, none-right, so-or}
+use Rattle.meaning.specs.inner.Coded.{coded}
+use Rattle.meaning.specs.Meaning.{Holds}
+use Rattle.meaning.specs.Overfull.{IsSet, Overfull, TooManyTops as OverTops}
+use Rattle.meaning.specs.laws.Recorded.{accepted-recorded}
+use Rattle.meaning.specs.inner.Truth.{refused8, refused9}
+use Rattle.meaning.specs.laws.Truth.{val-holds}
+use Rattle.question.specs.Question.{read, answer, askingLines, setLines}
+use Rattle.question.specs.Meant.{LinesMean}
+use Rattle.question.specs.laws.Meant.{read-reads, reads-read, lines-mean}
+use Rattle.degree.specs.Degree.{targetLine}
+use Rattle.pair.specs.Pair.{pairLines, acceptedLines}
+use Rattle.thin.specs.Thin.{keptBytes}
+use Rattle.marks.specs.Marks.{marksOf, some, mostMarks, latestMark, marksLine}
+use Rattle.promises.specs.Table.{Request, question, degree, pair, thin, recordingIn, textIn, OfAxis, OpenTooDeep, acceptedOrder, order}
+use Rattle.promises.specs.laws.Table.{Agrees, Agree, agree-recording}
+
+-- ---- tests
+
+or-true : (a b : Bool) → (a || b) ≡ true → (a ≡ true) ⊎ (b ≡ true)
+or-true a b = so-or a b .0
+
+both-off : (a b : Bool) → (a || b) ≡ false → (a ≡ false) × (b ≡ false)
+both-off a b e = (none-left a b e, none-right a b e)
+
+clash : {b : Bool} {C : Type 0} → b ≡ true → b ≡ false → C
+clash t f = absurd (true≢false (sym t ∙ f))
+
+-- ---- 5, 6 and 7: the text
+
+deep-open : (text : List ℕ) → So (tooDeep text) ↔ OpenTooDeep text
+unfolding tooDeep
+deep-open text = (to, from)
+  where
+    over : ℕ → Bool
+    over i = ltb mostOpen (openAt text i)
+
+    to : So (tooDeep text) → OpenTooDeep text
+    to h =
+        let l = ltb-true _ (length text) h in
+        (_, l, ltb-true mostOpen _ (least-holds (λ i. ltb mostOpen (openAt text i)) (length text) l))
+
+    from : OpenTooDeep text → So (tooDeep text)
+    from o =
+        let here = o .1 in
+        ⊎-elim (λ l. lt-ltb _ (length text) l)
+        (λ l. clash (lt-ltb mostOpen (openAt text (o .0)) (o .2)) (least-first (λ i. ltb mostOpen (openAt text i)) (length text) (o .0) (omega arith)))
+        (less-or-not (least (λ i. ltb mostOpen (openAt text i)) (length text)) (length text))
+
+module _ (q : Request) (bytes : List ℕ) (mean : LinesMean bytes (textIn q)) where
+  pub agree-text : (ls : List Line) (ks : List ℕ) → (NoneMeets (textLines (textIn q)) → Agree q ls ks)
+      → Agree q (textLines (textIn q) ++ ls) (5 ∷ 6 ∷ 7 ∷ ks)
+  agree-text ls ks rest = (
+    record {
+      number = refl;
+      named = refl;
+      placed = refl;
+      met = λ e. ⊎-elim (λ h. inl (eqb-true (length (textIn q)) 0 h)) (λ h. inr (ltb-true mostBytes (length (textIn q)) h))
+          (or-true (eqb (length (textIn q)) 0) (ltb mostBytes (length (textIn q))) e);
+      unmet = λ e p m. clash
+          (⊎-elim (λ h. or-left (eqb (length (textIn q)) 0) (ltb mostBytes (length (textIn q))) (eq-eqb (length (textIn q)) 0 h))
+          (λ h. or-right (eqb (length (textIn q)) 0) (ltb mostBytes (length (textIn q))) (lt-ltb mostBytes (length (textIn q)) h)) m) e;
+    },
+    λ five. (
+      record {
+        number = refl;
+        named = refl;
+        placed = refl;
+        met = λ e. mean .six .0 e;
+        unmet = λ e p m. clash (mean .six .1 m) e;
+      },
+      λ six. (
+        record {
+          number = refl;
+          named = refl;
+          placed = refl;
+          met = λ e. (read (textIn q), read-reads (textIn q) six, large (read (textIn q)) (mean .seven (read (textIn q)) (read-reads (textIn q) six) .0 e));
+          unmet = λ e p m. clash (mean .seven (m .0) (m .1) .1 (small (m .0) (m .2))) e;
+        },
+        λ seven. rest (five, (six, (seven, tt))),
+      ),
+    ),
+  )
+    where
+      large : (t : Text) → (mostNodes < nodes t) ⊎ So (tooDeep (textIn q)) → (mostNodes < nodes t) ⊎ OpenTooDeep (textIn q)
+      large t (inl h) = inl h
+      large t (inr h) = inr (deep-open (textIn q) .0 h)
+
+      small : (t : Text) → (mostNodes < nodes t) ⊎ OpenTooDeep (textIn q) → (mostNodes < nodes t) ⊎ So (tooDeep (textIn q))
+      small t (inl h) = inl h
+      small t (inr h) = inr (deep-open (textIn q) .1 h)
+
+-- ---- readings that stand in for a recording
+
+-- `held` is accepted, as empty as `full`, and no reading of the text tells them apart
+pub record InPlace (full held text : List ℕ) : Type 0 where
+  pub accepted : Accepted held
+  pub empty : (length (records held) ≡ 0) ↔ (length (records full) ≡ 0)
+  pub same : noRecord held .meets ≡ false → NoneMeets (textLines text) → (t : Text) → ReadsWhole text t → Same (readings held) (readings full) t
+
+-- a recording in its own place
+pub in-its-place : (bytes text : List ℕ) → Accepted bytes → InPlace bytes bytes text
+in-its-place bytes text a = record {
+  accepted = a;
+  empty = (λ e. e, λ e. e);
+  same = λ some n t r. record { truth = λ z. (λ h. h, λ h. h); eight = (λ h. h, λ h. h); nine = (λ h. h, λ h. h) };
+}
+
+module _ (full held text : List ℕ) (place : InPlace full held text) where
+  -- 4
+  agree-four : (q : Request) → recordingIn q ≡ full → (ls : List Line) (ks : List ℕ) → (noRecord held .meets ≡ false → Agree q ls ks) → Agree q (noRecord held ∷ ls) (4 ∷ ks)
+  agree-four q e ls ks rest = (
+    record {
+      number = refl;
+      named = refl;
+      placed = refl;
+      met = λ h. subst (λ (b : List ℕ). length (records b) ≡ 0) (sym e) (place .empty .0 (eqb-true (length (records held)) 0 h));
+      unmet = λ h p m. clash (eq-eqb (length (records held)) 0 (place .empty .1 (subst (λ (b : List ℕ). length (records b) ≡ 0) e m))) h;
+    },
+    rest,
+  )
+
+  module _ (some : noRecord held .meets ≡ false) (sized : NoneMeets (textLines text)) where
+    mean : LinesMean held text
+    mean = lines-mean held text (place .accepted) some
+
+    reads : ReadsWhole text (read text)
+    reads = read-reads text (sized .1 .0)
+
+    as-full : (t : Text) → ReadsWhole text t → Same (readings held) (readings full) t
+    as-full = place .same some sized
+
+    nine-met : refused9 (coded held) (read text) ≡ true → (t : Text) × ReadsWhole text t × OverTops (readings full) t
+    nine-met e = (read text, reads, as-full (read text) reads .nine .0 (mean .nine (read text) reads .0 e))
+
+    nine-unmet : refused9 (coded held) (read text) ≡ false → ¬ ((t : Text) × ReadsWhole text t × OverTops (readings full) t)
+    nine-unmet e m = clash (mean .nine (m .0) (m .1) .1 (as-full (m .0) (m .1) .nine .1 (m .2))) e
+
+    eight-met : refused8 (coded held) (read text) ≡ true → (t : Text) × ReadsWhole text t × Overfull (readings full) t
+    eight-met e = (read text, reads, as-full (read text) reads .eight .0 (mean .eight (read text) reads .0 e))
+
+    eight-unmet : refused8 (coded held) (read text) ≡ false → ¬ ((t : Text) × ReadsWhole text t × Overfull (readings full) t)
+    eight-unmet e m = clash (mean .eight (m .0) (m .1) .1 (as-full (m .0) (m .1) .eight .1 (m .2))) e
+
+    -- the answered set is the set that the text means of the full recording
+    pub answer-is : IsSet (answer held text) (readings full) (read text) 0
+    answer-is n l =
+        let h = val-holds (readings held) (accepted-recorded held (place .accepted) .in-range) n (read text) 0 (omega arith) in
+        let s = as-full (read text) reads .truth (whole n) in
+        (λ e. s .0 (h .0 e), λ e. h .1 (s .1 e))
+
+    same-count : (t : Text) → ReadsWhole text t → (f : ℕ → Bool) → IsSet f (readings full) t 0 → runCount f ≡ runCount (answer held text)
+    same-count t r f s =
+        runCount-ext f (answer held text) (λ n l.
+        same (f n) (answer held text n)
+        (λ e. answer-is n l .1 (subst (λ (p : Text). Holds (readings full) (whole n) p 0) (sym (reads-read text t r)) (s n l .0 e)))
+        (λ e. s n l .1 (subst (λ (p : Text). Holds (readings full) (whole n) p 0) (reads-read text t r) (answer-is n l .0 e))))
+
+    agree-sets : (room : ℕ) → Agree (question full text room) (setLines held (read text) ++ (outputLine room (setBytes (answer held text)) ∷ [])) (9 ∷ 8 ∷ 10 ∷ [])
+    agree-sets room = (
+      record { number = refl; named = refl; placed = refl; met = nine-met; unmet = λ e p. nine-unmet e },
+      λ nine. (
+        record { number = refl; named = refl; placed = refl; met = eight-met; unmet = λ e p. eight-unmet e },
+        λ eight. (
+          record {
+            number = refl;
+            named = refl;
+            placed = refl;
+            met = λ e. (
+              read text,
+              reads,
+              (
+                answer held text,
+                answer-is,
+                (let h = ltb-true room (length (setBytes (answer held text))) e in omega (arith, setBytes-length (answer held text))),
+              ),
+            );
+            unmet = λ e p m.
+                let h = ltb-false room (length (setBytes (answer held text))) e in
+                let c = same-count (m .0) (m .1) (m .2 .0) (m .2 .1) in
+                let l = m .2 .2 in
+                omega (arith, setBytes-length (answer held text));
+          },
+          λ ten. tt,
+        ),
+      ),
+    )
+
+  -- THE QUESTION CALL, of what stands in for the recording: 4 to 10
+  pub agree-asked : (room : ℕ)
+      → Agree (question full text room) (noRecord held ∷ textLines text ++ (setLines held (read text) ++ (outputLine room (setBytes (answer held text)) ∷ []))) acceptedOrder
+  agree-asked room =
+      agree-four (question full text room) refl (textLines text ++ (setLines held (read text) ++ (outputLine room (setBytes (answer held text)) ∷ [])))
+      (5 ∷ 6 ∷ 7 ∷ 9 ∷ 8 ∷ 10 ∷ [])
+      (λ some. agree-text (question full text room) held (lines-mean held text (place .accepted) some)
+      (setLines held (read text) ++ (outputLine room (setBytes (answer held text)) ∷ [])) (9 ∷ 8 ∷ 10 ∷ []) (λ sized. agree-sets some sized room))
+
+-- ---- the question call
+
+pub agree-question : (bytes text : List ℕ) (room : ℕ)
+    → Agree (question bytes text room) (askingLines bytes text ++ (setLines bytes (read text) ++ (outputLine room (setBytes (answer bytes text)) ∷ []))) (order (question bytes text room))
+agree-question bytes text room =
+    agree-recording (question bytes text room)
+    (noRecord bytes ∷ textLines text ++ (setLines bytes (read text) ++ (outputLine room (setBytes (answer bytes text)) ∷ []))) acceptedOrder
+    (λ a. agree-asked bytes bytes text (in-its-place bytes text a) room)
+
+-- ---- 12: the axis
+
+pub on-axis : (z : ℤ) → (offAxis z ≡ false) ↔ OfAxis z
+on-axis (pos n) = (
+  λ e. (leZ-yes tt, leZ-yes (le→leb n 2000000000 (ltb-false 2000000000 n e))),
+  λ h. le-ltb 2000000000 n (leb→le n 2000000000 (h .1 .le)),
+)
+on-axis (negsuc n) = (
+  λ e. (leZ-yes (le→leb n 1999999999 (ltb-false 1999999999 n (both-off (ltb 1999999999 n) false e .0))), leZ-yes tt),
+  λ h. or-none (le-ltb 1999999999 n (leb→le n 1999999999 (h .0 .le))) refl,
+)
+
+off-axis : (z : ℤ) → offAxis z ≡ true → ¬ OfAxis z
+off-axis z e h = clash e (on-axis z .1 h)
+
+-- ---- the degree call
+
+pub agree-degree : (bytes text : List ℕ) (target : ℤ)
+    → Agree (degree bytes text target) (askingLines bytes text ++ (targetLine target ∷ setLines bytes (read text))) (order (degree bytes text target))
+agree-degree bytes text target =
+    agree-recording q (noRecord bytes ∷ textLines text ++ (targetLine target ∷ setLines bytes (read text))) (4 ∷ 5 ∷ 6 ∷ 7 ∷ 12 ∷ 9 ∷ 8 ∷ [])
+    (λ a. agree-four bytes bytes text (in-its-place bytes text a) q refl (textLines text ++ (targetLine target ∷ setLines bytes (read text))) (5 ∷ 6 ∷ 7 ∷ 12 ∷ 9 ∷ 8 ∷ [])
+    (λ some. agree-text q bytes (lines-mean bytes text a some) (targetLine target ∷ setLines bytes (read text)) (12 ∷ 9 ∷ 8 ∷ [])
+    (λ sized. rest (in-its-place bytes text a) some sized)))
+  where
+    q : Request
+    q = degree bytes text target
+
+    rest : InPlace bytes bytes text → noRecord bytes .meets ≡ false → NoneMeets (textLines text) → Agree q (targetLine target ∷ setLines bytes (read text)) (12 ∷ 9 ∷ 8 ∷ [])
+    rest place some sized = (
+      record { number = refl; named = refl; placed = refl; met = λ e. off-axis target e; unmet = λ e p m. m (on-axis target .0 e) },
+      λ twelve. (
+        record { number = refl; named = refl; placed = refl; met = nine-met bytes bytes text place some sized; unmet = λ e p. nine-unmet bytes bytes text place some sized e },
+        λ nine. (
+          record { number = refl; named = refl; placed = refl; met = eight-met bytes bytes text place some sized; unmet = λ e p. eight-unmet bytes bytes text place some sized e },
+          λ eight. tt,
+        ),
+      ),
+    )
+
+-- ---- the pair call
+
+pub agree-pair : (bytes : List ℕ) (curve : ℕ) (target : ℤ) → Agree (pair bytes curve target) (pairLines bytes curve target) (order (pair bytes curve target))
+agree-pair bytes curve target =
+    agree-recording (pair bytes curve target) (acceptedLines bytes curve target) (4 ∷ 12 ∷ 9 ∷ []) (λ a. (
+      record {
+        number = refl;
+        named = refl;
+        placed = refl;
+        met = λ e. eqb-true (length (records bytes)) 0 e;
+        unmet = λ e p m. clash (eq-eqb (length (records bytes)) 0 m) e;
+      },
+      λ four. (
+        record {
+          number = refl;
+          named = refl;
+          placed = refl;
+          met = λ e. ⊎-elim (λ h. inl (ltb-true 1 curve h)) (λ h. inr (off-axis target h)) (or-true (ltb 1 curve) (offAxis target) e);
+          unmet = λ e p m. let o = both-off (ltb 1 curve) (offAxis target) e in ⊎-elim (λ h. clash (lt-ltb 1 curve h) (o .0)) (λ h. h (on-axis target .0 (o .1))) m;
+        },
+        λ twelve. (
+          record {
+            number = refl;
+            named = refl;
+            placed = refl;
+            met = λ e. ltb-true mostTops (length (pick (top (curveOf curve)) (readings bytes))) e;
+            unmet = λ e p m. clash (lt-ltb mostTops (length (pick (top (curveOf curve)) (readings bytes))) m) e;
+          },
+          λ nine. tt,
+        ),
+      ),
+    ))
+
+-- ---- the thinning call
+
+some-there : (ks : List ℕ) → some (ltb latestMark) ks ≡ true → (k : ℕ) × List·Memᴰ k ks × (latestMark < k)
+some-there [] e = absurd (false≢true e)
+some-there (k ∷ ks) e =
+    ⊎-elim (λ h. (k, List·Memᴰ·head refl, ltb-true latestMark k h)) (λ h. let r = some-there ks h in (r .0, List·Memᴰ·tail (r .1), r .2))
+    (or-true (ltb latestMark k) (some (ltb latestMark) ks) e)
+
+there-some : (ks : List ℕ) (k : ℕ) → List·Memᴰ k ks → latestMark < k → some (ltb latestMark) ks ≡ true
+there-some [] k m h = absurd (List·Memᴰ·not-nil m)
+there-some (j ∷ ks) k m h = ⊎-elim
+    (λ (e : k ≡ j). or-left (ltb latestMark j) (some (ltb latestMark) ks) (lt-ltb latestMark j (omega arith)))
+    (λ i. or-right (ltb latestMark j) (some (ltb latestMark) ks) (there-some ks k i h)) (List·Memᴰ·cases-cons m)
+
+pub agree-marks : (bytes marks : List ℕ) (room : ℕ) → Agrees (thin bytes marks room) (marksLine marks) 11
+agree-marks bytes marks room = record {
+  number = refl;
+  named = refl;
+  placed = refl;
+  met = λ e. ⊎-elim (λ h. inl (λ z. clash (eq-eqb (length marks % 4) 0 z) (not-true _ h)))
+      (λ h. inr (⊎-elim (λ i. inl (ltb-true mostMarks (length marks / 4) i)) (λ i. inr (some-there (marksOf marks) i))
+      (or-true (ltb mostMarks (length marks / 4)) (some (ltb latestMark) (marksOf marks)) h)))
+      (or-true (not (eqb (length marks % 4) 0)) (ltb mostMarks (length marks / 4) || some (ltb latestMark) (marksOf marks)) e);
+  unmet = λ e p m.
+      let o = both-off (not (eqb (length marks % 4) 0)) (ltb mostMarks (length marks / 4) || some (ltb latestMark) (marksOf marks)) e in
+      let i = both-off (ltb mostMarks (length marks / 4)) (some (ltb latestMark) (marksOf marks)) (o .1) in
+      ⊎-elim (λ h. h (eqb-true (length marks % 4) 0 (not-false _ (o .0))))
+      (λ h. ⊎-elim (λ n. clash (lt-ltb mostMarks (length marks / 4) n) (i .0)) (λ t. clash (there-some (marksOf marks) (t .0) (t .1) (t .2)) (i .1)) h) m;
+}
+
+pub agree-thin : (bytes marks : List ℕ) (room : ℕ)
+    → Agree (thin bytes marks room) (recordingLines bytes ++ marksLine marks ∷ outputLine room (keptBytes (marksOf marks) bytes) ∷ []) (order (thin bytes marks room))
+agree-thin bytes marks room =
+    agree-recording (thin bytes marks room) (marksLine marks ∷ outputLine room (keptBytes (marksOf marks) bytes) ∷ []) (11 ∷ 10 ∷ []) (λ a. (
+      agree-marks bytes marks room,
+      λ eleven. (
+        record {
+          number = refl;
+          named = refl;
+          placed = refl;
+          met = λ e. ltb-true room (length (keptBytes (marksOf marks) bytes)) e;
+          unmet = λ e p m. clash (lt-ltb room (length (keptBytes (marksOf marks) bytes)) m) e;
+        },
+        λ ten. tt,
+      ),
+    ))

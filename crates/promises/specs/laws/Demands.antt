@@ -1,0 +1,476 @@
+-- THE THREE DEMANDS, proved of every call that meets its contract.
+use Prim.Native.Nat.{ℕ, suc, _+_, _*_, _-_, _/_, _%_, _≤_, _<_}
+use native.Mathlib.Omega.{arith}
+use mathlib.Core.Path.{_≡_, refl, sym, ap, ap₂, subst, _∙_}
+use mathlib.Core.Bool.{Bool, true, false, cond, false≢true, true≢false}
+use mathlib.Core.Logic.{_↔_, ⊎-elim}
+use mathlib.Core.List.{List, [], _∷_, _++_, map, List·Memᴰ, List·Memᴰ·head, List·Memᴰ·tail, List·Memᴰ·not-nil, List·Memᴰ·cases-cons}
+use lib.Dec.{eqb, ltb, leb→le}
+use lib.IntN.{ℤ, pos, negsuc}
+use lib.ListN.{length, take, drop}
+use lib.Signed.{_≤ℤ_}
+use lib.Seq.{take-append-seam, drop-append-seam}
+use borrow.Author.Tests.{eqb-true, eq-eqb, ne-eqb}
+use Rattle.number.specs.Axis.{axis, origin, whole}
+use Rattle.number.specs.Least.{least}
+use Rattle.refusal.specs.Outcome.{Outcome, result, refused, Line, judged, NoneMeets}
+use Rattle.refusal.specs.Numbers.{numberOf, placeOf}
+use Rattle.refusal.specs.declared.Refusal.the-variants.{BadMarks}
+use Rattle.recording.specs.Recording.{records, readings, firstBad, Accepted, recordingLines, noRecord}
+use Rattle.recording.specs.Output.{counted, outputAfter, outputLine}
+use Rattle.recording.specs.laws.Outcome.{judged-pass, result-none, none-append, no-result}
+use Rattle.runset.specs.Runs.{setBytes}
+use Rattle.runset.specs.Written.{inBytes}
+use Rattle.runset.specs.laws.Runs.{setBytes-ext}
+use Rattle.runset.specs.laws.Written.{written-member, member-written}
+use Rattle.targets.specs.Target.{offAxis}
+use Rattle.targets.specs.laws.Target.{sub-above, sub-below}
+use Rattle.grammar.specs.Syntax.{Text}
+use Rattle.grammar.specs.Grammar.{ReadsWhole}
+use Rattle.text.specs.Told.{textLines}
+use Rattle.meaning.specs.Alike.{Plain}
+use Rattle.number.specs.laws.Boolean.{same}
+use Rattle.meaning.specs.Meaning.{Holds}
+use Rattle.question.specs.Question.{read, answer, askingLines, setLines, questionOf}
+use Rattle.question.specs.laws.Answer.{answered-accepted}
+use Rattle.question.specs.laws.Meant.{read-reads, reads-read}
+use Rattle.degree.specs.Nearest.{Near}
+use Rattle.degree.specs.laws.Nearest.{nearness-says}
+use Rattle.degree.specs.Degree.{Value, met, short, noValue, valueOf, targetLine, nearnessOf}
+use Rattle.meaning.specs.inner.Coded.{index}
+use Rattle.pair.specs.Pair.{Given, times, none, firstPair, pairLines, pairOf}
+use Rattle.tops.specs.Tops.{curveOf}
+use Rattle.thin.specs.Thin.{keptBytes, thinOf}
+use Rattle.marks.specs.Marks.{marksOf, marksLine, AcceptedMarks}
+use Rattle.thin.specs.Book.{Call, Left, leaves, thinned, heldNext, calls, heldAfter, entry, joinNext, book, joinAfter}
+use Rattle.thin.specs.laws.Book.{kept-join, taken, whole-next, as-the-book}
+use Rattle.thin.specs.Cut.{wholeFrom, CutBetween, LongEnough, allWritten}
+use Rattle.thin.specs.laws.Cut.{as-the-whole}
+use Rattle.reply.specs.Reply.{half, packed, InHalf, numberIn, lowIn, unpacked}
+use Rattle.reply.specs.laws.Unpacked.{Numbered, number-result, low-result, number-refused, low-refused, unpacked-packed}
+use Rattle.mill.specs.Boundary.{Writes, Degrees, QuestionCall, DegreeCall, PairCall, ThinCall, valueTold, distanceAfter, degreeAfter, told, earlierAfter, laterAfter}
+use Rattle.mill.specs.laws.Boundary.{thin-in-half, question-in-half, degree-place, pair-place}
+use Rattle.promises.specs.Table.{Request, question, degree, pair, thin, OfAxis, order, acceptedOrder, NoneMet, FirstMet}
+use Rattle.promises.specs.laws.Table.{number-bounds, Agree, Told, met-there, judged-told}
+use Rattle.promises.specs.laws.CallLines.{InPlace, in-its-place, answer-is, agree-asked, agree-question, agree-degree, agree-pair, agree-marks, agree-thin}
+use Rattle.promises.specs.laws.Operator.{unwritten-flat}
+use Rattle.promises.specs.StandIn.{StandIn}
+use Rattle.promises.specs.laws.StandIn.{stand-same, stand-question, kept-stands, kept-accepted}
+use Rattle.promises.specs.CallsMade.{Returned, readOff, CallsMade, heldAt, takenFrom}
+use Rattle.promises.specs.Demands.{ByTheTable, OneAnswer, Demand1, Fixed, SetWritten, Demand2, AskedOfKept, RightOf, EveryList, CutWhole, KeptLikeFull, Demand3, Demands}
+
+-- ---- DEMAND 1: the number that is returned
+
+module _ (q : Request) (ks : List ℕ) where
+  -- a packed outcome, judged by the table
+  judged-number : (o : Outcome ℕ) (r : ℕ) → r ≡ packed o → InHalf o → Told q ks o → ByTheTable q ks r
+  judged-number (result n) r e h t =
+      let z : numberIn r ≡ 0 = ap numberIn e ∙ number-result n h in
+      record { in-64-bits = omega arith; a-result = (λ k. t, λ k. z); a-refusal = λ k. absurd (k z) }
+  judged-number (refused n p) r e h t =
+      let k : numberIn r ≡ n = ap numberIn e ∙ number-refused n p h in
+      let b = number-bounds (t .0) in
+      let m = t .2 in
+      let there = met-there q ks (t .0) (t .1) in
+      record {
+        in-64-bits = omega arith;
+        a-result = (λ z. absurd (omega arith), λ none. absurd (none (t .0) (there .0) (there .1)));
+        a-refusal = λ z. (t .0, t .1, k ∙ t .2, ap lowIn e ∙ low-refused n p h ∙ t .3);
+      }
+
+  told-counted : (o : Outcome (List ℕ)) → Told q ks o → Told q ks (counted o)
+  told-counted (result b) t = t
+  told-counted (refused n p) t = t
+
+  told-numbered : (o : Outcome ℕ) → Told q ks o → Numbered o
+  told-numbered (result n) t = tt
+  told-numbered (refused n p) t = let b = number-bounds (t .0) in let m = t .2 in omega arith
+
+-- a call that writes bytes and is refused leaves its output
+kept-output : (o : Outcome (List ℕ)) (out : List ℕ) (r : ℕ) (after : List ℕ) → InHalf (counted o) → Writes o out r after → ¬ (numberIn r ≡ 0) → after ≡ out
+kept-output (result b) out r after h w k = absurd (k (ap numberIn (w .returned) ∙ number-result (length b) h))
+kept-output (refused n p) out r after h w k = w .output
+
+-- and one that is not leaves the bytes that it wrote, and behind them what was there
+wrote : (o : Outcome (List ℕ)) (out : List ℕ) (r : ℕ) (after : List ℕ) → InHalf (counted o) → Numbered (counted o) → Writes o out r after → numberIn r ≡ 0
+    → (b : List ℕ) × (o ≡ result b) × (lowIn r ≡ length b) × (take (lowIn r) after ≡ b) × (drop (lowIn r) after ≡ drop (lowIn r) out)
+wrote (result b) out r after h k w z =
+    let l : lowIn r ≡ length b = ap lowIn (w .returned) ∙ low-result (length b) h in (
+      b,
+      refl,
+      l,
+      ap₂ take l (w .output) ∙ take-append-seam b (drop (length b) out),
+      ap₂ drop l (w .output) ∙ drop-append-seam b (drop (length b) out) ∙ ap (λ (n : ℕ). drop n out) (sym l),
+    )
+wrote (refused n p) out r after h k w z = let e = ap numberIn (w .returned) ∙ number-refused n p h in absurd (omega arith)
+
+-- ---- DEMAND 1, of each call
+
+question-told : (bytes text : List ℕ) (room : ℕ) → Told (question bytes text room) (order (question bytes text room)) (questionOf bytes text room)
+unfolding questionOf
+question-told bytes text room =
+    judged-told (question bytes text room) (askingLines bytes text ++ (setLines bytes (read text) ++ (outputLine room (setBytes (answer bytes text)) ∷ [])))
+    (order (question bytes text room)) (setBytes (answer bytes text)) (agree-question bytes text room)
+
+thin-told : (bytes marks : List ℕ) (room : ℕ) → Told (thin bytes marks room) (order (thin bytes marks room)) (thinOf bytes marks room)
+unfolding thinOf
+thin-told bytes marks room =
+    judged-told (thin bytes marks room) (recordingLines bytes ++ marksLine marks ∷ outputLine room (keptBytes (marksOf marks) bytes) ∷ [])
+    (order (thin bytes marks room)) (keptBytes (marksOf marks) bytes) (agree-thin bytes marks room)
+
+-- a call that writes bytes
+writes-answered : (q : Request) (o : Outcome (List ℕ)) (out : List ℕ) (r : ℕ) (after : List ℕ) → Told q (order q) o → InHalf (counted o) → Writes o out r after
+    → OneAnswer q r out after
+writes-answered q o out r after t h w = record {
+  result-or-refusal = judged-number q (order q) (counted o) r (w .returned) h (told-counted q (order q) o t);
+  refusal-writes-nothing = kept-output o out r after h w;
+}
+
+degree-told : (bytes text : List ℕ) (target : ℤ) → Told (degree bytes text target) (order (degree bytes text target)) (nearnessOf bytes text target)
+unfolding nearnessOf
+degree-told bytes text target =
+    judged-told (degree bytes text target) (askingLines bytes text ++ (targetLine target ∷ setLines bytes (read text))) (order (degree bytes text target))
+    (valueOf (answer bytes text) (index target)) (agree-degree bytes text target)
+
+-- the two places of the degree call
+degree-answered : (bytes text : List ℕ) (target : ℤ) (distance degree′ r first second : ℕ) → DegreeCall bytes text target distance degree′ r first second
+    → OneAnswer (degree bytes text target) r (distance ∷ degree′ ∷ []) (first ∷ second ∷ [])
+degree-answered bytes text target distance degree′ r first second d =
+    go (nearnessOf bytes text target) refl (degree-told bytes text target) (d .returned) (d .first-place) (d .second-place)
+  where
+    q : Request
+    q = degree bytes text target
+
+    go : (o : Outcome Value) → nearnessOf bytes text target ≡ o → Told q (order q) o → r ≡ packed (valueTold o) → first ≡ distanceAfter o distance
+        → second ≡ degreeAfter o degree′ → OneAnswer q r (distance ∷ degree′ ∷ []) (first ∷ second ∷ [])
+    go (result met) e t p f s = record { result-or-refusal = judged-number q (order q) (result 0) r p (omega arith) t; refusal-writes-nothing = λ k. absurd (k (ap numberIn p)) }
+    go (result (short d k)) e t p f s = record { result-or-refusal = judged-number q (order q) (result 1) r p (omega arith) t; refusal-writes-nothing = λ k. absurd (k (ap numberIn p)) }
+    go (result noValue) e t p f s = record { result-or-refusal = judged-number q (order q) (result 2) r p (omega arith) t; refusal-writes-nothing = λ k. absurd (k (ap numberIn p)) }
+    go (refused n i) e t p f s =
+        record { result-or-refusal = judged-number q (order q) (refused n i) r p (degree-place bytes text target n i e) t; refusal-writes-nothing = λ k. ap₂ (λ (x y : ℕ). x ∷ y ∷ []) f s }
+
+pair-told : (bytes : List ℕ) (curve : ℕ) (target : ℤ) → Told (pair bytes curve target) (order (pair bytes curve target)) (pairOf bytes curve target)
+unfolding pairOf
+pair-told bytes curve target =
+    judged-told (pair bytes curve target) (pairLines bytes curve target) (order (pair bytes curve target)) (firstPair (readings bytes) (curveOf curve) target)
+    (agree-pair bytes curve target)
+
+-- and of the pair call
+pair-answered : (bytes : List ℕ) (curve : ℕ) (target : ℤ) (earlier later r first second : ℕ) → PairCall bytes curve target earlier later r first second
+    → OneAnswer (pair bytes curve target) r (earlier ∷ later ∷ []) (first ∷ second ∷ [])
+pair-answered bytes curve target earlier later r first second c =
+    go (pairOf bytes curve target) refl (pair-told bytes curve target) (c .returned) (c .first-place) (c .second-place)
+  where
+    q : Request
+    q = pair bytes curve target
+
+    go : (o : Outcome Given) → pairOf bytes curve target ≡ o → Told q (order q) o → r ≡ packed (told o) → first ≡ earlierAfter o earlier
+        → second ≡ laterAfter o later → OneAnswer q r (earlier ∷ later ∷ []) (first ∷ second ∷ [])
+    go (result (times t u)) e h p f s = record { result-or-refusal = judged-number q (order q) (result 1) r p (omega arith) h; refusal-writes-nothing = λ k. absurd (k (ap numberIn p)) }
+    go (result none) e h p f s = record { result-or-refusal = judged-number q (order q) (result 0) r p (omega arith) h; refusal-writes-nothing = λ k. absurd (k (ap numberIn p)) }
+    go (refused n i) e h p f s =
+        record { result-or-refusal = judged-number q (order q) (refused n i) r p (pair-place bytes curve target n i e) h; refusal-writes-nothing = λ k. ap₂ (λ (x y : ℕ). x ∷ y ∷ []) f s }
+
+demand-1 : Demand1
+demand-1 = record {
+  of-question = λ {recording} {text} {out} {r} {after} w.
+      writes-answered (question recording text (length out)) (questionOf recording text (length out)) out r after (question-told recording text (length out)) (question-in-half recording text (length out)) w;
+  of-degree = λ {recording} {text} {target} {distance} {value} {r} {distance-after} {value-after} d. degree-answered recording text target distance value r distance-after value-after d;
+  of-pair = λ {recording} {curve} {target} {earlier} {later} {r} {earlier-after} {later-after} c. pair-answered recording curve target earlier later r earlier-after later-after c;
+  of-thin = λ {recording} {marks} {out} {r} {after} w.
+      writes-answered (thin recording marks (length out)) (thinOf recording marks (length out)) out r after (thin-told recording marks (length out)) (thin-in-half recording marks (length out)) w;
+}
+
+-- ---- DEMAND 2
+
+-- a whole number of the axis has an index
+index-of : (z : ℤ) → OfAxis z → (n : ℕ) × (n < axis) × (whole n ≡ z)
+index-of (pos n) h =
+    let b : n ≤ 2000000000 = leb→le n 2000000000 (h .1 .le) in
+    let e : n + origin - origin ≡ n = omega arith in
+    (n + origin, omega arith, sub-above (n + origin) origin (omega arith) ∙ ap pos e)
+index-of (negsuc n) h =
+    let b : n ≤ 1999999999 = leb→le n 1999999999 (h .0 .le) in
+    let e : origin - suc (origin - suc n) ≡ n = omega arith in
+    (origin - suc n, omega arith, sub-below (origin - suc n) origin (omega arith) ∙ ap negsuc e)
+
+-- what stands in for a recording answers what the text means of it
+module _ (full held text : List ℕ) (place : InPlace full held text) (room : ℕ) where
+  abbrev asked : List Line
+  asked = textLines text ++ (setLines held (read text) ++ (outputLine room (setBytes (answer held text)) ∷ []))
+
+  question-of-held : questionOf held text room ≡ judged (noRecord held ∷ asked) (setBytes (answer held text))
+  unfolding questionOf
+  question-of-held = judged-pass (recordingLines held) (noRecord held ∷ asked) (setBytes (answer held text)) (place .accepted)
+
+  stood-told : Told (question full text room) acceptedOrder (questionOf held text room)
+  stood-told = subst (Told (question full text room) acceptedOrder) (sym question-of-held)
+      (judged-told (question full text room) (noRecord held ∷ asked) acceptedOrder (setBytes (answer held text)) (agree-asked full held text place room))
+
+  stood-fixed : (written : List ℕ) → questionOf held text room ≡ result written → Fixed full text written
+  stood-fixed written e =
+      let k = result-none (noRecord held ∷ asked) (setBytes (answer held text)) written (sym question-of-held ∙ e) in
+      let some : noRecord held .meets ≡ false = k .0 .0 in
+      let sized : NoneMeets (textLines text) = none-append (textLines text) (setLines held (read text) ++ (outputLine room (setBytes (answer held text)) ∷ [])) (k .0 .1) .0 in
+      record {
+        tree = read text;
+        reads = read-reads text (sized .1 .0);
+        only = λ t r. sym (reads-read text t r);
+        members = λ z h.
+            let n = index-of z h in
+            let s = answer-is full held text place some sized (n .0) (n .1) in
+            subst (λ (v : ℤ). inBytes written v ↔ Holds (readings full) v (read text) 0) (n .2)
+            (subst (λ (b : List ℕ). inBytes b (whole (n .0)) ↔ Holds (readings full) (whole (n .0)) (read text) 0) (k .1) (
+              λ w. s .0 (member-written (answer held text) (n .0) (n .1) w),
+              λ w. written-member (answer held text) (n .0) (n .1) (s .1 w),
+            ));
+        runs = λ f is. sym (k .1) ∙ setBytes-ext (answer held text) f (λ n l.
+            same (answer held text n) (f n) (λ e. is n l .1 (answer-is full held text place some sized n l .0 e))
+            (λ e. answer-is full held text place some sized n l .1 (is n l .0 e)));
+      }
+
+written-set : (recording text out : List ℕ) (r : ℕ) (after : List ℕ) → QuestionCall recording text out r after → numberIn r ≡ 0 → SetWritten recording text out r after
+written-set recording text out r after w z =
+    let o : Outcome (List ℕ) = questionOf recording text (length out) in
+    let q : Request = question recording text (length out) in
+    let b = wrote o out r after (question-in-half recording text (length out))
+    (told-numbered q (order q) (counted o) (told-counted q (order q) o (question-told recording text (length out)))) w z in
+    record {
+      set = subst (Fixed recording text) (sym (b .3)) (stood-fixed recording recording text (own recording text (b .0) (b .1)) (length out) (b .0) (b .1));
+      behind = b .4;
+    }
+  where
+    own : (recording text written : List ℕ) → questionOf recording text (length out) ≡ result written → InPlace recording recording text
+    own recording text written e = in-its-place recording text (answered-accepted recording text (length out) written e)
+
+degree-meant : (recording text : List ℕ) (target : ℤ) (distance value r first second : ℕ) → DegreeCall recording text target distance value r first second → numberIn r ≡ 0
+    → (x : Value) × Near recording text (index target) x × Degrees (result x) distance value r first second
+degree-meant recording text target distance value r first second d z = go (nearnessOf recording text target) refl
+  where
+    go : (o : Outcome Value) → nearnessOf recording text target ≡ o → (x : Value) × Near recording text (index target) x × Degrees (result x) distance value r first second
+    go (result x) e =
+        (x, nearness-says recording text target x e .2, subst (λ (o : Outcome Value). Degrees o distance value r first second) e d)
+    go (refused n p) e =
+        let q : Request = degree recording text target in
+        let t : Told q (order q) {R = Value} (refused n p) = subst (λ (o : Outcome Value). Told q (order q) o) e (degree-told recording text target) in
+        let b = number-bounds (t .0) in
+        let m = t .2 in
+        let k : numberIn r ≡ n = ap numberIn (d .returned ∙ ap (λ (o : Outcome Value). packed (valueTold o)) e) ∙ number-refused n p (degree-place recording text target n p e) in
+        absurd (omega arith)
+
+-- ---- DEMAND 3: lists of calls
+
+-- what a call leaves is what the definition of thinning gives
+read-thinned : (marks held : List ℕ) (c : Call) (x : Returned) → ThinCall (held ++ c .piece) marks (c .output) (x .returned) (x .output) → readOff x ≡ thinned marks held c
+read-thinned marks held c x w =
+    let bytes : List ℕ = held ++ c .piece in
+    let room : ℕ = length (c .output) in
+    let q : Request = thin bytes marks room in
+    let o : Outcome (List ℕ) = thinOf bytes marks room in
+    let e : unpacked (x .returned) ≡ counted o = ap unpacked (w .returned)
+    ∙ unpacked-packed (counted o) (thin-in-half bytes marks room) (told-numbered q (order q) (counted o) (told-counted q (order q) o (thin-told bytes marks room))) in
+    ap₂ (λ (a : Outcome ℕ) (b : List ℕ). record { answer = a; output = b }) e (w .output)
+
+thinned-calls : (marks held : List ℕ) (cs : List Call) (xs : List Returned) → CallsMade marks held cs xs
+    → (map readOff xs ≡ calls marks held cs) × (heldAt held xs ≡ heldAfter marks held cs)
+thinned-calls marks held [] [] t = (refl, refl)
+thinned-calls marks held [] (x ∷ xs) t = absurd t
+thinned-calls marks held (c ∷ cs) [] t = absurd t
+thinned-calls marks held (c ∷ cs) (x ∷ xs) t =
+    let e = read-thinned marks held c x (t .0) in
+    let k = thinned-calls marks (heldNext held (readOff x)) cs xs (t .1) in
+    let n : heldNext held (readOff x) ≡ heldNext held (thinned marks held c) = ap (heldNext held) e in (
+      ap₂ (λ (y : Left) (ys : List Left). y ∷ ys) e (k .0 ∙ ap (λ (h : List ℕ). calls marks h cs) n),
+      k .1 ∙ ap (λ (h : List ℕ). heldAfter marks h cs) n,
+    )
+
+-- ---- DEMAND 3: kept readings in the place of the recording
+
+asked-plain : (marks text : List ℕ) → AskedOfKept marks text → (t : Text) → ReadsWhole text t → Plain (marksOf marks) t
+asked-plain marks text l t r = record { flat = unwritten-flat text t r (l .none-written); marked = l .marked t r }
+
+-- a stand-in is in the recording's place for every such text
+in-place : (marks full held text : List ℕ) → StandIn (marksOf marks) full held → AskedOfKept marks text → InPlace full held text
+in-place marks full held text s l = record {
+  accepted = s .accepted;
+  empty = s .empty;
+  same = λ some sized t r. stand-same (marksOf marks) full held s some t (asked-plain marks text l t r);
+}
+
+stands-in : (full held text out : List ℕ) → InPlace full held text → (r : ℕ) (after : List ℕ) → QuestionCall held text out r after
+    → RightOf full text out acceptedOrder r after
+stands-in full held text out place r after w =
+    let o : Outcome (List ℕ) = questionOf held text (length out) in
+    let q : Request = question full text (length out) in
+    let t : Told q acceptedOrder (counted o) = told-counted q acceptedOrder o (stood-told full held text place (length out)) in
+    let h : InHalf (counted o) = question-in-half held text (length out) in
+    record {
+      refusal = judged-number q acceptedOrder (counted o) r (w .returned) h t;
+      set = λ z. let b = wrote o out r after h (told-numbered q acceptedOrder (counted o) t) w z in
+          subst (Fixed full text) (sym (b .3)) (stood-fixed full held text place (length out) (b .0) (b .1));
+    }
+
+-- what a list of calls holds is accepted
+accepted-after : (ks : List ℕ) (cs : List Call) (join : List ℕ) → length join % 16 ≡ 0 → Accepted (keptBytes ks join) → Accepted (keptBytes ks (joinAfter ks join cs))
+accepted-after ks [] join h a = a
+accepted-after ks (c ∷ cs) join h a =
+    let o : Outcome (List ℕ) = entry ks join c in
+    accepted-after ks cs (joinNext join c o) (whole-next ks join c h o refl) (next o refl)
+  where
+    next : (o : Outcome (List ℕ)) → entry ks join c ≡ o → Accepted (keptBytes ks (joinNext join c o))
+    next (refused n p) e = a
+    next (result bytes) e = subst Accepted (kept-join ks join (c .piece) h) (kept-accepted ks (keptBytes ks join ++ c .piece) (taken ks join c bytes e .accepted))
+
+nothing-accepted : (ks : List ℕ) → Accepted (keptBytes ks [])
+unfolding keptBytes firstBad least
+nothing-accepted ks = (refl, (refl, (refl, tt)))
+
+-- ---- DEMAND 3: marks that 11 refuses
+
+bad-calls : (marks : List ℕ) → marksLine marks .meets ≡ true → (cs : List Call) (xs : List Returned) → CallsMade marks [] cs xs
+    → ((x : Returned) → List·Memᴰ x xs → ¬ (numberIn (x .returned) ≡ 0)) × (heldAt [] xs ≡ [])
+bad-calls marks bad [] [] t = (λ x m. absurd (List·Memᴰ·not-nil m), refl)
+bad-calls marks bad [] (x ∷ xs) t = absurd t
+bad-calls marks bad (c ∷ cs) [] t = absurd t
+bad-calls marks bad (c ∷ cs) (x ∷ xs) t =
+    let not-0 : ¬ (numberIn (x .returned) ≡ 0) = λ z. demand-1 .of-thin (t .0) .result-or-refusal .a-result .0 z BadMarks
+    (List·Memᴰ·tail (List·Memᴰ·tail (List·Memᴰ·tail (List·Memᴰ·head refl)))) (agree-marks (c .piece) marks (length (c .output)) .met bad) in
+    let none-held : heldNext [] (readOff x) ≡ [] = ap (λ (b : Bool). heldNext [] (record {
+      answer = cond b (result (lowIn (x .returned))) (refused (numberIn (x .returned)) (lowIn (x .returned)));
+      output = x .output;
+    })) (ne-eqb (numberIn (x .returned)) 0 not-0) in
+    let k = bad-calls marks bad cs xs (subst (λ (h : List ℕ). CallsMade marks h cs xs) none-held (t .1)) in (
+      λ y m. ⊎-elim (λ (e : y ≡ x). λ z. not-0 (ap (λ (w : Returned). numberIn (w .returned)) (sym e) ∙ z)) (λ i. k .0 y i) (List·Memᴰ·cases-cons m),
+      ap (λ (h : List ℕ). heldAt h xs) none-held ∙ k .1,
+    )
+
+-- ---- DEMAND 3: kept as full
+
+module _ (marks recording text : List ℕ) (a : Accepted recording) (l : AskedOfKept marks text) where
+  kept-same : (room : ℕ) → questionOf (keptBytes (marksOf marks) recording) text room ≡ questionOf recording text room
+  kept-same room =
+      stand-question marks recording (keptBytes (marksOf marks) recording) (kept-stands (marksOf marks) recording (kept-accepted (marksOf marks) recording a)) a text
+      (λ n. asked-plain marks text l (read text) (read-reads text (n .1 .0))) room
+
+  kept-call : (out : List ℕ) (r : ℕ) (after : List ℕ) → QuestionCall (keptBytes (marksOf marks) recording) text out r after → QuestionCall recording text out r after
+  kept-call out r after w = subst (λ (o : Outcome (List ℕ)). Writes o out r after) (kept-same (length out)) w
+
+-- two calls alike in all but their outputs, which have one length
+same-written : (recording text out out′ : List ℕ) (r r′ : ℕ) (after after′ : List ℕ) → length out ≡ length out′ → QuestionCall recording text out r after
+    → QuestionCall recording text out′ r′ after′ → (r ≡ r′) × (numberIn r ≡ 0 → take (lowIn r) after ≡ take (lowIn r) after′)
+same-written recording text out out′ r r′ after after′ e w w′ = (
+  same,
+  λ z.
+      let b = bytes-of out r after w z in
+      let b′ = bytes-of out′ r′ after′ w′ (ap numberIn (sym same) ∙ z) in
+      let q : questionOf recording text (length out) ≡ questionOf recording text (length out′) = ap (questionOf recording text) e in
+      let x = b .1 in
+      let y = b′ .1 in
+      let s : b .0 ≡ b′ .0 = same-bytes (b .0) (b′ .0) (sym x ∙ q ∙ y) in
+      b .3 ∙ s ∙ sym (b′ .3) ∙ ap (λ (n : ℕ). take (lowIn n) after′) (sym same),
+)
+  where
+    same : r ≡ r′
+    same = w .returned ∙ ap (λ (n : ℕ). packed (counted (questionOf recording text n))) e ∙ sym (w′ .returned)
+
+    same-bytes : (x y : List ℕ) → result x ≡ result y → x ≡ y
+    same-bytes x y e = cc
+
+    bytes-of : (out : List ℕ) (r : ℕ) (after : List ℕ) → QuestionCall recording text out r after → numberIn r ≡ 0
+        → (b : List ℕ) × (questionOf recording text (length out) ≡ result b) × (lowIn r ≡ length b) × (take (lowIn r) after ≡ b) × (drop (lowIn r) after ≡ drop (lowIn r) out)
+    bytes-of out r after w z =
+        let q : Request = question recording text (length out) in
+        let o : Outcome (List ℕ) = questionOf recording text (length out) in
+        wrote o out r after (question-in-half recording text (length out))
+        (told-numbered q (order q) (counted o) (told-counted q (order q) o (question-told recording text (length out)))) w z
+
+-- ---- DEMAND 3
+
+-- the pieces taken are those that the book takes
+taken-join : (marks held : List ℕ) (cs : List Call) (xs : List Returned) (join : List ℕ) → map readOff xs ≡ book marks join cs → takenFrom join cs xs ≡ joinAfter marks join cs
+taken-join marks held [] xs join e = refl
+taken-join marks held (c ∷ cs) [] join e = absurd (let z = ap length e in omega arith)
+taken-join marks held (c ∷ cs) (x ∷ xs) join e =
+    let parts = same-cons (readOff x) (leaves (entry marks join c) c) (map readOff xs) (book marks (joinNext join c (entry marks join c)) cs) e in
+    let n : cond (eqb (numberIn (x .returned)) 0) (join ++ c .piece) join ≡ joinNext join c (entry marks join c) = next (entry marks join c) (ap (λ (l : Left). l .answer) (parts .0)) in
+    ap (λ (j : List ℕ). takenFrom j cs xs) n ∙ taken-join marks held cs xs (joinNext join c (entry marks join c)) (parts .1)
+  where
+    same-cons : (a b : Left) (l m : List Left) → (a ∷ l) ≡ (b ∷ m) → (a ≡ b) × (l ≡ m)
+    same-cons a b l m e = (cc, cc)
+
+    next : (o : Outcome (List ℕ)) → unpacked (x .returned) ≡ counted o → cond (eqb (numberIn (x .returned)) 0) (join ++ c .piece) join ≡ joinNext join c o
+    next o = go (eqb (numberIn (x .returned)) 0) o
+      where
+        go : (b : Bool) (o : Outcome (List ℕ)) → cond b (result (lowIn (x .returned))) (refused (numberIn (x .returned)) (lowIn (x .returned))) ≡ counted o
+            → cond b (join ++ c .piece) join ≡ joinNext join c o
+        go true (result b) e = refl
+        go true (refused n p) e = no-result n p (lowIn (x .returned)) (sym e)
+        go false (result b) e = no-result (numberIn (x .returned)) (lowIn (x .returned)) (length b) e
+        go false (refused n p) e = refl
+
+-- calls that all write are not refused
+all-given : (marks join : List ℕ) (cs : List Call) (xs : List Returned) → map readOff xs ≡ allWritten marks join cs → (x : Returned) → List·Memᴰ x xs → numberIn (x .returned) ≡ 0
+all-given marks join cs [] e x m = absurd (List·Memᴰ·not-nil m)
+all-given marks join [] (y ∷ ys) e x m = absurd (let z = ap length e in omega arith)
+all-given marks join (c ∷ cs) (y ∷ ys) e x m = ⊎-elim
+    (λ (q : x ≡ y). ap (λ (w : Returned). numberIn (w .returned)) q ∙ given (eqb (numberIn (y .returned)) 0) refl (ap answer-of (first-of (readOff y) (leaves (result (keptBytes marks (join ++ c .piece))) c) (map readOff ys) _ e)))
+    (λ i. all-given marks (join ++ c .piece) cs ys (rest-of (readOff y) (leaves (result (keptBytes marks (join ++ c .piece))) c) (map readOff ys) _ e) x i) (List·Memᴰ·cases-cons m)
+  where
+    answer-of : Left → Outcome ℕ
+    answer-of l = l .answer
+
+    first-of : (a b : Left) (l m : List Left) → (a ∷ l) ≡ (b ∷ m) → a ≡ b
+    first-of a b l m e = cc
+
+    rest-of : (a b : Left) (l m : List Left) → (a ∷ l) ≡ (b ∷ m) → l ≡ m
+    rest-of a b l m e = cc
+
+    given : (b : Bool) → eqb (numberIn (y .returned)) 0 ≡ b → unpacked (y .returned) ≡ result (length (keptBytes marks (join ++ c .piece))) → numberIn (y .returned) ≡ 0
+    given true h e = eqb-true (numberIn (y .returned)) 0 h
+    given false h e = no-result (numberIn (y .returned)) (lowIn (y .returned)) (length (keptBytes marks (join ++ c .piece)))
+        (sym (ap (λ (b : Bool). cond b (result (lowIn (y .returned))) (refused (numberIn (y .returned)) (lowIn (y .returned)))) h) ∙ e)
+
+list-as-book : (marks : List ℕ) → AcceptedMarks marks → (cs : List Call) (xs : List Returned) → CallsMade marks [] cs xs → EveryList marks cs xs
+list-as-book marks fine cs xs t =
+    let k = thinned-calls marks [] cs xs t in
+    let b = as-the-book marks fine cs in
+    let e : map readOff xs ≡ book (marksOf marks) [] cs = k .0 ∙ b .answers in
+    record { as-the-book = e; held = k .1 ∙ b .held ∙ ap (keptBytes (marksOf marks)) (sym (taken-join (marksOf marks) [] cs xs [] e)) }
+
+demand-3 : (marks : List ℕ) → Demand3 marks
+demand-3 marks = record {
+  every-list = list-as-book marks;
+  cut = λ fine cs xs t a between long.
+      let k = thinned-calls marks [] cs xs t in
+      let w = as-the-whole marks fine cs a between long in
+      let e : map readOff xs ≡ allWritten (marksOf marks) [] cs = k .0 ∙ w .answers in
+      record { none-refused = all-given (marksOf marks) [] cs xs e; each-writes = e; held = k .1 ∙ w .held };
+  kept-as-full = λ fine {recording} {text} a l {out} {out′} e {r} {r′} {after} {after′} w w′.
+      let v = kept-call marks recording text a l out r after w in
+      let s = same-written recording text out out′ r r′ after after′ e v w′ in
+      record {
+        same = s .0;
+        same-bytes = s .1;
+        right = record { refusal = demand-1 .of-question v .result-or-refusal; set = λ z. written-set recording text out r after v z .set };
+      };
+  beyond = λ fine cs xs t {text} l {out} {r} {after} w.
+      let ks : List ℕ = marksOf marks in
+      let join : List ℕ = joinAfter ks [] cs in
+      let every = list-as-book marks fine cs xs t in
+      let same-join : takenFrom [] cs xs ≡ join = taken-join ks [] cs xs [] (every .as-the-book) in
+      subst (λ (j : List ℕ). RightOf j text out acceptedOrder r after) (sym same-join)
+      (stands-in join (keptBytes ks join) text out (in-place marks join (keptBytes ks join) text (kept-stands ks join (accepted-after ks cs [] refl (nothing-accepted ks))) l) r after
+      (subst (λ (h : List ℕ). QuestionCall h text out r after) (every .held ∙ ap (keptBytes ks) same-join) w));
+  bad-marks = bad-calls marks;
+}
+
+-- ---- THE DEMANDS HOLD
+pub demands : Demands
+demands = record {
+  one = demand-1;
+  two = record {
+    set-written = λ {recording} {text} {out} {r} {after} w z. written-set recording text out r after w z;
+    degree-told = λ {recording} {text} target {distance} {value} {r} {distance-after} {value-after} d z. degree-meant recording text target distance value r distance-after value-after d z;
+  };
+  three = demand-3;
+}

@@ -1,0 +1,305 @@
+-- The marked lines of R1 hold, by one fact: the texts are read by computing, their sets are those of R1Lines, and the runs of a set fix its bytes.
+use Prim.Native.Nat.{ℕ, zero, suc, _+_, _-_, _≤_, _<_}
+use native.Mathlib.Omega.{arith}
+use mathlib.Core.Path.{_≡_, refl, sym, ap, _∙_, subst}
+use mathlib.Core.Bool.{Bool, true, false, _&&_, _||_, not, cond, So, false≢true}
+use mathlib.Core.Logic.{⊎-elim, _↔_}
+use mathlib.Core.List.{List, [], _∷_, _++_, map, List·Memᴰ, List·Memᴰ·head, List·Memᴰ·tail, List·Memᴰ·not-nil, List·Memᴰ·cases-cons}
+use lib.Dec.{leb, ltb, eqb}
+use lib.IntN.{ℤ, pos, negsuc}
+use lib.ListN.{length}
+use borrow.Author.Tests.{leb-true, ltb-true, le-ltb}
+use Rattle.number.specs.Axis.{origin, axis, whole}
+use Rattle.number.specs.Least.{least}
+use Rattle.number.specs.Words.{turned, signed}
+use Rattle.refusal.specs.Outcome.{NoneMeets}
+use Rattle.recording.specs.Output.{outputLine}
+use Rattle.recording.specs.laws.Outcome.{judged-pass, append-none}
+use Rattle.recording.specs.R1.{R1}
+use Rattle.recording.specs.Reading.{Reading, A}
+use Rattle.recording.specs.Recording as recording
+use Rattle.runset.specs.Runs.{runCount, mostRuns, startsAt, runBytes, setBytes}
+use Rattle.runset.specs.Set.{inside, Ascending, Canonical}
+use Rattle.runset.specs.laws.Cuts.{lowCuts, highCuts, none, behind-run, covers, inside-covers}
+use Rattle.runset.specs.laws.Runs.{cuts-bytes, cuts-count}
+use Rattle.grammar.specs.Bytes.{bytes}
+use Rattle.grammar.specs.inner.Lexer.{unsignedAt, numberAt, operandAt, comparisonAt, timedAt, argumentsAt, namedAt, headedAt, leafAt}
+use Rattle.grammar.specs.inner.Parse.{one, parse, reading}
+use Rattle.grammar.specs.Size.{tooDeep}
+use Rattle.grammar.specs.Syntax.{ge, eq, of, v, number, compare, Listed, high, low, lowafter, capafter, peaks, cross, ampl, gaps, lag, Text, atom, listed, until}
+use Rattle.text.specs.Told.{textLines}
+use Rattle.grammar.specs.laws.Unique.{reading-is}
+use Rattle.number.specs.laws.Boolean.{same, then, back, either, both, so-or, so-and, or-none, and-left, and-right}
+use Rattle.meaning.specs.inner.Coded.{Coded, coded, index}
+use Rattle.meaning.specs.Meaning.{Holds}
+use Rattle.meaning.specs.laws.Pick.{Each}
+use Rattle.meaning.specs.inner.Recorded.{InRange}
+use Rattle.meaning.specs.R1 as lines
+use Rattle.meaning.specs.R1.{Run, InRuns}
+use Rattle.meaning.specs.laws.R1Lines.{marked-lines}
+use Rattle.meaning.specs.laws.Run.{starts, run-count, Convex, const-convex, point-convex, convex-runs, convex-few}
+use Rattle.meaning.specs.laws.Recorded.{accepted-recorded}
+use Rattle.meaning.specs.inner.Truth.{someOf, allOf, codedAt, lastCoded, untilFrom, val, someNode, overAt, someBelow, refused8, refused9}
+use Rattle.meaning.specs.laws.Truth.{val-holds}
+use Rattle.meaning.specs.laws.Whole.{Stands, stands-whole, le-index}
+use Rattle.question.specs.Question.{theText, read, answer, askingLines, setLines, questionOf}
+use Rattle.thin.specs.Thin.{keptBytes, thinOf}
+use Rattle.marks.specs.Marks.{marksOf, marksLine, AcceptedMarks}
+use Rattle.thin.specs.laws.R1Calls.{R1-accepted}
+use Rattle.promises.specs.MarkedLines.{MarkedLine, markedLines, bytesOfRuns, bytesOfMarks, writtenIn, Asked, Thinned, Says}
+
+-- ---- the runs of a set fix its bytes
+
+-- the two cuts of each run, by their indices
+abbrev cuts : List Run → List ℕ
+cuts [] = []
+cuts (x ∷ l) = index (x .low) ∷ (index (x .high) + 1) ∷ cuts l
+
+abbrev OnAxis : Run → Type 0
+OnAxis x = Stands (x .low) (index (x .low)) origin × Stands (x .high) (index (x .high)) origin
+
+abbrev within : ℕ → Run → Bool
+within n x = leb (index (x .low)) n && leb n (index (x .high))
+
+within-runs : (l : List Run) → Each OnAxis l → (n : ℕ) → So (someOf (within n) l) ↔ InRuns l (whole n)
+within-runs [] s n = (λ e. false≢true e, λ e. absurd e)
+within-runs (x ∷ l) s n = then (so-or (within n x) (someOf (within n) l)) (either
+    (then (so-and (leb (index (x .low)) n) (leb n (index (x .high)))) (both
+    (le-index (x .low) (whole n) (index (x .low)) n (s .0 .0) (stands-whole n))
+    (le-index (whole n) (x .high) n (index (x .high)) (stands-whole n) (s .0 .1))))
+    (within-runs l (s .1) n))
+
+covered : (l : List Run) (n : ℕ) → covers (lowCuts (cuts l)) (highCuts (cuts l)) n ≡ someOf (within n) l
+unfolding lowCuts highCuts covers
+covered [] n = refl
+covered (x ∷ l) n =
+    let e : index (x .high) + 1 - 1 ≡ index (x .high) = omega arith in
+    let t = covered l n in
+    λ i. (leb (index (x .low)) n && leb n (e i)) || t i
+
+-- a whole number of the axis, as a test
+abbrev onAxis : ℤ → Bool
+onAxis (pos n) = true
+onAxis (negsuc n) = ltb n origin
+
+stands : (z : ℤ) → onAxis z ≡ true → Stands z (index z) origin
+stands (pos n) h = omega arith
+stands (negsuc n) h = omega (arith, ltb-true n origin h)
+
+all-stand : (l : List Run) → allOf (λ x. onAxis (x .low) && onAxis (x .high)) l ≡ true → Each OnAxis l
+all-stand [] h = tt
+all-stand (x ∷ l) h =
+    let a = and-left (onAxis (x .low) && onAxis (x .high)) _ h in
+    ((stands (x .low) (and-left (onAxis (x .low)) _ a), stands (x .high) (and-right (onAxis (x .low)) _ a)), all-stand l (and-right (onAxis (x .low) && onAxis (x .high)) _ h))
+
+-- strictly ascending from m on and within the axis, as a test
+abbrev ascends : ℕ → List ℕ → Bool
+ascends m [] = true
+ascends m (c ∷ l) = leb m c && (leb c axis && ascends (c + 1) l)
+
+ascending : (m : ℕ) (l : List ℕ) → ascends m l ≡ true → Ascending m axis l
+ascending m [] h = tt
+ascending m (c ∷ l) h =
+    let r = and-right (leb m c) _ h in
+    (leb-true m c (and-left (leb m c) _ h), leb-true c axis (and-left (leb c axis) _ r), ascending (c + 1) l (and-right (leb c axis) _ r))
+
+ended : (m : ℕ) (l : List Run) → Ascending m axis (cuts l) → inside (cuts l) axis ≡ false
+ended m [] a = none axis
+ended m (x ∷ l) a =
+    behind-run m axis (index (x .low)) (index (x .high) + 1) (cuts l) a axis (a .2 .1) ∙ ended (index (x .high) + 1 + 1) l (a .2 .2)
+
+-- runs of the axis, ascending, with a gap between any two, at most 64
+abbrev fits : List Run → Bool
+fits l = allOf (λ x. onAxis (x .low) && onAxis (x .high)) l && (ascends 0 (cuts l) && leb (length (cuts l)) 128)
+
+module _ (l : List Run) (h : fits l ≡ true) where
+  on-axis : Each OnAxis l
+  on-axis = all-stand l (and-left (allOf (λ x. onAxis (x .low) && onAxis (x .high)) l) _ h)
+
+  rest : (ascends 0 (cuts l) && leb (length (cuts l)) 128) ≡ true
+  rest = and-right (allOf (λ x. onAxis (x .low) && onAxis (x .high)) l) _ h
+
+  ascend : Ascending 0 axis (cuts l)
+  ascend = ascending 0 (cuts l) (and-left (ascends 0 (cuts l)) _ rest)
+
+  canonical : Canonical (cuts l)
+  canonical = record { ascending = ascend; ended = ended 0 l ascend }
+
+  few-cuts : length (cuts l) ≤ 128
+  few-cuts = leb-true (length (cuts l)) 128 (and-right (ascends 0 (cuts l)) _ rest)
+
+  -- the numbers inside the cuts are those of the runs
+  inside-runs : (n : ℕ) → So (inside (cuts l) n) ↔ InRuns l (whole n)
+  inside-runs n =
+      let e = sym (inside-covers 0 axis (cuts l) n ascend (ended 0 l ascend)) ∙ covered l n in
+      then (λ k. sym e ∙ k, λ k. e ∙ k) (within-runs l on-axis n)
+
+-- ---- a line from its parts
+
+R1-readings : recording.readings R1 ≡ lines.R1
+unfolding recording.reading signed turned
+R1-readings = refl
+
+R1-in-range : InRange (recording.readings R1)
+R1-in-range = accepted-recorded R1 R1-accepted .in-range
+
+-- a line of the meaning, read from a text: 5, 6, 7 and 9 do not refuse it, and 8 does not where the set has at most 64 runs
+module _ {l : lines.Line} (told : lines.Told l) (text : List ℕ) (reads : reading text ≡ one (l .text)) (sized : NoneMeets (textLines text))
+    (fit : fits (l .runs) ≡ true) (written : runBytes (lowCuts (cuts (l .runs))) (highCuts (cuts (l .runs))) ≡ bytesOfRuns (l .runs))
+    (nine : refused9 (coded R1) (l .text) ≡ false) (eight : runCount (λ n. val (coded R1) n (l .text) 0) ≤ mostRuns → refused8 (coded R1) (l .text) ≡ false) where
+  is-read : read text ≡ l .text
+  is-read = ap theText reads
+
+  line-holds : (n : ℕ) → n < axis → Holds (recording.readings R1) (whole n) (l .text) 0 ↔ InRuns (l .runs) (whole n)
+  line-holds n h = back (subst (λ (r : List Reading). InRuns (l .runs) (whole n) ↔ Holds r (whole n) (l .text) 0) (sym R1-readings) (told .set n h))
+
+  line-set : (n : ℕ) → n < axis → So (val (coded R1) n (l .text) 0) ↔ InRuns (l .runs) (whole n)
+  line-set n h = then (val-holds (recording.readings R1) R1-in-range n (l .text) 0 (omega arith)) (line-holds n h)
+
+  line-inside : (n : ℕ) → n < axis → inside (cuts (l .runs)) n ≡ val (coded R1) n (l .text) 0
+  line-inside n h = same _ _
+      (λ e. line-set n h .1 (inside-runs (l .runs) fit n .0 e)) (λ e. inside-runs (l .runs) fit n .1 (line-set n h .0 e))
+
+  line-bytes : setBytes (λ n. val (coded R1) n (l .text) 0) ≡ bytesOfRuns (l .runs)
+  line-bytes = cuts-bytes (λ n. val (coded R1) n (l .text) 0) (cuts (l .runs)) (canonical (l .runs) fit) line-inside ∙ written
+
+  line-few : runCount (λ n. val (coded R1) n (l .text) 0) ≤ mostRuns
+  line-few =
+      omega (arith, few-cuts (l .runs) fit, cuts-count (λ n. val (coded R1) n (l .text) 0) (cuts (l .runs)) (canonical (l .runs) fit) line-inside)
+
+  line-call : (room : ℕ) → questionOf R1 text room ≡ writtenIn room (bytesOfRuns (l .runs))
+  unfolding questionOf
+  line-call room =
+      let set : setBytes (answer R1 text) ≡ bytesOfRuns (l .runs) = ap (λ (p : Text). setBytes (λ n. val (coded R1) n p 0)) is-read ∙ line-bytes in
+      judged-pass (askingLines R1 text) (setLines R1 (read text) ++ (outputLine room (setBytes (answer R1 text)) ∷ [])) (setBytes (answer R1 text))
+      (append-none (recording.recordingLines R1) (recording.noRecord R1 ∷ textLines text) R1-accepted (refl, sized))
+      ∙ judged-pass (setLines R1 (read text)) (outputLine room (setBytes (answer R1 text)) ∷ []) (setBytes (answer R1 text))
+      (ap (refused9 (coded R1)) is-read ∙ nine, (ap (refused8 (coded R1)) is-read ∙ eight line-few, tt))
+      ∙ ap (writtenIn room) set
+
+  asked : Asked text (l .runs)
+  asked = record {
+    reads = reading-is text (read text) .0 (reads ∙ ap one (sym is-read));
+    holds = λ n h. subst (λ (p : Text). Holds (recording.readings R1) (whole n) p 0 ↔ InRuns (l .runs) (whole n)) (sym is-read) (line-holds n h);
+    set = λ n h. subst (λ (p : Text). So (val (coded R1) n p 0) ↔ InRuns (l .runs) (whole n)) (sym is-read) (line-set n h);
+    maximal = told .maximal;
+    call = line-call;
+  }
+
+-- ---- refusal 8
+
+-- a listed question has one node, judged at the first record
+listed-eight : (q : Listed) → runCount (λ n. val (coded R1) n (listed q) 0) ≤ mostRuns → refused8 (coded R1) (listed q) ≡ false
+unfolding refused8 someNode
+listed-eight q h = le-ltb mostRuns (runCount (λ n. val (coded R1) n (listed q) 0)) h
+
+-- the runs of a union are not more than those of its two sides
+starts-or : (f g : ℕ → Bool) (n : ℕ) → starts (λ m. f m || g m) n ≤ starts f n + starts g n
+unfolding starts
+starts-or f g zero = omega arith
+starts-or f g (suc n) = let h = starts-or f g n in let k = at n in omega arith
+  where
+    first : (a b : Bool) → cond (a || b) 1 0 ≤ cond a 1 0 + cond b 1 0
+    first true true = omega arith
+    first true false = omega arith
+    first false true = omega arith
+    first false false = omega arith
+
+    later : (a b c d : Bool) → cond ((a || b) && not (c || d)) 1 0 ≤ cond (a && not c) 1 0 + cond (b && not d) 1 0
+    later true b true d = omega arith
+    later true b false true = omega arith
+    later true b false false = omega arith
+    later false true true d = omega arith
+    later false true false true = omega arith
+    later false true false false = omega arith
+    later false false c d = omega arith
+
+    at : (n : ℕ) → cond (startsAt (λ m. f m || g m) n) 1 0 ≤ cond (startsAt f n) 1 0 + cond (startsAt g n) 1 0
+    at zero = first (f zero) (g zero)
+    at (suc n) = later (f (suc n)) (g (suc n)) (f n) (g n)
+
+convex-starts : (f : ℕ → Bool) → Convex f → starts f axis ≤ 1
+convex-starts f h = omega (arith, run-count f, convex-runs f h)
+
+-- U(p,q) where v is not in p and q is one number at each record: at most one run for each record from here on
+until-starts : (f : ℕ → Bool) (g : ℕ → ℕ) (d i : ℕ) → starts (λ n. untilFrom f (λ j. eqb n (g j)) d i) axis ≤ suc d
+until-starts f g zero i = convex-starts (λ n. eqb n (g i)) (point-convex (g i))
+until-starts f g (suc d) i = go (f i) (until-starts f g d (suc i))
+  where
+    go : (e : Bool) → starts (λ n. untilFrom f (λ j. eqb n (g j)) d (suc i)) axis ≤ suc d
+        → starts (λ n. eqb n (g i) || (e && untilFrom f (λ j. eqb n (g j)) d (suc i))) axis ≤ suc (suc d)
+    go true h =
+        omega (arith, h, starts-or (λ n. eqb n (g i)) (λ n. untilFrom f (λ j. eqb n (g j)) d (suc i)) axis, convex-starts (λ n. eqb n (g i)) (point-convex (g i)))
+    go false h =
+        omega (arith, starts-or (λ n. eqb n (g i)) (λ n. false) axis, convex-starts (λ n. eqb n (g i)) (point-convex (g i)), convex-starts (λ n. false) (const-convex false))
+
+nowhere : (f : ℕ → Bool) → ((i : ℕ) → f i ≡ false) → (n : ℕ) → someBelow f n ≡ false
+nowhere f h zero = refl
+nowhere f h (suc n) = or-none (h n) (nowhere f h n)
+
+-- U(A>=k,A=v)
+abbrev untilText : ℕ → Text
+untilText k = until (atom (compare (of A) ge (number k))) (atom (compare (of A) eq v))
+
+until-over : (r : List Coded) (k i : ℕ) → length r ≤ mostRuns → overAt r (untilText k) i ≡ false
+unfolding someNode val
+until-over r k i h =
+    or-none (le-ltb mostRuns (runCount (λ n. untilFrom (λ j. leb k (codedAt r j .a)) (λ j. eqb n (codedAt r j .a)) (lastCoded r - i) i))
+    (omega (
+      arith,
+      run-count (λ n. untilFrom (λ j. leb k (codedAt r j .a)) (λ j. eqb n (codedAt r j .a)) (lastCoded r - i) i),
+      until-starts (λ j. leb k (codedAt r j .a)) (λ j. codedAt r j .a) (lastCoded r - i) i,
+    )))
+    (or-none (convex-few (λ n. leb k (codedAt r i .a)) (const-convex (leb k (codedAt r i .a)))) (convex-few (λ n. eqb n (codedAt r i .a)) (point-convex (codedAt r i .a))))
+
+until-eight : (k : ℕ) → refused8 (coded R1) (untilText k) ≡ false
+unfolding refused8
+until-eight k = nowhere (overAt (coded R1) (untilText k)) (λ i. until-over (coded R1) k i (leb-true _ _ refl)) (length (coded R1))
+
+-- ---- thinning
+
+module _ (marks times : List ℕ) (numbers : marksOf (bytesOfMarks marks) ≡ marks) (fine : AcceptedMarks (bytesOfMarks marks))
+    (kept : map (λ (x : Reading). x .time) (recording.readings (keptBytes marks R1)) ≡ times) where
+  thinned : Thinned marks times
+  unfolding thinOf
+  thinned = record {
+    kept = kept;
+    call = λ room.
+        judged-pass (recording.recordingLines R1)
+        (marksLine (bytesOfMarks marks) ∷ outputLine room (keptBytes (marksOf (bytesOfMarks marks)) R1) ∷ []) (keptBytes (marksOf (bytesOfMarks marks)) R1) R1-accepted
+        ∙ judged-pass (marksLine (bytesOfMarks marks) ∷ []) (outputLine room (keptBytes (marksOf (bytesOfMarks marks)) R1) ∷ []) (keptBytes (marksOf (bytesOfMarks marks)) R1) fine
+        ∙ ap (λ (m : List ℕ). writtenIn room (keptBytes m R1)) numbers;
+  }
+
+-- ---- the list
+
+each : {X : Type 0} (P : X → Type 0) (l : List X) → ((x : X) → List·Memᴰ x l → P x) → Each P l
+each P [] h = tt
+each P (x ∷ l) h = (h x (List·Memᴰ·head refl), each P l (λ y m. h y (List·Memᴰ·tail m)))
+
+told : Each lines.Told lines.marked
+told = each lines.Told lines.marked marked-lines
+
+-- a line, and then the lines after it
+infixr 5 _also_
+_also_ : {l x : MarkedLine} {r : List MarkedLine} → Says x → (List·Memᴰ l r → Says l) → List·Memᴰ l (x ∷ r) → Says l
+(t also rest) m = ⊎-elim (λ e. subst Says (sym e) t) rest (List·Memᴰ·cases-cons m)
+
+-- THE MARKED LINES OF R1 HOLD
+pub marked-hold : (l : MarkedLine) → List·Memᴰ l markedLines → Says l
+unfolding tooDeep least reading parse unsignedAt numberAt operandAt comparisonAt timedAt argumentsAt namedAt headedAt leafAt lowCuts highCuts refused9 someNode marksOf keptBytes recording.reading signed turned
+marked-hold l =
+    asked (told .0) (bytes "high(A)") refl (refl, (refl, (refl, tt))) refl refl refl (listed-eight (high A))
+    also asked (told .1 .0) (bytes "low(A)") refl (refl, (refl, (refl, tt))) refl refl refl (listed-eight (low A))
+    also asked (told .1 .1 .0) (bytes "ampl(A)") refl (refl, (refl, (refl, tt))) refl refl refl (listed-eight (ampl A))
+    also asked (told .1 .1 .1 .0) (bytes "peaks(A)") refl (refl, (refl, (refl, tt))) refl refl refl (listed-eight (peaks A))
+    also asked (told .1 .1 .1 .1 .0) (bytes "gaps(A)") refl (refl, (refl, (refl, tt))) refl refl refl (listed-eight (gaps A))
+    also asked (told .1 .1 .1 .1 .1 .0) (bytes "cross") refl (refl, (refl, (refl, tt))) refl refl refl (listed-eight cross)
+    also asked (told .1 .1 .1 .1 .1 .1 .0) (bytes "lag") refl (refl, (refl, (refl, tt))) refl refl refl (listed-eight lag)
+    also asked (told .1 .1 .1 .1 .1 .1 .1 .0) (bytes "lowafter(A,40)") refl (refl, (refl, (refl, tt))) refl refl refl (listed-eight (lowafter A 2000000040))
+    also asked (told .1 .1 .1 .1 .1 .1 .1 .1 .0) (bytes "lowafter(A,70)") refl (refl, (refl, (refl, tt))) refl refl refl (listed-eight (lowafter A 2000000070))
+    also asked (told .1 .1 .1 .1 .1 .1 .1 .1 .1 .0) (bytes "capafter(A,70)") refl (refl, (refl, (refl, tt))) refl refl refl (listed-eight (capafter A 2000000070))
+    also asked (told .1 .1 .1 .1 .1 .1 .1 .1 .1 .1 .0) (bytes "U(A>=40,A=v)") refl (refl, (refl, (refl, tt))) refl refl refl (λ few. until-eight 2000000040)
+    also thinned _ _ refl (refl, tt) refl
+    also thinned _ _ refl (refl, tt) refl
+    also (λ m. absurd (List·Memᴰ·not-nil m))

@@ -1,0 +1,193 @@
+-- A stand-in answers as the recording does: the question, the degree and the pair call. The kept readings are a stand-in.
+use Prim.Native.Nat.{ℕ, _<_}
+use native.Mathlib.Omega.{arith}
+use native.Mathlib.Decide.{decLt}
+use mathlib.Core.Path.{_≡_, refl, sym, ap, ap₂, _∙_, subst, fun-ext}
+use mathlib.Core.Bool.{Bool, true, false, cond, So}
+use mathlib.Core.Logic.{_↔_}
+use mathlib.Core.List.{List, [], _∷_, _++_, append-nil, map}
+use lib.Dec.{eqb, ltb}
+use lib.IntN.{ℤ}
+use lib.ListN.{length, length-map}
+use borrow.Author.Tests.{eq-eqb, ne-eqb, eqb-true}
+use Rattle.number.specs.Axis.{whole}
+use Rattle.refusal.specs.Outcome.{refused, Line, line, judged, NoneMeets}
+use Rattle.recording.specs.Condition.{pick, on}
+use Rattle.recording.specs.Reading.{Reading, top}
+use Rattle.recording.specs.Recording.{Raw, records, reading, readings, recordingLines, noRecord, Accepted}
+use Rattle.recording.specs.Output.{outputLine}
+use Rattle.recording.specs.laws.Acceptance.{Sound, accepted-sound, sound-accepted}
+use Rattle.recording.specs.laws.Outcome.{judged-pass}
+use Rattle.runset.specs.Runs.{setBytes}
+use Rattle.runset.specs.laws.Runs.{setBytes-ext}
+use Rattle.tops.specs.Tops.{curveOf, timeOf, topTimes, mostTops}
+use Rattle.grammar.specs.Syntax.{Text}
+use Rattle.text.specs.Told.{textLines}
+use Rattle.meaning.specs.inner.Coded.{coded, index}
+use Rattle.meaning.specs.inner.Truth.{val, refused8, refused9}
+use Rattle.meaning.specs.Alike.{Plain, Alike, Same}
+use Rattle.meaning.specs.laws.Alike.{alike-same}
+use Rattle.number.specs.laws.Boolean.{same, clash}
+use Rattle.meaning.specs.laws.Truth.{val-holds}
+use Rattle.meaning.specs.laws.Overfull.{eight-overfull, nine-tops}
+use Rattle.meaning.specs.inner.Recorded.{InRange}
+use Rattle.meaning.specs.laws.Recorded.{accepted-recorded}
+use Rattle.question.specs.Question.{read, answer, askingLines, setLines, questionOf}
+use Rattle.degree.specs.Degree.{Value, valueOf, targetLine, nearnessOf}
+use Rattle.pair.specs.Pair.{Given, pairsOf, firstApart, firstPair, badTarget, acceptedLines, pairOf}
+use Rattle.kept.specs.Kept.{keptFor}
+use Rattle.marks.specs.Marks.{marksOf}
+use Rattle.thin.specs.Thin.{keptBytes}
+use Rattle.thin.specs.laws.Book.{records-kept}
+use Rattle.thin.specs.laws.Cut.{sound-thinned}
+use Rattle.thin.specs.laws.KeptBytes.{readings-kept}
+use Rattle.promises.specs.KeptAsFull.{Askable, SameAnswers}
+use Rattle.promises.specs.laws.Observation.{kept-alike}
+use Rattle.promises.specs.StandIn.{StandIn}
+
+-- ---- lines judged
+
+module _ {R : Type 0} where
+  -- the same lines in front: only where none of them meets does it matter what follows
+  pub judged-behind : (ls ms ns : List Line) (r s : R) → (NoneMeets ls → judged ms r ≡ judged ns s) → judged (ls ++ ms) r ≡ judged (ls ++ ns) s
+  unfolding judged
+  judged-behind [] ms ns r s h = h tt
+  judged-behind (l ∷ ls) ms ns r s h = go (l .meets) refl (λ e. judged-behind ls ms ns r s (λ n. h (e, n)))
+    where
+      go : (b : Bool) → l .meets ≡ b → (l .meets ≡ false → judged (ls ++ ms) r ≡ judged (ls ++ ns) s)
+          → cond b (refused (l .number) (l .place)) (judged (ls ++ ms) r) ≡ cond b (refused (l .number) (l .place)) (judged (ls ++ ns) s)
+      go true e rest = refl
+      go false e rest = rest e
+
+-- two tests with the same meaning
+pub same-test : (e f : Bool) {P Q : Type 0} → So e ↔ P → P ↔ Q → So f ↔ Q → e ≡ f
+same-test e f p h q = same e f (λ t. q .1 (h .0 (p .0 t))) (λ t. p .1 (h .1 (q .0 t)))
+
+pub some-readings : (bytes : List ℕ) → noRecord bytes .meets ≡ false → 0 < length (readings bytes)
+some-readings bytes h = by (decLt 0 (length (records bytes)))
+  where
+    by : Dec (0 < length (records bytes)) → 0 < length (readings bytes)
+    by (yes k) = omega (arith, length-map (records bytes) reading)
+    by (no k) = absurd (clash (eq-eqb (length (records bytes)) 0 (omega arith)) h)
+
+-- ---- a stand-in, for a recording of any length
+
+module _ (ks full held : List ℕ) (s : StandIn ks full held) where
+  pub same-noRecord : noRecord held ≡ noRecord full
+  same-noRecord = ap (line 4) (same (eqb (length (records held)) 0) (eqb (length (records full)) 0)
+      (λ e. eq-eqb (length (records full)) 0 (s .empty .0 (eqb-true (length (records held)) 0 e)))
+      (λ e. eq-eqb (length (records held)) 0 (s .empty .1 (eqb-true (length (records full)) 0 e))))
+
+  -- THE SAME TRUTH of a plain text, for every number, and the same refusals 8 and 9
+  pub stand-same : noRecord held .meets ≡ false → (p : Text) → Plain ks p → Same (readings held) (readings full) p
+  stand-same some p plain =
+      alike-same (s .alike) (some-readings held some) (some-readings full (sym (ap (λ (l : Line). l .meets) same-noRecord) ∙ some)) p plain
+
+-- ---- for an accepted recording
+
+module _ (ks full held : List ℕ) (s : StandIn ks full held) (accepted : Accepted full) (some : noRecord full .meets ≡ false) (p : Text) (plain : Plain ks p) where
+  some-held : noRecord held .meets ≡ false
+  some-held = ap (λ (l : Line). l .meets) (same-noRecord ks full held s) ∙ some
+
+  both-same : Same (readings held) (readings full) p
+  both-same = stand-same ks full held s some-held p plain
+
+  range-full : InRange (readings full)
+  range-full = accepted-recorded full accepted .in-range
+
+  range-held : InRange (readings held)
+  range-held = accepted-recorded held (s .accepted) .in-range
+
+  pub stand-val : (n : ℕ) → val (coded held) n p 0 ≡ val (coded full) n p 0
+  stand-val n = same-test _ _ (val-holds (readings held) range-held n p 0 (omega arith)) (both-same .truth (whole n)) (val-holds (readings full) range-full n p 0 (omega arith))
+
+  -- REFUSALS 9 AND 8
+  pub stand-setLines : setLines held p ≡ setLines full p
+  stand-setLines = ap₂ (λ (e f : Bool). line 9 e ∷ line 8 f ∷ [])
+      (same-test _ _ (nine-tops (readings held) range-held p) (both-same .nine) (nine-tops (readings full) range-full p))
+      (same-test _ _ (eight-overfull (readings held) range-held (some-readings held some-held) p) (both-same .eight) (eight-overfull (readings full) range-full (some-readings full some) p))
+
+module _ (marks full held : List ℕ) (s : StandIn (marksOf marks) full held) (accepted : Accepted full) where
+  module _ (text : List ℕ) (askable : Askable marks text) where
+    -- REFUSALS 1 TO 7: what follows them matters only where there is a record and the text was read, and then the text is plain
+    stand-asking : {R : Type 0} (ms ns : List Line) (x y : R)
+        → (noRecord full .meets ≡ false → Plain (marksOf marks) (read text) → judged ms x ≡ judged ns y)
+        → judged (askingLines held text ++ ms) x ≡ judged (askingLines full text ++ ns) y
+    stand-asking ms ns x y h =
+        judged-pass (recordingLines held) ((noRecord held ∷ textLines text) ++ ms) x (s .accepted)
+        ∙ ap (λ (l : Line). judged (l ∷ (textLines text ++ ms)) x) (same-noRecord (marksOf marks) full held s)
+        ∙ judged-behind (noRecord full ∷ textLines text) ms ns x y (λ n. h (n .0) (askable (n .1)))
+        ∙ sym (judged-pass (recordingLines full) ((noRecord full ∷ textLines text) ++ ns) y accepted)
+
+    -- THE QUESTION CALL: the same set in the same bytes, or the same refusal
+    pub stand-question : (room : ℕ) → questionOf held text room ≡ questionOf full text room
+    unfolding questionOf
+    stand-question room =
+        stand-asking (setLines held (read text) ++ (outputLine room (setBytes (answer held text)) ∷ []))
+        (setLines full (read text) ++ (outputLine room (setBytes (answer full text)) ∷ [])) (setBytes (answer held text)) (setBytes (answer full text))
+        (λ some plain. ap₂ (λ (ls : List Line) (set : List ℕ). judged (ls ++ (outputLine room set ∷ [])) set)
+        (stand-setLines (marksOf marks) full held s accepted some (read text) plain)
+        (setBytes-ext (answer held text) (answer full text) (λ n h. stand-val (marksOf marks) full held s accepted some (read text) plain n)))
+
+    -- THE DEGREE CALL: the same value, or the same refusal
+    pub stand-degree : (target : ℤ) → nearnessOf held text target ≡ nearnessOf full text target
+    unfolding nearnessOf
+    stand-degree target =
+        stand-asking (targetLine target ∷ setLines held (read text)) (targetLine target ∷ setLines full (read text))
+        (valueOf (answer held text) (index target)) (valueOf (answer full text) (index target))
+        (λ some plain. ap₂ (λ (ls : List Line) (x : Value). judged (targetLine target ∷ ls) x)
+        (stand-setLines (marksOf marks) full held s accepted some (read text) plain)
+        (ap (λ (f : ℕ → Bool). valueOf f (index target)) (fun-ext (stand-val (marksOf marks) full held s accepted some (read text) plain))))
+
+  module _ (curve : ℕ) (target : ℤ) where
+    same-count : length (pick (top (curveOf curve)) (readings held)) ≡ length (pick (top (curveOf curve)) (readings full))
+    same-count =
+        sym (length-map (pick (top (curveOf curve)) (readings held)) timeOf) ∙ ap length (s .alike .tops (curveOf curve))
+        ∙ length-map (pick (top (curveOf curve)) (readings full)) timeOf
+
+    same-lines : acceptedLines held curve target ≡ acceptedLines full curve target
+    same-lines = ap₂ (λ (l : Line) (n : ℕ). l ∷ badTarget curve target ∷ line 9 (ltb mostTops n) ∷ []) (same-noRecord (marksOf marks) full held s) same-count
+
+    same-pair : firstPair (readings held) (curveOf curve) target ≡ firstPair (readings full) (curveOf curve) target
+    unfolding firstPair topTimes
+    same-pair = ap (λ (ts : List ℕ). firstApart target (pairsOf ts)) (s .alike .tops (curveOf curve))
+
+    -- THE PAIR CALL: the same two times, none, or the same refusal
+    pub stand-pair : pairOf held curve target ≡ pairOf full curve target
+    unfolding pairOf
+    stand-pair =
+        judged-pass (recordingLines held) (acceptedLines held curve target) _ (s .accepted)
+        ∙ ap₂ (λ (ls : List Line) (o : Given). judged ls o) same-lines same-pair
+        ∙ sym (judged-pass (recordingLines full) (acceptedLines full curve target) _ accepted)
+
+  -- A STAND-IN GIVES THE SAME ANSWERS
+  pub stand-answers : SameAnswers marks held full
+  stand-answers = record { question = stand-question; degree = stand-degree; pair = stand-pair }
+
+-- ---- kept readings
+
+-- no record in, none out; and some out where there are some
+kept-count : (ks : List ℕ) (r : List Raw) → eqb (length (pick (on reading (keptFor ks)) r)) 0 ≡ eqb (length r) 0
+kept-count ks [] = refl
+kept-count ks (x ∷ r) =
+    ne-eqb (length (pick (on reading (keptFor ks)) (x ∷ r))) 0 (λ e. omega arith) ∙ sym (ne-eqb (length (x ∷ r)) 0 (λ e. omega arith))
+
+-- OF A RECORDING OF ANY LENGTH, whose kept readings are accepted
+pub kept-stands : (ks full : List ℕ) → Accepted (keptBytes ks full) → StandIn ks full (keptBytes ks full)
+kept-stands ks full a =
+    let kept : List ℕ = keptBytes ks full in
+    let e : eqb (length (records kept)) 0 ≡ eqb (length (records full)) 0 = ap (λ (r : List Raw). eqb (length r) 0) (records-kept ks full) ∙ kept-count ks (records full) in
+    record {
+      accepted = a;
+      empty = (
+        λ z. eqb-true (length (records full)) 0 (sym e ∙ eq-eqb (length (records kept)) 0 z),
+        λ z. eqb-true (length (records kept)) 0 (e ∙ eq-eqb (length (records full)) 0 z),
+      );
+      alike = subst (λ r. Alike ks r (readings full)) (sym (readings-kept ks full)) (kept-alike ks (readings full));
+    }
+
+-- KEPT READINGS of an accepted recording ARE ACCEPTED
+pub kept-accepted : (ks full : List ℕ) → Accepted full → Accepted (keptBytes ks full)
+kept-accepted ks full accepted =
+    let s : Sound full = accepted-sound full accepted in
+    sound-accepted (keptBytes ks full) (subst Sound (append-nil (keptBytes ks full)) (sound-thinned ks full [] (s .whole) (subst Sound (sym (append-nil full)) s)))

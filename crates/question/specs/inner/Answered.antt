@@ -1,0 +1,37 @@
+-- The answered set of a text that was read: what stands between the evaluation and the calls.
+use Prim.Native.Nat.{ℕ, _*_, _≤_, _<_}
+use mathlib.Core.Path.{_≡_}
+use mathlib.Core.List.{List}
+use lib.ListN.{length}
+use Rattle.refusal.specs.Outcome.{Outcome, refused, judged, NoneMeets}
+use Rattle.refusal.specs.Numbers.{numberOf, placeOf}
+use Rattle.refusal.specs.declared.Refusal.{Refusal}
+use Rattle.recording.specs.Recording.{Accepted}
+use Rattle.runset.specs.Set.{Represents}
+use Rattle.grammar.specs.Syntax.{Text}
+use Rattle.grammar.specs.Size.{mostNodes}
+use Rattle.grammar.specs.inner.Table.{Falling}
+use Rattle.parser.specs.inner.Rows.{Laid}
+use Rattle.meaning.specs.inner.Coded.{coded}
+use Rattle.meaning.specs.inner.Truth.{val}
+use Rattle.evaluation.specs.inner.Evaluation.{textOf}
+use Rattle.question.specs.Question.{setLines}
+use Rattle.question.specs.declared.answered.Verdict.{Verdict}
+use Rattle.question.specs.declared.answered.Verdict.the-variants.{Fine, Refused}
+use Rattle.question.specs.declared.answered.Answered.{Answered}
+
+-- a table of nodes that stands for a text, and an accepted recording with a record
+pub record Ready (table : List ℕ) (count : ℕ) (bytes : List ℕ) : Type 0 where
+  pub accepted : Accepted bytes
+  pub record-there : 0 < length (coded bytes)
+  pub falling : Falling table count
+  pub holds : Laid table 0 count (textOf table count)
+  pub rows : 4 * count ≤ length table
+  pub some : 0 < count
+  pub few : count ≤ mostNodes
+
+-- refused by 9 or 8 exactly as the table has it; else the set of the numbers with which the text is true at the first record
+pub record Gives (bytes : List ℕ) (p : Text) (a : Answered) : Type 0 where
+  pub refusal : (x : Refusal) → a .verdict ≡ Refused x → judged {R = Unit {0}} (setLines bytes p) tt ≡ refused (numberOf x) (placeOf x)
+  pub none : a .verdict ≡ Fine → NoneMeets (setLines bytes p)
+  pub set : a .verdict ≡ Fine → Represents (λ n. val (coded bytes) n p 0) (a .set)

@@ -1,0 +1,112 @@
+-- DEMAND 2, proved of the question call and of the output that it leaves, and the lines of the table (`lines-mean`).
+use Prim.Native.Nat.{ℕ, _<_}
+use native.Mathlib.Omega.{arith}
+use mathlib.Core.Path.{_≡_, refl, sym, ap, subst, _∙_}
+use mathlib.Core.Bool.{Bool, true, false, So, _||_, true≢false, false≢true}
+use mathlib.Core.Logic.{_⊎_, inl, inr, ⊎-elim, _↔_}
+use mathlib.Core.List.{List, [], _∷_, _++_}
+use lib.ListN.{length, length-map, take, drop}
+use lib.Dec.{ltb}
+use lib.Seq.{take-append-seam}
+use borrow.Author.Tests.{ltb-true, lt-ltb}
+use Rattle.refusal.specs.Outcome.{Outcome, result, refused, NoneMeets}
+use Rattle.recording.specs.Recording.{Accepted, readings, recordingLines, noRecord}
+use Rattle.recording.specs.Output.{Answers, reported, counted, outputAfter, outputLine}
+use Rattle.recording.specs.laws.Outcome.{result-none, none-append, no-result}
+use Rattle.recording.specs.declared.Written.the-variants as written
+use Rattle.runset.specs.Runs.{setBytes}
+use Rattle.grammar.specs.Syntax.{Text}
+use Rattle.grammar.specs.Grammar.{ReadsWhole}
+use Rattle.grammar.specs.Size.{nodes, mostNodes, tooDeep}
+use Rattle.grammar.specs.inner.Parse.{Reading, one, none, reading}
+use Rattle.text.specs.Told.{noReading, nodesOf, tooLarge, textLines}
+use Rattle.grammar.specs.laws.Unique.{reading-is, reading-none, unique}
+use Rattle.meaning.specs.inner.Coded.{code, coded}
+use Rattle.meaning.specs.Overfull.{Overfull, TooManyTops}
+use Rattle.meaning.specs.inner.Truth.{refused8, refused9}
+use Rattle.meaning.specs.laws.Overfull.{eight-overfull, nine-tops}
+use Rattle.meaning.specs.laws.Recorded.{accepted-recorded}
+use Rattle.question.specs.Question.{theText, read, answer, askingLines, setLines, questionOf}
+use Rattle.question.specs.laws.Answer.{answered-accepted, answered-holds}
+use Rattle.question.specs.laws.Size.{some-record}
+use Rattle.question.specs.Meant.{Meant, LinesMean}
+
+-- ---- the reading of a text
+
+module _ (text : List ℕ) where
+  -- a text that 6 does not refuse reads as what was read
+  pub read-reads : noReading (reading text) ≡ false → ReadsWhole text (read text)
+  read-reads h = by (reading text) refl h
+    where
+      by : (r : Reading) → reading text ≡ r → noReading r ≡ false → ReadsWhole text (read text)
+      by (one t) e h = subst (ReadsWhole text) (sym (ap theText e)) (reading-is text t .0 e)
+      by none e h = absurd (true≢false h)
+
+  -- and a text's reading is what was read
+  pub reads-read : (t : Text) → ReadsWhole text t → read text ≡ t
+  reads-read t r = ap theText (reading-is text t .1 r)
+
+  six-means : So (noReading (reading text)) ↔ ((t : Text) → ReadsWhole text t → ⊥)
+  six-means = (λ h. reading-none text .0 (is-none (reading text) h), λ n. ap noReading (reading-none text .1 n))
+    where
+      is-none : (r : Reading) → So (noReading r) → r ≡ none
+      is-none (one t) h = absurd (false≢true h)
+      is-none none h = refl
+
+  seven-means : (t : Text) → ReadsWhole text t → So (tooLarge text) ↔ ((mostNodes < nodes t) ⊎ So (tooDeep text))
+  seven-means t r = (λ h. to (ltb mostNodes (nodesOf (reading text))) refl h, λ h. ⊎-elim many (deep (ltb mostNodes (nodesOf (reading text)))) h)
+    where
+      counted-nodes : nodesOf (reading text) ≡ nodes t
+      counted-nodes = ap nodesOf (reading-is text t .1 r)
+
+      to : (b : Bool) → ltb mostNodes (nodesOf (reading text)) ≡ b → So (b || tooDeep text) → (mostNodes < nodes t) ⊎ So (tooDeep text)
+      to true e h = inl (omega (arith, ltb-true mostNodes (nodesOf (reading text)) e, counted-nodes))
+      to false e h = inr h
+
+      many : mostNodes < nodes t → So (tooLarge text)
+      many h = ap (λ (b : Bool). b || tooDeep text) (lt-ltb mostNodes (nodesOf (reading text)) (omega (arith, counted-nodes)))
+
+      deep : (b : Bool) → So (tooDeep text) → So (b || tooDeep text)
+      deep true h = refl
+      deep false h = h
+
+-- ---- the lines of the table, of an accepted recording with a record
+
+pub lines-mean : (bytes text : List ℕ) → Accepted bytes → noRecord bytes .meets ≡ false → LinesMean bytes text
+lines-mean bytes text a some = record {
+  six = six-means text;
+  seven = seven-means text;
+  nine = λ t r. subst (λ (p : Text). So (refused9 (coded bytes) (read text)) ↔ TooManyTops (readings bytes) p) (reads-read text t r)
+      (nine-tops (readings bytes) (accepted-recorded bytes a .in-range) (read text));
+  eight = λ t r. subst (λ (p : Text). So (refused8 (coded bytes) (read text)) ↔ Overfull (readings bytes) p) (reads-read text t r)
+      (eight-overfull (readings bytes) (accepted-recorded bytes a .in-range) (omega (arith, some-record bytes some, length-map (readings bytes) code)) (read text));
+}
+
+-- ---- the call
+
+-- DEMAND 2, of what the call gives
+pub answered-meant : (bytes text : List ℕ) (room : ℕ) (set : List ℕ) → questionOf bytes text room ≡ result set → Meant bytes text set
+unfolding questionOf
+answered-meant bytes text room set e =
+    let k = result-none (askingLines bytes text ++ (setLines bytes (read text) ++ (outputLine room (setBytes (answer bytes text)) ∷ []))) (setBytes (answer bytes text)) set e in
+    let a = none-append (askingLines bytes text) (setLines bytes (read text) ++ (outputLine room (setBytes (answer bytes text)) ∷ [])) (k .0) in
+    let t : NoneMeets (textLines text) = none-append (recordingLines bytes) (noRecord bytes ∷ textLines text) (a .0) .1 .1 in
+    record {
+      tree = read text;
+      reads = read-reads text (t .1 .0);
+      only = λ u r. sym (reads-read text u r);
+      members = answered-holds bytes text room set e;
+    }
+
+-- DEMAND 2, of the output that the call leaves: its first n bytes are what it wrote
+pub output-meant : (bytes text old new : List ℕ) (n : ℕ) → Answers (questionOf bytes text (length old)) old (written.Bytes n) new → Meant bytes text (take n new)
+output-meant bytes text old new n w = by (questionOf bytes text (length old)) refl (w .answer) (w .output)
+  where
+    same-count : (m k : ℕ) → result m ≡ result k → m ≡ k
+    same-count m k e = cc
+
+    by : (o : Outcome (List ℕ)) → questionOf bytes text (length old) ≡ o → result n ≡ counted o → new ≡ outputAfter o old → Meant bytes text (take n new)
+    by (result set) e c h =
+        let front : take n new ≡ set = ap (take n) h ∙ ap (λ (k : ℕ). take k (set ++ drop (length set) old)) (same-count n (length set) c) ∙ take-append-seam set (drop (length set) old) in
+        subst (Meant bytes text) (sym front) (answered-meant bytes text (length old) set e)
+    by (refused k p) e c h = no-result k p n (sym c)

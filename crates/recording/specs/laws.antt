@@ -1,0 +1,4 @@
+pub mod Value
+pub mod Record
+pub mod Acceptance
+pub mod Outcome

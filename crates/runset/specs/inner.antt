@@ -1,0 +1,4 @@
+pub mod Merge
+pub mod OneRun
+pub mod Gap
+pub mod Lent

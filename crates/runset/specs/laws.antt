@@ -1,0 +1,9 @@
+pub mod Cuts
+pub mod Merge
+pub mod OneRun
+pub mod Runs
+pub mod Set
+pub mod Lent
+pub mod Distance
+pub mod Written
+pub mod Examples

@@ -1,0 +1,265 @@
+-- Laws of the node table: the rows that hold a tree, the tree that the decoder gives, and what a scan over the kinds says of it.
+use mathlib.Core.Path.{_≡_, refl, sym, ap, ap₂, subst, _∙_}
+use mathlib.Core.Bool.{Bool, true, false, _||_, or-false, or-true, or-assoc, or-comm}
+use mathlib.Core.List.{List, [], _∷_, _++_}
+use Prim.Native.Nat.{ℕ, zero, suc, _+_, _-_, _*_, _≤_, _<_}
+use native.Mathlib.Omega.{arith}
+use lib.Dec.{eqb, ltb, leb}
+use lib.ListN.{length, getD, List·getD-append}
+use borrow.Author.Tests.{ltb-true, ltb-false}
+use Rattle.grammar.specs.declared.Row.{Row}
+use Rattle.grammar.specs.Syntax.{Text}
+use Rattle.grammar.specs.Size.{temporal, hasListed, nodes}
+use Rattle.grammar.specs.Classes.{within}
+use Rattle.grammar.specs.inner.Table.{some, row, leaves, unaries, binaries, build, rowAt, tree, treeAt, Falling}
+use Rattle.grammar.specs.inner.Parse.{leafOf, node}
+use Rattle.parser.specs.inner.Rows.{Laid, leaf, unary, binary}
+
+-- what holds of each number below n
+abbrev Each : ℕ → (ℕ → Type 0) → Type 0
+Each zero P = Unit {0}
+Each (suc n) P = P zero × Each n (λ k. P (suc k))
+
+each : (n : ℕ) (P : ℕ → Type 0) → Each n P → (k : ℕ) → k < n → P k
+each zero P h k l = absurd (omega arith)
+each (suc n) P h zero l = h .0
+each (suc n) P h (suc k) l = each n (λ j. P (suc j)) (h .1) k (omega arith)
+
+-- what holds of each of the kinds of operators over one text, and over two
+unary-kinds : (P : ℕ → Type 0) → P 15 → P 16 → P 17 → P 18 → (k : ℕ) → 15 ≤ k → k < 19 → P k
+unary-kinds P a b c d k l h =
+    subst P (let z : 15 + (k - 15) ≡ k = omega arith in z) (each 4 (λ i. P (15 + i)) (a, (b, (c, (d, tt)))) (k - 15) (omega arith))
+
+binary-kinds : (P : ℕ → Type 0) → P 19 → P 20 → P 21 → P 22 → (k : ℕ) → 19 ≤ k → k < 23 → P k
+binary-kinds P a b c d k l h =
+    subst P (let z : 19 + (k - 19) ≡ k = omega arith in z) (each 4 (λ i. P (19 + i)) (a, (b, (c, (d, tt)))) (k - 19) (omega arith))
+
+-- BUILDING looks at a child only where the kind has it
+any-default : (l : List Text) (n : ℕ) (d e : Text) → n < length l → getD l n d ≡ getD l n e
+any-default [] n d e h = absurd (omega arith)
+any-default (x ∷ l) zero d e h = refl
+any-default (x ∷ l) (suc n) d e h = any-default l n d e (omega arith)
+
+build-leaf : (r : Row) (p q u w : Text) → r .kind < 15 → build r p q ≡ build r u w
+build-leaf r p q u w h =
+    List·getD-append (leaves r) (unaries p ++ binaries p q) p (r .kind) h
+    ∙ any-default (leaves r) (r .kind) p u h
+    ∙ sym (List·getD-append (leaves r) (unaries u ++ binaries u w) u (r .kind) h)
+
+build-unary : (k a b n : ℕ) (p q u : Text) → 15 ≤ k → k < 19 → build (row k a b n) p q ≡ node k p u
+build-unary k a b n p q u = unary-kinds (λ j. build (row j a b n) p q ≡ node j p u) refl refl refl refl k
+
+build-binary : (k a b n : ℕ) (p q : Text) → 19 ≤ k → k < 23 → build (row k a b n) p q ≡ node k p q
+build-binary k a b n p q = binary-kinds (λ j. build (row j a b n) p q ≡ node j p q) refl refl refl refl k
+
+-- THE DECODER gives the tree that the rows hold
+pub above : {T : List ℕ} {b m : ℕ} {t : Text} → Laid T b m t → b < m
+above (leaf l e) = omega arith
+above (unary k a c h e) = let x = above h in omega arith
+above (binary k a c h g e) = let x = above h in let y = above g in omega arith
+
+tree-held : {T : List ℕ} {b m : ℕ} {t : Text} → Laid T b m t → (r f : ℕ) → m ≡ r + 1 → r < f → tree T f r ≡ t
+unfolding tree
+tree-held h r zero e l = absurd (omega arith)
+tree-held {T} (leaf {b} {t} k q) r (suc f) e l =
+    let x : r ≡ b = omega arith in
+    ap (λ (y : ℕ). build (rowAt T y) (tree T f (rowAt T y .first)) (tree T f (rowAt T y .second))) x ∙ build-leaf (rowAt T b) _ _ _ _ k ∙ q
+tree-held {T} (unary {b} {m} {p} k a c h q) r (suc f) e l =
+    let x : r ≡ m = omega arith in
+    let y = above h in
+    ap (λ (z : ℕ). build (rowAt T z) (tree T f (rowAt T z .first)) (tree T f (rowAt T z .second))) x
+    ∙ ap (λ (z : Row). build z (tree T f (z .first)) (tree T f (z .second))) q
+    ∙ build-unary k (m - 1) 0 0 (tree T f (m - 1)) (tree T f 0) (tree T f (m - 1)) a c
+    ∙ ap (λ (z : Text). node k z z) (tree-held h (m - 1) f (omega arith) (omega arith))
+tree-held {T} (binary {b} {m} {n} {p} {q = u} k a c h g q) r (suc f) e l =
+    let x : r ≡ n = omega arith in
+    let y = above h in
+    let z = above g in
+    ap (λ (z : ℕ). build (rowAt T z) (tree T f (rowAt T z .first)) (tree T f (rowAt T z .second))) x
+    ∙ ap (λ (z : Row). build z (tree T f (z .first)) (tree T f (z .second))) q
+    ∙ build-binary k (m - 1) (n - 1) 0 (tree T f (m - 1)) (tree T f (n - 1)) a c
+    ∙ ap (λ (z : Text). node k z (tree T f (n - 1))) (tree-held h (m - 1) f (omega arith) (omega arith))
+    ∙ ap (λ (z : Text). node k p z) (tree-held g (n - 1) f (omega arith) (omega arith))
+
+pub decoded : {T : List ℕ} {b m : ℕ} {t : Text} → Laid T b m t → treeAt T (m - 1) ≡ t
+unfolding treeAt
+decoded {m = m} h = let x = above h in tree-held h (m - 1) (suc (m - 1)) (omega arith) (omega arith)
+
+-- the children of each node that the rows hold have smaller numbers
+abbrev Falls : List ℕ → ℕ → Type 0
+Falls T m = (15 ≤ rowAt T m .kind → rowAt T m .first < m) × (19 ≤ rowAt T m .kind → rowAt T m .second < m) × (rowAt T m .kind < 23)
+
+falls-row : (T : List ℕ) (m k a b : ℕ) → rowAt T m ≡ row k a b 0 → k < 23 → a < m → (19 ≤ k → b < m) → Falls T m
+falls-row T m k a b e h l g =
+    subst (λ (r : Row). (15 ≤ r .kind → r .first < m) × (19 ≤ r .kind → r .second < m) × (r .kind < 23)) (sym e) ((λ x. l), g, h)
+
+held-falls : {T : List ℕ} {b m : ℕ} {t : Text} → Laid T b m t → (j : ℕ) → b ≤ j → j < m → Falls T j
+held-falls {T} (leaf {b} k q) j l h =
+    let x : b ≡ j = omega arith in
+    subst (Falls T) x ((λ y. absurd (omega arith)), (λ y. absurd (omega arith)), omega arith)
+held-falls {T} (unary {b} {m} k a c h q) j l g = go (ltb j m) refl (λ x. held-falls h j l x)
+  where
+    go : (t : Bool) → ltb j m ≡ t → (j < m → Falls T j) → Falls T j
+    go true e f = f (ltb-true j m e)
+    go false e f =
+        let x = ltb-false j m e in
+        let y = above h in
+        let z : m ≡ j = omega arith in
+        subst (Falls T) z (falls-row T m k (m - 1) 0 q (omega arith) (omega arith) (λ w. absurd (omega arith)))
+held-falls {T} (binary {b} {m} {n} k a c h g q) j l u = go (ltb j m) (ltb j n) refl refl (λ x. held-falls h j l x) (λ x y. held-falls g j x y)
+  where
+    go : (t v : Bool) → ltb j m ≡ t → ltb j n ≡ v → (j < m → Falls T j) → (m ≤ j → j < n → Falls T j) → Falls T j
+    go true v e d f i = f (ltb-true j m e)
+    go false true e d f i = i (ltb-false j m e) (ltb-true j n d)
+    go false false e d f i =
+        let x = ltb-false j n d in
+        let y = above h in
+        let w = above g in
+        let z : n ≡ j = omega arith in
+        subst (Falls T) z (falls-row T n k (m - 1) (n - 1) q c (omega arith) (λ o. omega arith))
+
+pub held-falling : {T : List ℕ} {n : ℕ} {t : Text} → Laid T 0 n t → Falling T n
+unfolding Falling
+held-falling h m l = held-falls h m (omega arith) l
+
+-- the rows of a tree are as many as its nodes
+leaf-nodes : (r : Row) → r .kind < 15 → nodes (leafOf r) ≡ 1
+leaf-nodes r h =
+    each 15 (λ k. nodes (leafOf (row k (r .first) (r .second) (r .number))) ≡ 1)
+    (refl, (refl, (refl, (refl, (refl, (refl, (refl, (refl, (refl, (refl, (refl, (refl, (refl, (refl, (refl, tt))))))))))))))) (r .kind) h
+
+pub held-nodes : {T : List ℕ} {b m : ℕ} {t : Text} → Laid T b m t → m ≡ b + nodes t
+held-nodes {T} (leaf {b} {t} k q) = let x = leaf-nodes (rowAt T b) k in let y : nodes t ≡ 1 = ap nodes (sym q) ∙ x in omega arith
+held-nodes (unary {p = p} k a c h q) =
+    let x = held-nodes h in
+    let y = unary-kinds (λ j. nodes (node j p p) ≡ nodes p + 1) refl refl refl refl k a c in
+    omega arith
+held-nodes (binary {p = p} {q = u} k a c h g q) =
+    let x = held-nodes h in
+    let z = held-nodes g in
+    let y = binary-kinds (λ j. nodes (node j p u) ≡ nodes p + nodes u + 1) refl refl refl refl k a c in
+    omega arith
+
+-- ---- scans over the kinds
+
+some-split : (P : ℕ → Bool) (T : List ℕ) (b m n : ℕ) → some P T b (n + m) ≡ (some P T b n || some P T (b + n) m)
+some-split P T b zero n = let z : n + 0 ≡ n = omega arith in rw z (sym (or-false (some P T b n)))
+some-split P T b (suc m) n =
+    let z : n + suc m ≡ suc (n + m) = omega arith in
+    let w : b + (n + m) ≡ b + n + m = omega arith in
+    rw (z, w, some-split P T b m n) (or-assoc (some P T b n) (some P T (b + n) m) (P (rowAt T (b + n + m) .kind)))
+
+-- a property of texts that goes by the kinds of the nodes
+pub record ByKind (P : ℕ → Bool) (F : Text → Bool) : Type 0 where
+  pub of-leaf : (r : Row) → r .kind < 15 → F (leafOf r) ≡ P (r .kind)
+  pub of-unary : (k : ℕ) (p : Text) → 15 ≤ k → k < 19 → F (node k p p) ≡ (F p || P k)
+  pub of-binary : (k : ℕ) (p q : Text) → 19 ≤ k → k < 23 → F (node k p q) ≡ (F p || F q || P k)
+
+some-kind : (P : ℕ → Bool) (T : List ℕ) (b n m k : ℕ) → b + n ≡ m → rowAt T m .kind ≡ k → some P T b (n + 1) ≡ (some P T b n || P k)
+some-kind P T b n m k e q = let z : n + 1 ≡ suc n = omega arith in rw (z, e, q)
+
+pub held-some : (P : ℕ → Bool) (F : Text → Bool) → ByKind P F → {T : List ℕ} {b m : ℕ} {t : Text} → Laid T b m t → F t ≡ some P T b (nodes t)
+held-some P F h {T} (leaf {b} {t} k q) =
+    let x : nodes t ≡ 1 = ap nodes (sym q) ∙ leaf-nodes (rowAt T b) k in
+    let z : b + 0 ≡ b = omega arith in
+    ap F (sym q) ∙ h .of-leaf (rowAt T b) k ∙ rw (x, z) refl
+held-some P F h {T} (unary {b} {m} {p} k a c g q) =
+    let x = held-nodes g in
+    let y = unary-kinds (λ j. nodes (node j p p) ≡ nodes p + 1) refl refl refl refl k a c in
+    let z = held-some P F h g in
+    h .of-unary k p a c ∙ ap (λ w. w || P k) z ∙ sym (ap (some P T b) y ∙ some-kind P T b (nodes p) m k (sym x) (ap (λ (r : Row). r .kind) q))
+held-some P F h {T} (binary {b} {m} {n} {p} {q = u} k a c g i q) =
+    let x = held-nodes g in
+    let w = held-nodes i in
+    let y = binary-kinds (λ j. nodes (node j p u) ≡ nodes p + nodes u + 1) refl refl refl refl k a c in
+    let z = held-some P F h g in
+    let v = held-some P F h i in
+    let o : some P T b (nodes p + nodes u) ≡ (F p || F u) = some-split P T b (nodes u) (nodes p) ∙ rw (← x) (ap₂ _||_ (sym z) (sym v)) in
+    h .of-binary k p u a c
+    ∙ ap (λ w. w || P k) (sym o)
+    ∙ sym (ap (some P T b) y ∙ some-kind P T b (nodes p + nodes u) n k (omega arith) (ap (λ (r : Row). r .kind) q))
+
+-- a listed name is a kind from 5 to 14; F, G and X are 16 to 18, U and W 21 and 22
+abbrev pub listedKind : ℕ → Bool
+listedKind k = within 5 14 k
+
+abbrev pub temporalKind : ℕ → Bool
+temporalKind k = within 16 18 k || within 21 22 k
+
+pub listed-by-kind : ByKind listedKind hasListed
+listed-by-kind =
+    record {
+      of-leaf = λ r h.
+          each 15 (λ k. hasListed (leafOf (row k (r .first) (r .second) (r .number))) ≡ listedKind k)
+          (refl, (refl, (refl, (refl, (refl, (refl, (refl, (refl, (refl, (refl, (refl, (refl, (refl, (refl, (refl, tt))))))))))))))) (r .kind) h;
+      of-unary = λ k p. unary-kinds (λ j. hasListed (node j p p) ≡ (hasListed p || listedKind j))
+          (sym (or-false (hasListed p))) (sym (or-false (hasListed p))) (sym (or-false (hasListed p))) (sym (or-false (hasListed p))) k;
+      of-binary = λ k p q. binary-kinds (λ j. hasListed (node j p q) ≡ (hasListed p || hasListed q || listedKind j))
+          (sym (or-false (hasListed p || hasListed q))) (sym (or-false (hasListed p || hasListed q)))
+          (sym (or-false (hasListed p || hasListed q))) (sym (or-false (hasListed p || hasListed q))) k;
+    }
+
+pub temporal-by-kind : ByKind temporalKind temporal
+temporal-by-kind =
+    record {
+      of-leaf = λ r h.
+          each 15 (λ k. temporal (leafOf (row k (r .first) (r .second) (r .number))) ≡ temporalKind k)
+          (refl, (refl, (refl, (refl, (refl, (refl, (refl, (refl, (refl, (refl, (refl, (refl, (refl, (refl, (refl, tt))))))))))))))) (r .kind) h;
+      of-unary = λ k p. unary-kinds (λ j. temporal (node j p p) ≡ (temporal p || temporalKind j))
+          (sym (or-false (temporal p))) (sym (or-true (temporal p))) (sym (or-true (temporal p))) (sym (or-true (temporal p))) k;
+      of-binary = λ k p q. binary-kinds (λ j. temporal (node j p q) ≡ (temporal p || temporal q || temporalKind j))
+          (sym (or-false (temporal p || temporal q))) (sym (or-false (temporal p || temporal q)))
+          (sym (or-true (temporal p || temporal q))) (sym (or-true (temporal p || temporal q))) k;
+    }
+
+-- a scan for either of two kinds of kinds
+pub some-either : (P Q : ℕ → Bool) (T : List ℕ) (b n : ℕ) → some (λ k. P k || Q k) T b n ≡ (some P T b n || some Q T b n)
+some-either P Q T b zero = refl
+some-either P Q T b (suc n) = go (some P T b n) (some Q T b n) (P (rowAt T (b + n) .kind)) (Q (rowAt T (b + n) .kind)) (some-either P Q T b n)
+  where
+    go : (x y p q : Bool) → some (λ k. P k || Q k) T b n ≡ (x || y) → (some (λ k. P k || Q k) T b n || (p || q)) ≡ ((x || p) || (y || q))
+    go true y p q e = rw e refl
+    go false true p q e = rw e (sym (or-true p))
+    go false false p q e = rw e refl
+
+-- THE TREE of a node, in terms of its children's
+module _ (T : List ℕ) (n : ℕ) (falling : Falling T n) where
+  build-same : (m : ℕ) (p q u w : Text) → m < n → (15 ≤ rowAt T m .kind → p ≡ u) → (19 ≤ rowAt T m .kind → q ≡ w) → build (rowAt T m) p q ≡ build (rowAt T m) u w
+  unfolding Falling
+  build-same m p q u w l e f = go (ltb k 15) (ltb k 19) refl refl
+    where
+      k : ℕ
+      k = rowAt T m .kind
+
+      go : (x y : Bool) → ltb k 15 ≡ x → ltb k 19 ≡ y → build (rowAt T m) p q ≡ build (rowAt T m) u w
+      go true y d i = build-leaf (rowAt T m) p q u w (ltb-true k 15 d)
+      go false true d i =
+          let a = ltb-false k 15 d in
+          let c = ltb-true k 19 i in
+          build-unary k (rowAt T m .first) (rowAt T m .second) (rowAt T m .number) p q p a c
+          ∙ ap (λ (x : Text). node k x x) (e a)
+          ∙ sym (build-unary k (rowAt T m .first) (rowAt T m .second) (rowAt T m .number) u w u a c)
+      go false false d i =
+          let a = ltb-false k 15 d in
+          let b = ltb-false k 19 i in
+          let c = falling m l .2 in
+          build-binary k (rowAt T m .first) (rowAt T m .second) (rowAt T m .number) p q b c
+          ∙ ap₂ (node k) (e a) (f b)
+          ∙ sym (build-binary k (rowAt T m .first) (rowAt T m .second) (rowAt T m .number) u w b c)
+
+  -- a depth above the node's number is enough
+  tree-more : (f g m : ℕ) → m < n → m < f → m < g → tree T f m ≡ tree T g m
+  unfolding tree Falling
+  tree-more zero g m l a b = absurd (omega arith)
+  tree-more (suc f) zero m l a b = absurd (omega arith)
+  tree-more (suc f) (suc g) m l a b =
+      build-same m _ _ _ _ l
+      (λ h. let x = falling m l .0 h in tree-more f g (rowAt T m .first) (omega arith) (omega arith) (omega arith))
+      (λ h. let x = falling m l .1 h in tree-more f g (rowAt T m .second) (omega arith) (omega arith) (omega arith))
+
+  pub tree-step : (m : ℕ) → m < n → treeAt T m ≡ build (rowAt T m) (treeAt T (rowAt T m .first)) (treeAt T (rowAt T m .second))
+  unfolding treeAt tree Falling
+  tree-step m l =
+      build-same m _ _ _ _ l
+      (λ h. let x = falling m l .0 h in tree-more m (suc (rowAt T m .first)) (rowAt T m .first) (omega arith) (omega arith) (omega arith))
+      (λ h. let x = falling m l .1 h in tree-more m (suc (rowAt T m .second)) (rowAt T m .second) (omega arith) (omega arith) (omega arith))
