@@ -52,10 +52,10 @@ pub record Degrees (outcome : Outcome Value) (distance degree r first second : �
 -- ---- the pair
 
 -- 1 for a pair, 0 for none
-abbrev pub told : Outcome Given → Outcome ℕ
-told (result (times t u)) = result 1
-told (result none) = result 0
-told (refused n p) = refused n p
+abbrev pub pairTold : Outcome Given → Outcome ℕ
+pairTold (result (times t u)) = result 1
+pairTold (result none) = result 0
+pairTold (refused n p) = refused n p
 
 -- a pair's times are written, the earlier to the first place and the later to the second; else both places stay
 abbrev pub earlierAfter : Outcome Given → ℕ → ℕ
@@ -70,7 +70,7 @@ laterAfter (refused n p) old = old
 
 -- THE COMPLETE OUTCOME of the pair call: what it returns, and the two places, `earlier` and `later` before, `first` and `second` after
 pub record Pairs (outcome : Outcome Given) (earlier later r first second : ℕ) : Type 0 where
-  pub returned : r ≡ packed (told outcome)
+  pub returned : r ≡ packed (pairTold outcome)
   pub first-place : first ≡ earlierAfter outcome earlier
   pub second-place : second ≡ laterAfter outcome later
 

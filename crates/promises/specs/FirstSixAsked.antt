@@ -34,16 +34,16 @@ abbrev pub FirstSixAsked : Type 0
 FirstSixAsked = (q : Listed) (p : Text) → Formula q p → AsItsFormula q p
 
 -- a listed question and its formula, as they are written
-pub record Written : Type 0 where
+pub record NamedFormula : Type 0 where
   pub name : String
   pub formula : String
 
 infix 70 _equals_
-abbrev pub _equals_ : String → String → Written
+abbrev pub _equals_ : String → String → NamedFormula
 n equals f = record { name = n; formula = f }
 
 -- THE FIRST SIX AS THE DOCUMENT WRITES THEM, c being A and k being 40
-abbrev pub sixWritten : List Written
+abbrev pub sixWritten : List NamedFormula
 sixWritten =
     "high(A)" equals "F(A>=v)"
     ∷ "low(A)" equals "F(A<=v)"
@@ -54,7 +54,7 @@ sixWritten =
     ∷ []
 
 -- the two texts read as a question and as its formula, and none of 5, 6 and 7 refuses either
-pub record Met (w : Written) : Type 0 where
+pub record BothRead (w : NamedFormula) : Type 0 where
   pub question : Listed
   pub tree : Text
   pub its-formula : Formula question tree

@@ -13,7 +13,7 @@ use Rattle.pair.specs.Pair.{Given, outcomeOf, pairOf}
 use Rattle.pair.specs.declared.TopPair.{TopPair}
 use Rattle.pair.specs.declared.TopPair.the-variants as answer
 use Rattle.reply.specs.Reply.{half, packed}
-use Rattle.mill.specs.Boundary.{told, earlierAfter, laterAfter, Pairs}
+use Rattle.mill.specs.Boundary.{pairTold, earlierAfter, laterAfter, Pairs}
 use Rattle.mill.specs.laws.Boundary.{pair-place}
 use Rattle.mill.proofs.mill_pair.Statement.{statement}
 use Rattle.mill.proofs.mill_pair.Tie as tie
@@ -21,11 +21,11 @@ use Rattle.mill.proofs.mill_pair.Tie as tie
 module _ (bytes : List ℕ) (curve : ℕ) (g : ℤ) (p : TopPair) (a : outcomeOf p ≡ pairOf bytes curve g) where
   -- what an answer returns and leaves
   pairs-answer : (earlier later : ℕ) (o : Outcome Given) → outcomeOf p ≡ o
-      → Pairs (pairOf bytes curve g) earlier later (packed (told o)) (earlierAfter o earlier) (laterAfter o later)
+      → Pairs (pairOf bytes curve g) earlier later (packed (pairTold o)) (earlierAfter o earlier) (laterAfter o later)
   pairs-answer earlier later o e =
       let q = sym e ∙ a in
       record {
-        returned = ap (λ (k : Outcome Given). packed (told k)) q;
+        returned = ap (λ (k : Outcome Given). packed (pairTold k)) q;
         first-place = ap (λ (k : Outcome Given). earlierAfter k earlier) q;
         second-place = ap (λ (k : Outcome Given). laterAfter k later) q;
       }

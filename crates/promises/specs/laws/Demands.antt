@@ -48,7 +48,7 @@ use Rattle.thin.specs.Cut.{wholeFrom, CutBetween, LongEnough, allWritten}
 use Rattle.thin.specs.laws.Cut.{as-the-whole}
 use Rattle.reply.specs.Reply.{half, packed, InHalf, numberIn, lowIn, unpacked}
 use Rattle.reply.specs.laws.Unpacked.{Numbered, number-result, low-result, number-refused, low-refused, unpacked-packed}
-use Rattle.mill.specs.Boundary.{Writes, Degrees, QuestionCall, DegreeCall, PairCall, ThinCall, valueTold, distanceAfter, degreeAfter, told, earlierAfter, laterAfter}
+use Rattle.mill.specs.Boundary.{Writes, Degrees, QuestionCall, DegreeCall, PairCall, ThinCall, valueTold, distanceAfter, degreeAfter, pairTold, earlierAfter, laterAfter}
 use Rattle.mill.specs.laws.Boundary.{thin-in-half, question-in-half, degree-place, pair-place}
 use Rattle.promises.specs.Table.{Request, question, degree, pair, thin, OfAxis, order, acceptedOrder, NoneMet, FirstMet}
 use Rattle.promises.specs.laws.Table.{number-bounds, Agree, Told, met-there, judged-told}
@@ -164,7 +164,7 @@ pair-answered bytes curve target earlier later r first second c =
     q : Request
     q = pair bytes curve target
 
-    go : (o : Outcome Given) → pairOf bytes curve target ≡ o → Told q (order q) o → r ≡ packed (told o) → first ≡ earlierAfter o earlier
+    go : (o : Outcome Given) → pairOf bytes curve target ≡ o → Told q (order q) o → r ≡ packed (pairTold o) → first ≡ earlierAfter o earlier
         → second ≡ laterAfter o later → OneAnswer q r (earlier ∷ later ∷ []) (first ∷ second ∷ [])
     go (result (times t u)) e h p f s = record { result-or-refusal = judged-number q (order q) (result 1) r p (omega arith) h; refusal-writes-nothing = λ k. absurd (k (ap numberIn p)) }
     go (result none) e h p f s = record { result-or-refusal = judged-number q (order q) (result 0) r p (omega arith) h; refusal-writes-nothing = λ k. absurd (k (ap numberIn p)) }

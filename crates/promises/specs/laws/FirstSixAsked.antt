@@ -32,7 +32,7 @@ use Rattle.meaning.specs.laws.Truth.{val-holds}
 use Rattle.question.specs.Question.{theText, read, answer, askingLines, setLines, questionOf}
 use Rattle.degree.specs.Degree.{valueOf, targetLine, nearnessOf}
 use Rattle.promises.specs.laws.StandIn.{judged-behind, same-test, some-readings}
-use Rattle.promises.specs.FirstSixAsked.{SameOutcome, ReadsAs, FirstSixAsked, Written, sixWritten, Met}
+use Rattle.promises.specs.FirstSixAsked.{SameOutcome, ReadsAs, FirstSixAsked, NamedFormula, sixWritten, BothRead}
 
 -- 9 refuses none of the first six, and no formula
 name-nine : {q : Listed} {p : Text} → Formula q p → (r : List Coded) → refused9 r (listed q) ≡ false
@@ -131,8 +131,8 @@ first-six-asked q p f s t rs rt = record { question = same-question f s t rs rt;
 
 -- ---- the six as the document writes them
 
-met : {q : Listed} {p : Text} → Formula q p → (w : Written) → reading (bytes (w .name)) ≡ one (listed q) → NoneMeets (textLines (bytes (w .name)))
-    → reading (bytes (w .formula)) ≡ one p → NoneMeets (textLines (bytes (w .formula))) → Met w
+met : {q : Listed} {p : Text} → Formula q p → (w : NamedFormula) → reading (bytes (w .name)) ≡ one (listed q) → NoneMeets (textLines (bytes (w .name)))
+    → reading (bytes (w .formula)) ≡ one p → NoneMeets (textLines (bytes (w .formula))) → BothRead w
 met {q} {p} f w a b c d = record {
   question = q;
   tree = p;
@@ -143,11 +143,11 @@ met {q} {p} f w a b c d = record {
 
 -- a pair of texts, and then the pairs after it
 infixr 5 _also_
-_also_ : {w x : Written} {r : List Written} → Met x → (List·Memᴰ w r → Met w) → List·Memᴰ w (x ∷ r) → Met w
-(t also rest) m = ⊎-elim (λ e. subst Met (sym e) t) rest (List·Memᴰ·cases-cons m)
+_also_ : {w x : NamedFormula} {r : List NamedFormula} → BothRead x → (List·Memᴰ w r → BothRead w) → List·Memᴰ w (x ∷ r) → BothRead w
+(t also rest) m = ⊎-elim (λ e. subst BothRead (sym e) t) rest (List·Memᴰ·cases-cons m)
 
 -- the names and the formulas of the document read as such
-pub six-met : (w : Written) → List·Memᴰ w sixWritten → Met w
+pub six-met : (w : NamedFormula) → List·Memᴰ w sixWritten → BothRead w
 unfolding tooDeep least reading parse unsignedAt numberAt operandAt comparisonAt timedAt argumentsAt namedAt headedAt leafAt
 six-met w =
     met of-high _ refl (refl, (refl, (refl, tt))) refl (refl, (refl, (refl, tt)))
@@ -159,5 +159,5 @@ six-met w =
     also (λ m. absurd (List·Memᴰ·not-nil m))
 
 -- SO EACH OF THE SIX, AS WRITTEN, HAS THE OUTCOME OF ITS FORMULA, AS WRITTEN
-pub six-written : (w : Written) → List·Memᴰ w sixWritten → SameOutcome (bytes (w .name)) (bytes (w .formula))
+pub six-written : (w : NamedFormula) → List·Memᴰ w sixWritten → SameOutcome (bytes (w .name)) (bytes (w .formula))
 six-written w m = let k = six-met w m in first-six-asked (k .question) (k .tree) (k .its-formula) (bytes (w .name)) (bytes (w .formula)) (k .name-reads) (k .formula-reads)

@@ -10,20 +10,20 @@ use Rattle.grammar.specs.Size.{temporal}
 use Rattle.grammar.specs.Grammar.{Level, Reads, one-conjunction, bar, one-negation, ampersand, one-primary, bang, bracketed, an-F, a-G, an-X, a-U, a-W, an-atom, a-listed, ReadsWhole}
 
 -- the word writes an operator's letter
-abbrev Writes : List ℕ → Type 0
-Writes w = (b : ℕ) × List·Memᴰ b (bytes "FGXUW") × List·Memᴰ b w
+abbrev WritesLetter : List ℕ → Type 0
+WritesLetter w = (b : ℕ) × List·Memᴰ b (bytes "FGXUW") × List·Memᴰ b w
 
-left-writes : (x y : List ℕ) → Writes x → Writes (x ++ y)
+left-writes : (x y : List ℕ) → WritesLetter x → WritesLetter (x ++ y)
 left-writes x y w = (w .0, w .1, Memᴰ·append-left y (w .2))
 
-right-writes : (x : List ℕ) {y : List ℕ} → Writes y → Writes (x ++ y)
+right-writes : (x : List ℕ) {y : List ℕ} → WritesLetter y → WritesLetter (x ++ y)
 right-writes x w = (w .0, w .1, Memᴰ·append-right x (w .2))
 
 either : (a b : Bool) → (a || b) ≡ true → (a ≡ true) ⊎ (b ≡ true)
 either true b e = inl refl
 either false b e = inr e
 
-operator-written : {l : Level} {w : List ℕ} {t : Text} → Reads l w t → temporal t ≡ true → Writes w
+operator-written : {l : Level} {w : List ℕ} {t : Text} → Reads l w t → temporal t ≡ true → WritesLetter w
 operator-written (one-conjunction r) e = operator-written r e
 operator-written (bar {x} {y} {p} {q} r s) e = ⊎-elim (λ h. left-writes (x ++ bytes "|") y (left-writes x (bytes "|") (operator-written r h)))
     (λ h. right-writes (x ++ bytes "|") (operator-written s h)) (either (temporal p) (temporal q) e)
