@@ -1,4 +1,3 @@
 pub mod Question
-pub mod Meant
 pub mod inner
 pub mod laws

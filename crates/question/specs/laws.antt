@@ -4,4 +4,4 @@ pub mod Answered
 pub mod Call
 pub mod Answer
 pub mod Size
-pub mod Meant
+pub mod Lines

@@ -23,7 +23,7 @@ use Rattle.meaning.specs.inner.Coded.{index}
 use Rattle.meaning.specs.laws.Recorded.{accepted-recorded}
 use Rattle.meaning.specs.laws.Truth.{val-holds}
 use Rattle.question.specs.Question.{read, answer, askingLines, setLines}
-use Rattle.question.specs.laws.Meant.{read-reads, reads-read}
+use Rattle.question.specs.laws.Lines.{read-reads, reads-read}
 use Rattle.number.specs.laws.Boolean.{none-left}
 use Rattle.ratio.specs.Degree.{distanceOf, degreeOf}
 use Rattle.ratio.specs.laws.Degree.{distance-exact}

@@ -13,7 +13,7 @@ use Rattle.grammar.specs.inner.Parse.{parse, reading}
 use Rattle.grammar.specs.Size.{afterTimes}
 use Rattle.meaning.specs.Alike.{markIndex}
 use Rattle.question.specs.Question.{read}
-use Rattle.question.specs.laws.Meant.{reads-read}
+use Rattle.question.specs.laws.Lines.{reads-read}
 use Rattle.thin.specs.laws.R1Calls.{mark40}
 use Rattle.marks.specs.Marks.{marksOf}
 use Rattle.promises.specs.Demands.{fiveLetters, AskedOfKept}

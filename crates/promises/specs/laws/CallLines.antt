@@ -38,8 +38,8 @@ use Rattle.meaning.specs.laws.Recorded.{accepted-recorded}
 use Rattle.meaning.specs.inner.Truth.{refused8, refused9}
 use Rattle.meaning.specs.laws.Truth.{val-holds}
 use Rattle.question.specs.Question.{read, answer, askingLines, setLines}
-use Rattle.question.specs.Meant.{LinesMean}
-use Rattle.question.specs.laws.Meant.{read-reads, reads-read, lines-mean}
+use Rattle.question.specs.inner.Lines.{LinesMean}
+use Rattle.question.specs.laws.Lines.{read-reads, reads-read, lines-mean}
 use Rattle.degree.specs.Degree.{targetLine}
 use Rattle.pair.specs.Pair.{pairLines, acceptedLines}
 use Rattle.thin.specs.Thin.{keptBytes}

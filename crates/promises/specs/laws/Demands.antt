@@ -33,7 +33,7 @@ use Rattle.number.specs.laws.Boolean.{same}
 use Rattle.meaning.specs.Meaning.{Holds}
 use Rattle.question.specs.Question.{read, answer, askingLines, setLines, questionOf}
 use Rattle.question.specs.laws.Answer.{answered-accepted}
-use Rattle.question.specs.laws.Meant.{read-reads, reads-read}
+use Rattle.question.specs.laws.Lines.{read-reads, reads-read}
 use Rattle.degree.specs.Nearest.{Near}
 use Rattle.degree.specs.laws.Nearest.{nearness-says}
 use Rattle.degree.specs.Degree.{Value, met, short, noValue, valueOf, targetLine, nearnessOf}

@@ -1,18 +1,14 @@
--- Demand 3, end to end, proved: answers last, and they are the ones that demand 2 fixes for the whole recording.
+-- Demand 3, end to end, proved: answers last.
 use Prim.Native.Nat.{ℕ}
-use mathlib.Core.Path.{_≡_, sym, _∙_, subst}
+use mathlib.Core.Path.{sym, subst}
 use mathlib.Core.List.{List, []}
-use Rattle.refusal.specs.Outcome.{result}
 use Rattle.recording.specs.Recording.{Accepted}
-use Rattle.question.specs.Question.{questionOf}
-use Rattle.question.specs.Meant.{Meant}
-use Rattle.question.specs.laws.Meant.{answered-meant}
 use Rattle.marks.specs.Marks.{marksOf, AcceptedMarks}
 use Rattle.thin.specs.Book.{Call, heldAfter, joinAfter}
 use Rattle.thin.specs.Cut.{wholeFrom, CutBetween, LongEnough, AsTheWhole}
 use Rattle.thin.specs.laws.Book.{as-the-book}
 use Rattle.thin.specs.laws.Cut.{as-the-whole}
-use Rattle.promises.specs.KeptAsFull.{Askable, SameAnswers}
+use Rattle.promises.specs.KeptAsFull.{SameAnswers}
 use Rattle.promises.specs.laws.KeptAsFull.{kept-as-full}
 use Rattle.promises.specs.Lasting.{Lasting}
 
@@ -26,11 +22,6 @@ module _ (marks : List ℕ) (fine : AcceptedMarks marks) (cs : List Call) (accep
         calls-written = w .answers;
         same = subst (λ (held : List ℕ). SameAnswers marks held (wholeFrom [] cs)) (sym (w .held)) (kept-as-full marks fine (wholeFrom [] cs) accepted);
       }
-
-  -- DEMAND 2, of the answer from the readings held: it is the meaning of the text's one reading, of the whole recording
-  pub held-meant : (text : List ℕ) → Askable marks text → (room : ℕ) (written : List ℕ) → questionOf (heldAfter marks [] cs) text room ≡ result written
-      → Meant (wholeFrom [] cs) text written
-  held-meant text askable room written e = answered-meant (wholeFrom [] cs) text room written (sym (lasting .same .question text askable room) ∙ e)
 
 -- AFTER ANY LIST OF CALLS, refused ones included, the readings held answer as the join of the pieces taken, where that is an accepted recording
 pub held-as-join : (marks : List ℕ) → AcceptedMarks marks → (cs : List Call) → Accepted (joinAfter (marksOf marks) [] cs)

@@ -1,35 +1,28 @@
--- DEMAND 2, proved of the question call and of the output that it leaves, and the lines of the table (`lines-mean`).
+-- The reading of a text is the one that the call takes, and the lines 6 to 9 of the table meet where 01 says (`lines-mean`).
 use Prim.Native.Nat.{ℕ, _<_}
 use native.Mathlib.Omega.{arith}
 use mathlib.Core.Path.{_≡_, refl, sym, ap, subst, _∙_}
 use mathlib.Core.Bool.{Bool, true, false, So, _||_, true≢false, false≢true}
 use mathlib.Core.Logic.{_⊎_, inl, inr, ⊎-elim, _↔_}
-use mathlib.Core.List.{List, [], _∷_, _++_}
-use lib.ListN.{length, length-map, take, drop}
+use mathlib.Core.List.{List}
+use lib.ListN.{length, length-map}
 use lib.Dec.{ltb}
-use lib.Seq.{take-append-seam}
 use borrow.Author.Tests.{ltb-true, lt-ltb}
-use Rattle.refusal.specs.Outcome.{Outcome, result, refused, NoneMeets}
-use Rattle.recording.specs.Recording.{Accepted, readings, recordingLines, noRecord}
-use Rattle.recording.specs.Output.{Answers, reported, counted, outputAfter, outputLine}
-use Rattle.recording.specs.laws.Outcome.{result-none, none-append, no-result}
-use Rattle.recording.specs.declared.Written.the-variants as written
-use Rattle.runset.specs.Runs.{setBytes}
+use Rattle.recording.specs.Recording.{Accepted, readings, noRecord}
 use Rattle.grammar.specs.Syntax.{Text}
 use Rattle.grammar.specs.Grammar.{ReadsWhole}
 use Rattle.grammar.specs.Size.{nodes, mostNodes, tooDeep}
 use Rattle.grammar.specs.inner.Parse.{Reading, one, none, reading}
-use Rattle.text.specs.Told.{noReading, nodesOf, tooLarge, textLines}
-use Rattle.grammar.specs.laws.Unique.{reading-is, reading-none, unique}
+use Rattle.text.specs.Told.{noReading, nodesOf, tooLarge}
+use Rattle.grammar.specs.laws.Unique.{reading-is, reading-none}
 use Rattle.meaning.specs.inner.Coded.{code, coded}
 use Rattle.meaning.specs.Overfull.{Overfull, TooManyTops}
 use Rattle.meaning.specs.inner.Truth.{refused8, refused9}
 use Rattle.meaning.specs.laws.Overfull.{eight-overfull, nine-tops}
 use Rattle.meaning.specs.laws.Recorded.{accepted-recorded}
-use Rattle.question.specs.Question.{theText, read, answer, askingLines, setLines, questionOf}
-use Rattle.question.specs.laws.Answer.{answered-accepted, answered-holds}
+use Rattle.question.specs.Question.{theText, read}
 use Rattle.question.specs.laws.Size.{some-record}
-use Rattle.question.specs.Meant.{Meant, LinesMean}
+use Rattle.question.specs.inner.Lines.{LinesMean}
 
 -- ---- the reading of a text
 
@@ -81,32 +74,3 @@ lines-mean bytes text a some = record {
   eight = λ t r. subst (λ (p : Text). So (refused8 (coded bytes) (read text)) ↔ Overfull (readings bytes) p) (reads-read text t r)
       (eight-overfull (readings bytes) (accepted-recorded bytes a .in-range) (omega (arith, some-record bytes some, length-map (readings bytes) code)) (read text));
 }
-
--- ---- the call
-
--- DEMAND 2, of what the call gives
-pub answered-meant : (bytes text : List ℕ) (room : ℕ) (set : List ℕ) → questionOf bytes text room ≡ result set → Meant bytes text set
-unfolding questionOf
-answered-meant bytes text room set e =
-    let k = result-none (askingLines bytes text ++ (setLines bytes (read text) ++ (outputLine room (setBytes (answer bytes text)) ∷ []))) (setBytes (answer bytes text)) set e in
-    let a = none-append (askingLines bytes text) (setLines bytes (read text) ++ (outputLine room (setBytes (answer bytes text)) ∷ [])) (k .0) in
-    let t : NoneMeets (textLines text) = none-append (recordingLines bytes) (noRecord bytes ∷ textLines text) (a .0) .1 .1 in
-    record {
-      tree = read text;
-      reads = read-reads text (t .1 .0);
-      only = λ u r. sym (reads-read text u r);
-      members = answered-holds bytes text room set e;
-    }
-
--- DEMAND 2, of the output that the call leaves: its first n bytes are what it wrote
-pub output-meant : (bytes text old new : List ℕ) (n : ℕ) → Answers (questionOf bytes text (length old)) old (written.Bytes n) new → Meant bytes text (take n new)
-output-meant bytes text old new n w = by (questionOf bytes text (length old)) refl (w .answer) (w .output)
-  where
-    same-count : (m k : ℕ) → result m ≡ result k → m ≡ k
-    same-count m k e = cc
-
-    by : (o : Outcome (List ℕ)) → questionOf bytes text (length old) ≡ o → result n ≡ counted o → new ≡ outputAfter o old → Meant bytes text (take n new)
-    by (result set) e c h =
-        let front : take n new ≡ set = ap (take n) h ∙ ap (λ (k : ℕ). take k (set ++ drop (length set) old)) (same-count n (length set) c) ∙ take-append-seam set (drop (length set) old) in
-        subst (Meant bytes text) (sym front) (answered-meant bytes text (length old) set e)
-    by (refused k p) e c h = no-result k p n (sym c)
