@@ -24,8 +24,8 @@ pub const MILL_MAX_MARKS: usize = 8;
 pub const MILL_MAX_MARK: u32 = 2_000_000_000;
 
 /// Bytes of stack with which each call does.
-pub const MILL_STACK_QUESTION: usize = 131_072;
-pub const MILL_STACK_DEGREE: usize = 131_072;
+pub const MILL_STACK_QUESTION: usize = 196_608;
+pub const MILL_STACK_DEGREE: usize = 196_608;
 pub const MILL_STACK_PAIR: usize = 4_096;
 pub const MILL_STACK_THIN: usize = 16_384;
 
