@@ -108,8 +108,8 @@ extern "C" {
 
 /*
 ** Bytes of stack with which each call does. Measured on x86-64 with the deepest
-** inputs known, and rounded up: 104,063 for questions and degrees (256 open
-** brackets), 1,191 for pairs, 8,311 for thinning. No proof bounds the stack.
+** inputs known, and rounded up: 176,119 for questions and degrees (31 times !
+** before lag), 1,191 for pairs, 8,311 for thinning. No proof bounds the stack.
 */
 #define MILL_STACK_QUESTION 196608
 #define MILL_STACK_DEGREE 196608

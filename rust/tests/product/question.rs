@@ -82,14 +82,14 @@ fn wide_text(random: &mut Random, records: &[Record]) -> String {
 #[test]
 fn sets_near_the_limit() {
     let mut tally = Tally::default();
-    cases("sets near the limit", 1_500, |random| {
+    cases("sets near the limit", 3_000, |random| {
         let records = spread(random);
         let text = wide_text(random, &records);
         let room = room(random);
         tally.add(question(&bytes(&records), text.as_bytes(), room));
     });
-    tally.saw(&[0, 8], 150);
-    tally.saw(&[10], 50);
+    tally.saw(&[0, 8], 300);
+    tally.saw(&[10], 100);
 }
 
 #[test]
@@ -109,7 +109,7 @@ fn many_tops() {
 #[test]
 fn chains_near_the_limit() {
     let mut tally = Tally::default();
-    cases("chains near the limit", 3_000, |random| {
+    cases("chains near the limit", 6_000, |random| {
         let mut records = recordings::accepted(random, 800);
         for curve in 0..2 {
             records.iter_mut().for_each(|record| record.slope[curve] = FLAT);
@@ -130,7 +130,7 @@ fn chains_near_the_limit() {
         }
         tally.add(question(&bytes(&records), text.as_bytes(), MILL_SET_BYTES));
     });
-    tally.saw(&[0, 8], 500);
+    tally.saw(&[0, 8], 1_000);
 }
 
 #[test]

@@ -46,8 +46,8 @@ fn sets_hold_the_true_numbers() {
 fn two_ways_to_quantify() {
     let mut over = 0;
     cases("two ways to quantify", 4_000, |random| {
-        let many = random.once_in(10);
-        let count = if many { 260 + random.below(60) } else { 1 + random.below(40) };
+        let many = random.once_in(3);
+        let count = if many { 280 + random.below(60) } else { 1 + random.below(40) };
         let mut records = recordings::accepted(random, count);
         if many {
             records.iter_mut().for_each(|r| r.value[0] = 2 * random.between(0, 2_000));

@@ -110,13 +110,13 @@ ended m (x ∷ l) a =
 
 -- runs of the axis, ascending, with a gap between any two, at most 256
 abbrev fits : List Run → Bool
-fits l = allOf (λ x. onAxis (x .low) && onAxis (x .high)) l && (ascends 0 (cuts l) && leb (length (cuts l)) 128)
+fits l = allOf (λ x. onAxis (x .low) && onAxis (x .high)) l && (ascends 0 (cuts l) && leb (length (cuts l)) 512)
 
 module _ (l : List Run) (h : fits l ≡ true) where
   on-axis : Each OnAxis l
   on-axis = all-stand l (and-left (allOf (λ x. onAxis (x .low) && onAxis (x .high)) l) _ h)
 
-  rest : (ascends 0 (cuts l) && leb (length (cuts l)) 128) ≡ true
+  rest : (ascends 0 (cuts l) && leb (length (cuts l)) 512) ≡ true
   rest = and-right (allOf (λ x. onAxis (x .low) && onAxis (x .high)) l) _ h
 
   ascend : Ascending 0 axis (cuts l)
@@ -125,8 +125,8 @@ module _ (l : List Run) (h : fits l ≡ true) where
   canonical : Canonical (cuts l)
   canonical = record { ascending = ascend; ended = ended 0 l ascend }
 
-  few-cuts : length (cuts l) ≤ 128
-  few-cuts = leb-true (length (cuts l)) 128 (and-right (ascends 0 (cuts l)) _ rest)
+  few-cuts : length (cuts l) ≤ 512
+  few-cuts = leb-true (length (cuts l)) 512 (and-right (ascends 0 (cuts l)) _ rest)
 
   -- the numbers inside the cuts are those of the runs
   inside-runs : (n : ℕ) → So (inside (cuts l) n) ↔ InRuns l (whole n)
