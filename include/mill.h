@@ -91,7 +91,7 @@ extern "C" {
 #define MILL_RECORD_BYTES 16
 #define MILL_RUN_BYTES 8
 #define MILL_MARK_BYTES 4
-#define MILL_SET_BYTES 512 /* MILL_MAX_RUNS runs: always room enough */
+#define MILL_SET_BYTES 2048 /* MILL_MAX_RUNS runs: always room enough */
 
 /* Limits. */
 #define MILL_MAX_RECORDS 4096        /* records of a recording */
@@ -101,18 +101,18 @@ extern "C" {
 #define MILL_MAX_TEXT 256            /* bytes of a text */
 #define MILL_MAX_NODES 32            /* atoms, listed names and operators of a text */
 #define MILL_MAX_BRACKETS 16         /* brackets open at one byte of a text, every '(' counted */
-#define MILL_MAX_RUNS 64             /* runs of a node's set */
+#define MILL_MAX_RUNS 256            /* runs of a node's set */
 #define MILL_MAX_TOPS 256            /* tops of a curve, for gaps, steps, lag and mill_pair */
 #define MILL_MAX_MARKS 8             /* marks of a thinning */
 #define MILL_MAX_MARK 2000000000     /* a mark */
 
 /*
 ** Bytes of stack with which each call does. Measured on x86-64 with the deepest
-** inputs known, and rounded up: 104,063 for questions and degrees (256 open
-** brackets), 1,191 for pairs, 8,311 for thinning. No proof bounds the stack.
+** inputs known, and rounded up: 176,119 for questions and degrees (31 times !
+** before lag), 1,191 for pairs, 8,311 for thinning. No proof bounds the stack.
 */
-#define MILL_STACK_QUESTION 131072
-#define MILL_STACK_DEGREE 131072
+#define MILL_STACK_QUESTION 196608
+#define MILL_STACK_DEGREE 196608
 #define MILL_STACK_PAIR 4096
 #define MILL_STACK_THIN 16384
 

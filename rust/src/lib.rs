@@ -102,7 +102,7 @@ pub enum Refusal {
     NoReading,
     /// 7: the text has over 32 nodes, or over 16 brackets open at once.
     TextTooLarge,
-    /// 8: a node's set has over 64 runs.
+    /// 8: a node's set has over 256 runs.
     TooManyRuns,
     /// 9: a curve that is asked for its tops has over 256 of them.
     TooManyTops,

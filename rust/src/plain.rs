@@ -4,7 +4,7 @@
 /// A refusal's number, and its place.
 pub type Refused = (u32, u32);
 
-const MOST_RUNS: usize = 64;
+const MOST_RUNS: usize = 256;
 const MOST_TOPS: usize = 256;
 const LOW: i32 = -2_000_000_000;
 const HIGH: i32 = 2_000_000_000;

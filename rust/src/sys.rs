@@ -9,7 +9,7 @@ pub const MILL_RECORD_BYTES: usize = 16;
 pub const MILL_RUN_BYTES: usize = 8;
 pub const MILL_MARK_BYTES: usize = 4;
 /// Room for every set that a question answers.
-pub const MILL_SET_BYTES: usize = 512;
+pub const MILL_SET_BYTES: usize = 2048;
 
 pub const MILL_MAX_RECORDS: usize = 4096;
 pub const MILL_MAX_TIME: u32 = 2_000_000_000;
@@ -18,14 +18,14 @@ pub const MILL_MIN_VALUE: i32 = -1_000_000_000;
 pub const MILL_MAX_TEXT: usize = 256;
 pub const MILL_MAX_NODES: usize = 32;
 pub const MILL_MAX_BRACKETS: usize = 16;
-pub const MILL_MAX_RUNS: usize = 64;
+pub const MILL_MAX_RUNS: usize = 256;
 pub const MILL_MAX_TOPS: usize = 256;
 pub const MILL_MAX_MARKS: usize = 8;
 pub const MILL_MAX_MARK: u32 = 2_000_000_000;
 
 /// Bytes of stack with which each call does.
-pub const MILL_STACK_QUESTION: usize = 131_072;
-pub const MILL_STACK_DEGREE: usize = 131_072;
+pub const MILL_STACK_QUESTION: usize = 196_608;
+pub const MILL_STACK_DEGREE: usize = 196_608;
 pub const MILL_STACK_PAIR: usize = 4_096;
 pub const MILL_STACK_THIN: usize = 16_384;
 

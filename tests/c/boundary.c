@@ -197,6 +197,7 @@ static void refused_questions(void)
     EXPECT(refused(large, sizeof large - MILL_RECORD_BYTES, "peaks(A)") == MILL_TOO_MANY_RUNS);
     make_tops(MILL_MAX_TOPS);
     EXPECT(refused(large, sizeof large - MILL_RECORD_BYTES, "steps(A)") == 0);
+    EXPECT(refused(large, sizeof large - MILL_RECORD_BYTES, "gaps(A)") == 0);
     make_tops(MILL_MAX_TOPS + 1);
     EXPECT(refused(large, sizeof large - MILL_RECORD_BYTES, "steps(A)") == MILL_TOO_MANY_TOPS);
     EXPECT(MILL_NUMBER(ask("peaks(A)", out, sizeof out)) == MILL_SHORT_OUTPUT);

@@ -4,3 +4,4 @@ pub mod Tree
 pub mod Node
 pub mod Evaluate
 pub mod Walk
+pub mod Alone

@@ -122,13 +122,17 @@ fn walk(table: &[u32], count: usize, rec: &[u8], out: &mut [u32]) -> Filled
     runset::lent::same(slots::cuts_in(&b, root), out)
 }
 
-// The set of a text at the first record, or that some node's set has too many runs.
+// The set of a text at the first record, or that some node's set has too many runs. A text of one node needs no table of sets.
 pub fn evaluate(table: &[u32], count: usize, deep: bool, rec: &[u8], out: &mut [u32]) -> Filled
     requires { ⌜ Asking (now table) count (now rec) × (temporal (textOf (now table) count) ≡ deep) × (length (now out) ≡ 2 * mostRuns) ⌝ }
     ensures { λ r. ⌜ Evaluates (coded (now (rec .entry))) (textOf (now (table .entry)) count) (now (out .exit)) r ⌝ }
 {
     if deep {
         return walk(table, count, rec, out);
+    }
+    let root = rows::row_at(table, count - 1);
+    if root.kind < kinds::NOT {
+        return leaves::leaf(rec, 0, root, out);
     }
     at_first(table, count, rec, out)
 }

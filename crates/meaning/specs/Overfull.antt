@@ -36,7 +36,7 @@ pub data Node : Text → Text → Type 0 where
 abbrev pub IsSet : (ℕ → Bool) → List Reading → Text → ℕ → Type 0
 IsSet f r p i = (n : ℕ) → n < axis → (f n ≡ true) ↔ Holds r (whole n) p i
 
--- REFUSAL 8: some node's set at some record (without F, G, X, U, W: the first) has over 64 runs
+-- REFUSAL 8: some node's set at some record (without F, G, X, U, W: the first) has over 256 runs
 pub record Overfull (r : List Reading) (p : Text) : Type 0 where
   pub node : Text
   pub of-text : Node node p

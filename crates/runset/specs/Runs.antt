@@ -34,7 +34,7 @@ runCount f = length (lows f)
 
 -- the most runs that a set may have
 abbrev pub mostRuns : ℕ
-mostRuns = 64
+mostRuns = 256
 
 -- a number of the axis as a signed number of 32 bits, little-endian
 abbrev pub numberBytes : ℕ → List ℕ

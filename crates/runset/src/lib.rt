@@ -18,7 +18,7 @@ ghost use Rattle.runset.specs.inner.Merge.{opOf, Operand};
 ghost use Rattle.runset.specs.inner.Gap.{gapTo, nearerOf};
 
 // The most runs of a set.
-pub const MOST_RUNS: usize = 64;
+pub const MOST_RUNS: usize = 256;
 
 // The most cuts of a set: two for each run.
 pub const CUTS: usize = 2 * MOST_RUNS;

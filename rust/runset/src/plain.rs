@@ -1,7 +1,7 @@
 //! The same sets in plain Rust: the ascending cuts by value, one merge for every operation.
 
 pub const AXIS: u32 = 4_000_000_001;
-pub const MOST_RUNS: usize = 64;
+pub const MOST_RUNS: usize = 256;
 pub const CUTS: usize = 2 * MOST_RUNS;
 
 #[derive(Clone, Copy, PartialEq, Debug)]

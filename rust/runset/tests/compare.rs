@@ -4,6 +4,9 @@ mod compared;
 
 use runset_compare::*;
 
+/// The most runs of a set.
+const MOST_RUNS: usize = 256;
+
 /// Calls, each of them counted: every test compares what they give.
 fn combine(op: Op, a: &[u8], b: &[u8], c: &[u8], out: &mut [u8]) -> u32 {
     compared::count();
@@ -68,9 +71,9 @@ fn expected(op: Op, a: &[Run], b: &[Run], c: &[Run]) -> Vec<Run> {
 
 fn check(op: Op, a: &[Run], b: &[Run], c: &[Run]) {
     let want = expected(op, a, b, c);
-    let mut out = vec![7u8; 8 * 200];
+    let mut out = vec![7u8; 8 * 300];
     let n = combine(op, &bytes(a), &bytes(b), &bytes(c), &mut out);
-    if want.len() > 64 {
+    if want.len() > MOST_RUNS {
         assert_eq!(n, OVER, "{op:?} {a:?} {b:?} {c:?}");
         assert!(out.iter().all(|&x| x == 7));
         return;
@@ -95,9 +98,10 @@ fn check_all(a: &[Run], b: &[Run], c: &[Run]) {
     }
 }
 
-/// At most 64 runs in a window of numbers, many of them touching or overlapping before they are joined.
+/// At most [`MOST_RUNS`] runs in a window of numbers, many of them touching or overlapping before they are joined.
 fn random_set(r: &mut Random, from: i64, width: u64, longest: u64) -> Vec<Run> {
-    let n = r.below(80);
+    let most = [80, 80, 80, 320][r.below(4) as usize];
+    let n = r.below(most);
     let list = (0..n)
         .map(|_| {
             let l = from + r.below(width) as i64;
@@ -105,7 +109,7 @@ fn random_set(r: &mut Random, from: i64, width: u64, longest: u64) -> Vec<Run> {
         })
         .collect();
     let mut set = joined(list);
-    set.truncate(64);
+    set.truncate(MOST_RUNS);
     set
 }
 
@@ -113,8 +117,8 @@ fn random_set(r: &mut Random, from: i64, width: u64, longest: u64) -> Vec<Run> {
 fn random_sets_in_windows() {
     let mut r = Random(1);
     for k in 0..4000 {
-        let (width, longest) = [(200, 3), (300, 2), (1000, 12), (100_000, 900)][k % 4];
-        let from = [LOW, -50, HIGH - width as i64 + 1, 123_456][k / 4 % 4];
+        let (width, longest) = [(200, 3), (300, 2), (1000, 12), (100_000, 900), (2_000, 2)][k % 5];
+        let from = [LOW, -50, HIGH - width as i64 + 1, 123_456][k / 5 % 4];
         let set = |r: &mut Random| random_set(r, from, width, longest);
         let (a, b, c) = (set(&mut r), set(&mut r), set(&mut r));
         check_all(&a, &b, &c);
@@ -150,29 +154,48 @@ fn touching_runs_join() {
     assert_eq!(runs(&out), [(3, 9)]);
 }
 
+/// Runs of 8 numbers, 10 apart.
+fn comb(n: i64, from: i64) -> Vec<Run> {
+    (0..n).map(|k| (from + 10 * k, from + 10 * k + 7)).collect()
+}
+
 fn apart(n: i64, from: i64, step: i64) -> Vec<Run> {
     (0..n).map(|k| (from + k * step, from + k * step)).collect()
 }
 
 #[test]
 fn the_limit_is_exact() {
-    // 64 runs inside the axis have a complement of 65, with a run at an axis end of 64
-    for (set, over) in
-        [(apart(64, 5, 10), true), (apart(64, LOW, 10), false), (apart(64, HIGH - 630, 10), false), (apart(63, 5, 10), false)]
-    {
-        let mut out = [0u8; 512];
+    // 256 runs inside the axis have a complement of 257, with a run at an axis end of 256
+    for (set, over) in [
+        (apart(256, 5, 10), true),
+        (apart(256, LOW, 10), false),
+        (apart(256, HIGH - 2_550, 10), false),
+        (apart(255, 5, 10), false),
+    ] {
+        let mut out = [0u8; 2048];
         assert_eq!(combine(Op::Not, &bytes(&set), &[], &[], &mut out) == OVER, over);
-        check_all(&set, &apart(64, 10, 10), &apart(32, 0, 20));
+        check_all(&set, &apart(256, 10, 10), &apart(128, 0, 20));
     }
-    // 64 and 65 runs in all; and 128 that join to one
-    check_all(&apart(40, 0, 10), &apart(24, 405, 10), &[]);
-    check_all(&apart(40, 0, 10), &apart(25, 405, 10), &[]);
-    check_all(&apart(64, 0, 2), &apart(64, 1, 2), &[(0, 200)]);
-    // what b and c share has 127 runs; with a it is one
-    let comb = |from: i64| (0..64).map(|k| (from + 10 * k, from + 10 * k + 7)).collect::<Vec<_>>();
-    check_all(&[], &comb(0), &comb(5));
-    check_all(&[(0, 700)], &comb(0), &comb(5));
-    check_all(&[(0, 320)], &comb(0), &comb(5));
+    // 256 and 257 runs in all; and 512 that join to one
+    let mut out = [0u8; 2048];
+    for (more, given) in [(96, 256), (97, OVER)] {
+        let (a, b) = (apart(160, 0, 10), apart(more, 1605, 10));
+        assert_eq!(combine(Op::Or, &bytes(&a), &bytes(&b), &[], &mut out), given);
+        check_all(&a, &b, &[]);
+    }
+    assert_eq!(combine(Op::Or, &bytes(&apart(256, 0, 2)), &bytes(&apart(256, 1, 2)), &[], &mut out), 1);
+    check_all(&apart(256, 0, 2), &apart(256, 1, 2), &[(0, 800)]);
+    // two sets of 129 runs share 257, of 129 and 128 they share 256
+    for (n, given) in [(129, OVER), (128, 256)] {
+        let (a, b) = (comb(129, 0), comb(n, 5));
+        assert_eq!(combine(Op::And, &bytes(&a), &bytes(&b), &[], &mut out), given);
+        check_all(&a, &b, &[(0, 700)]);
+    }
+    // what b and c share has 511 runs; with a it is one, or 256, or 257
+    for (a, given) in [(vec![], OVER), (vec![(0, 2_800)], 1), (vec![(0, 1_280)], 256), (vec![(0, 1_275)], OVER)] {
+        assert_eq!(combine(Op::OrAnd, &bytes(&a), &bytes(&comb(256, 0)), &bytes(&comb(256, 5)), &mut out), given);
+        check_all(&a, &comb(256, 0), &comb(256, 5));
+    }
 }
 
 #[test]
@@ -191,7 +214,7 @@ fn refused_bytes() {
     let mut out = [9u8; 16];
     let off = [HIGH as i32 as u32, (HIGH + 1) as u32].map(|x| x.to_le_bytes()).concat();
     assert_eq!(combine(Op::Or, &off, &[], &[], &mut out), REFUSED);
-    assert_eq!(combine(Op::Or, &bytes(&apart(65, 0, 2)), &[], &[], &mut out), REFUSED);
+    assert_eq!(combine(Op::Or, &bytes(&apart(257, 0, 2)), &[], &[], &mut out), REFUSED);
     assert_eq!(out, [9u8; 16]);
     assert_eq!(has(&off, 0), 2);
 }
@@ -221,7 +244,7 @@ fn plain_is_the_same() {
                 Op::Not => x.not(),
                 Op::OrAnd => x.or_and(y, z),
             };
-            assert_eq!(made.over, want.len() > 64);
+            assert_eq!(made.over, want.len() > MOST_RUNS);
             if !made.over {
                 assert_eq!(made.set, set(&want));
             }

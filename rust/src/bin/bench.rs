@@ -38,7 +38,7 @@ fn thinning_of_fewer() {
 }
 
 fn listed() {
-    for tops in [0, 64] {
+    for tops in [0, 64, 256] {
         question(&format!("peaks(A), {tops} tops"), 1.2, &with_tops(&evenly(tops, RECORDS), &[]), "peaks(A)");
     }
     let (many, by) = (evenly(256, RECORDS), |step: usize| (0..256).map(|i| 1 + step * i).collect::<Vec<_>>());
@@ -60,12 +60,15 @@ fn temporal() {
     let few = "G(A<=v|F(B>=v&X(!fall(A)|T>=v)))&U(A>=v|rise(B),W(B<=v,A<v&T<=v))|X(X(X(F(A>v&G(B<v|T<v)))))";
     question_of_32_nodes("32 nodes, sets of few runs", 2.0, &readings, few);
     let wide = "F(A=v)|F(B=v)&!F(A=v|B=v)|U(!(A=v),F(B=v))&G(F(A=v))|X(F(A=v&B>=0))|W(F(A=v),B=v)";
-    let mut readings = readings;
-    for (index, reading) in readings.iter_mut().enumerate() {
-        reading.a = (index * 37 % 30 * 4) as i32;
-        reading.b = (index * 41 % 30 * 4 + 1_000) as i32;
+    // So many values of each curve, all apart: what neither takes lies in one run more than both together.
+    for values in [30, 124] {
+        let mut readings = readings.clone();
+        for (index, reading) in readings.iter_mut().enumerate() {
+            reading.a = (index * 37 % values * 4) as i32;
+            reading.b = (index * 41 % values * 4 + 1_000) as i32;
+        }
+        question_of_32_nodes(&format!("32 nodes, sets of up to {} runs", 2 * values + 1), 4.0, &readings, wide);
     }
-    question_of_32_nodes("32 nodes, sets of up to 61 runs", 4.0, &readings, wide);
 }
 
 fn question_of_32_nodes(name: &str, aim: f64, readings: &[Reading], text: &str) {

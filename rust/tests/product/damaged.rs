@@ -6,10 +6,11 @@ use crate::support::cases::{begin, cases};
 use crate::support::r1::r1_bytes;
 use crate::support::recordings::{self, damaged, with_tops_at};
 use mill::reference::recording::{bytes, Record};
+use mill::sys::MILL_SET_BYTES;
 
 /// All calls; the number of the pair call's outcome.
 fn all_calls(recording: &[u8]) -> u32 {
-    question(recording, b"peaks(A)", 512);
+    question(recording, b"peaks(A)", MILL_SET_BYTES);
     degree(recording, b"high(B)", 7);
     thin(recording, &[40, 0, 0, 0], 65_536);
     pair(recording, 0, 40)
@@ -66,7 +67,7 @@ fn every_byte_of_a_record() {
                 begin("every byte of a record", byte.into());
                 let mut recording = r1.clone();
                 recording[16 * index + at] = byte;
-                question(&recording, b"cross", 512);
+                question(&recording, b"cross", MILL_SET_BYTES);
                 pair(&recording, 0, 40);
                 thin(&recording, &[], 65_536);
             }

@@ -9,7 +9,7 @@ use mill::reference::recording::{bytes, Record, FALLING, FLAT, RISING};
 use mill::reference::set::{HIGH, LOW};
 use mill::Run;
 
-const ROOM: usize = 512;
+const ROOM: usize = 2048;
 
 /// The runs that the library answers, after the comparison.
 #[track_caller]
@@ -35,30 +35,30 @@ fn what_only_x_sees_is_lost_on_kept_readings() {
 }
 
 #[test]
-fn sixty_four_tops_and_sixty_five() {
+fn two_hundred_and_fifty_six_runs_and_one_more() {
     for curve in ["A", "B"] {
         let tops = |count: usize| bytes(&with_tops(4096, if curve == "A" { [count, 0] } else { [0, count] }));
-        assert_eq!(runs(&tops(64), &format!("peaks({curve})")).len(), 64);
-        assert_eq!(question(&tops(64), format!("peaks({curve})").as_bytes(), 512), 0);
-        assert_eq!(question(&tops(64), format!("peaks({curve})").as_bytes(), 511), 10);
-        assert_eq!(refused(&tops(65), &format!("peaks({curve})")), 8);
-        assert_eq!(question(&tops(65), format!("peaks({curve})").as_bytes(), 0), 8);
+        assert_eq!(runs(&tops(256), &format!("peaks({curve})")).len(), 256);
+        assert_eq!(question(&tops(256), format!("peaks({curve})").as_bytes(), 2048), 0);
+        assert_eq!(question(&tops(256), format!("peaks({curve})").as_bytes(), 2047), 10);
+        assert_eq!(refused(&tops(257), &format!("peaks({curve})")), 8);
+        assert_eq!(question(&tops(257), format!("peaks({curve})").as_bytes(), 0), 8);
         // The complement has one run more, and each `!` is a node.
-        assert_eq!(refused(&tops(64), &format!("!peaks({curve})")), 8);
-        assert_eq!(refused(&tops(64), &format!("!!peaks({curve})")), 8);
-        assert_eq!(runs(&tops(63), &format!("!peaks({curve})")).len(), 64);
-        assert_eq!(refused(&tops(64), &format!("F(!fall({curve})&X(fall({curve})&T=v))")), 0);
-        assert_eq!(refused(&tops(65), &format!("F(!fall({curve})&X(fall({curve})&T=v))")), 8);
-        assert_eq!(degree(&tops(64), format!("peaks({curve})").as_bytes(), 9), 0);
-        assert_eq!(degree(&tops(65), format!("peaks({curve})").as_bytes(), 9), 8);
+        assert_eq!(refused(&tops(256), &format!("!peaks({curve})")), 8);
+        assert_eq!(refused(&tops(256), &format!("!!peaks({curve})")), 8);
+        assert_eq!(runs(&tops(255), &format!("!peaks({curve})")).len(), 256);
+        assert_eq!(refused(&tops(256), &format!("F(!fall({curve})&X(fall({curve})&T=v))")), 0);
+        assert_eq!(refused(&tops(257), &format!("F(!fall({curve})&X(fall({curve})&T=v))")), 8);
+        assert_eq!(degree(&tops(256), format!("peaks({curve})").as_bytes(), 9), 0);
+        assert_eq!(degree(&tops(257), format!("peaks({curve})").as_bytes(), 9), 8);
         // The other curve has none.
         let other = if curve == "A" { "B" } else { "A" };
-        assert_eq!(runs(&tops(65), &format!("peaks({other})")), []);
+        assert_eq!(runs(&tops(257), &format!("peaks({other})")), []);
     }
 }
 
 #[test]
-fn two_hundred_and_fifty_six_tops_and_one_more() {
+fn two_hundred_and_fifty_six_tops_of_differences_and_one_more() {
     let tops = |a: usize, b: usize| bytes(&with_tops(4096, [a, b]));
     for text in ["gaps(A)", "steps(A)", "lag", "gaps(A)|high(B)", "high(A)&!steps(A)"] {
         assert_eq!(refused(&tops(257, 0), text), 9, "{text}");
@@ -71,13 +71,16 @@ fn two_hundred_and_fifty_six_tops_and_one_more() {
     assert_eq!(runs(&tops(0, 256), "lag"), []);
     // 4,095 / 256 apart: 15 or 16 records.
     assert_eq!(runs(&tops(256, 256), "steps(A)"), [(15, 16)]);
-    assert_eq!(refused(&tops(256, 0), "gaps(A)"), 8);
+    // Each number of steps makes one run: its differences are one or two neighbours.
+    assert_eq!(runs(&tops(256, 0), "gaps(A)").len(), 255);
+    assert_eq!(question(&tops(256, 0), b"gaps(A)", 2039), 10);
+    assert_eq!(degree(&tops(256, 0), b"gaps(A)", 5_000), 0);
     assert_eq!(refused(&tops(256, 256), "lag"), 8);
     // 9 comes before 8, wherever it stands, and after 12.
     assert_eq!(refused(&tops(257, 0), "peaks(A)|gaps(A)"), 9);
     assert_eq!(refused(&tops(257, 0), "!(peaks(A)&steps(A))"), 9);
     assert_eq!(degree(&tops(257, 0), b"gaps(A)", 2_000_000_001), 12);
-    assert_eq!(degree(&tops(65, 0), b"peaks(A)", -2_000_000_001), 12);
+    assert_eq!(degree(&tops(257, 0), b"peaks(A)", -2_000_000_001), 12);
 }
 
 #[test]
@@ -177,41 +180,43 @@ fn texts_of_256_bytes_and_257() {
 
 #[test]
 fn only_nodes_count_and_not_what_is_inside_until() {
-    // 64 early records hold the ranges 0..6, 10..16, ..; 64 late ones 5..11, 15..21, ..
+    // 256 early records hold the ranges 0..6, 10..16, ..; 256 late ones 5..11, 15..21, ..
     let mut values = vec![[0, 0]];
-    values.extend((0..64).map(|k| [10 * k, 10 * k + 6]));
-    values.extend((0..64).map(|k| [10 * k + 5, 10 * k + 11]));
+    values.extend((0..256).map(|k| [10 * k, 10 * k + 6]));
+    values.extend((0..256).map(|k| [10 * k + 5, 10 * k + 11]));
     let recording = with_values(&values);
-    let (late, early) = ("F(T>64&A<=v&B>=v)", "T>0&T<=64&A<=v&B>=v");
-    assert_eq!(runs(&recording, late).len(), 64);
-    assert_eq!(runs(&recording, &format!("F({early})")).len(), 64);
-    assert_eq!(runs(&recording, &format!("{late}|F({early})")), [(0, 641)]);
-    // The two meet in 127 runs: too many for a node.
+    let (late, early) = ("F(T>256&A<=v&B>=v)", "T>0&T<=256&A<=v&B>=v");
+    assert_eq!(runs(&recording, late).len(), 256);
+    assert_eq!(runs(&recording, &format!("F({early})")).len(), 256);
+    assert_eq!(runs(&recording, &format!("{late}|F({early})")), [(0, 2_561)]);
+    // The two meet in 511 runs: too many for a node.
     assert_eq!(refused(&recording, &format!("{late}&F({early})")), 8);
     assert_eq!(refused(&recording, &format!("U({late}|T>0,{early})")), 8);
-    // Here q swallows them at the first record, and no node has more than 64.
+    // Here q swallows them at the first record, and no node has more than 256.
     assert_eq!(runs(&recording, &format!("U({late}|T>0,T=0|{early})")), [(LOW, HIGH)]);
-    assert_eq!(runs(&recording, &format!("W({late}&T=0|T>0&T<=64,T=0|{early})")), [(LOW, HIGH)]);
-    assert_eq!(refused(&recording, &format!("W({late}&T=0|T>0&T<=64,{early})")), 8);
-    // With 5..400 at the first record it swallows some: 48 runs are left of 127.
-    values[0] = [5, 400];
+    assert_eq!(runs(&recording, &format!("W({late}&T=0|T>0&T<=256,T=0|{early})")), [(LOW, HIGH)]);
+    assert_eq!(refused(&recording, &format!("W({late}&T=0|T>0&T<=256,{early})")), 8);
+    // With 5..1280 at the first record it swallows some: 256 runs are left of 511. With 5..1275 one more is left.
+    values[0] = [5, 1_280];
     let recording = with_values(&values);
-    let left: Vec<(i64, i64)> = (81..=127).map(|k| (5 * k, 5 * k + 1)).collect();
+    let left: Vec<(i64, i64)> = (257..=511).map(|k| (5 * k, 5 * k + 1)).collect();
     let some = format!("U({late}|T>0,T=0&A<=v&B>=v|{early})");
-    assert_eq!(runs(&recording, &some), [&[(5, 401)], &left[..]].concat());
-    assert_eq!(degree(&recording, some.as_bytes(), 403), 0);
+    assert_eq!(runs(&recording, &some), [&[(5, 1_281)], &left[..]].concat());
+    assert_eq!(degree(&recording, some.as_bytes(), 1_283), 0);
+    values[0] = [5, 1_275];
+    assert_eq!(refused(&with_values(&values), &some), 8);
 }
 
 #[test]
 fn more_runs_at_a_later_record_than_at_the_first() {
-    let mut values: Vec<[i64; 2]> = (0..63).map(|k| [2 * k + 1, 0]).collect();
-    values.extend((0..64).map(|k| [2 * k, 0]));
+    let mut values: Vec<[i64; 2]> = (0..255).map(|k| [2 * k + 1, 0]).collect();
+    values.extend((0..256).map(|k| [2 * k, 0]));
     let recording = with_values(&values);
-    assert_eq!(runs(&recording, "F(A=v)"), [(0, 126)]);
-    // At record 63 the set has 64 runs and its complement 65.
+    assert_eq!(runs(&recording, "F(A=v)"), [(0, 510)]);
+    // At record 255 the set has 256 runs and its complement 257.
     assert_eq!(refused(&recording, "!F(A=v)"), 8);
     assert_eq!(refused(&recording, "A=1|!F(A=v)"), 8);
-    values.push([128, 0]);
+    values.push([512, 0]);
     let one_more = with_values(&values);
     assert_eq!(refused(&one_more, "F(A=v)"), 8);
     assert_eq!(refused(&one_more, "X(A=v)|F(A=v)&A=v"), 8);
@@ -222,8 +227,8 @@ fn more_runs_at_a_later_record_than_at_the_first() {
 
 #[test]
 fn grouping_from_the_left_is_visible() {
-    // 40 tops of either curve, 80 runs together.
-    let (of_a, of_b): (Vec<i64>, Vec<i64>) = (1..=40).map(|i| (100 * i, 100 * i + 50)).unzip();
+    // 150 tops of either curve, 300 runs together.
+    let (of_a, of_b): (Vec<i64>, Vec<i64>) = (1..=150).map(|i| (100 * i, 100 * i + 50)).unzip();
     let recording = with_tops_at([&of_a, &of_b]);
     assert_eq!(refused(&recording, "peaks(A)|peaks(B)|high(A)|low(A)"), 8);
     assert_eq!(runs(&recording, "peaks(A)|(peaks(B)|high(A)|low(A))"), [(LOW, HIGH)]);
@@ -235,12 +240,12 @@ fn grouping_from_the_left_is_visible() {
 
 #[test]
 fn without_temporal_operators_only_the_first_record_counts() {
-    // 64 tops; the first reading of A is the time of one of them, the others lie apart.
-    let mut records = with_tops(4096, [64, 0]);
+    // 256 tops; the first reading of A is the time of one of them, the others lie apart.
+    let mut records = with_tops(4096, [256, 0]);
     records.iter_mut().for_each(|record| record.value[0] = 100_000);
     records[0].value[0] = 1;
     let recording = bytes(&records);
-    assert_eq!(runs(&recording, "peaks(A)|A=v").len(), 64);
+    assert_eq!(runs(&recording, "peaks(A)|A=v").len(), 256);
     assert_eq!(refused(&recording, "peaks(A)|A=v&B=0|A=v"), 0);
     records[0].value[0] = 100_000;
     assert_eq!(refused(&bytes(&records), "peaks(A)|A=v"), 8);
@@ -248,16 +253,16 @@ fn without_temporal_operators_only_the_first_record_counts() {
 
 #[test]
 fn neighbours_join_before_runs_are_counted() {
-    let recording = with_values(&(0..64).map(|k| [2 * k, 2 * k + 1]).collect::<Vec<_>>());
-    assert_eq!(runs(&recording, "F(A=v)|F(B=v)"), [(0, 127)]);
-    assert_eq!(runs(&recording, "F(A=v|B=v)"), [(0, 127)]);
+    let recording = with_values(&(0..256).map(|k| [2 * k, 2 * k + 1]).collect::<Vec<_>>());
+    assert_eq!(runs(&recording, "F(A=v)|F(B=v)"), [(0, 511)]);
+    assert_eq!(runs(&recording, "F(A=v|B=v)"), [(0, 511)]);
     assert_eq!(runs(&recording, "F(A=v)&F(B=v)"), []);
-    assert_eq!(runs(&recording, "F(A=v)").len(), 64);
+    assert_eq!(runs(&recording, "F(A=v)").len(), 256);
     assert_eq!(refused(&recording, "!F(A=v)"), 8);
     // With a run that reaches the axis end a complement has no more runs than the set.
     let capped = |count: i64| with_values(&(0..count).map(|k| [2 * k, 1_000_000]).collect::<Vec<_>>());
-    assert_eq!(runs(&capped(63), "!(F(A=v)|B<=v)").len(), 64);
-    assert_eq!(refused(&capped(64), "!(F(A=v)|B<=v)"), 8);
+    assert_eq!(runs(&capped(255), "!(F(A=v)|B<=v)").len(), 256);
+    assert_eq!(refused(&capped(256), "!(F(A=v)|B<=v)"), 8);
 }
 
 #[test]
@@ -272,15 +277,17 @@ fn many_differences_that_join() {
     assert_eq!(runs(&with_tops_at([&of_a, &of_b]), "lag"), [(488, 488), (490, 1_761), (1_763, 1_763)]);
     assert_eq!(runs(&with_tops_at([&of_b, &of_a]), "lag"), [(-1_763, -1_763), (-1_761, -490), (-488, -488)]);
     // Both curves alike: negative, zero and positive.
-    let few: Vec<i64> = (1..=33).map(|i| 100 * i).collect();
-    assert_eq!(refused(&with_tops_at([&few, &few]), "lag"), 8);
-    assert_eq!(runs(&with_tops_at([&few[..32], &few[..32]]), "lag").len(), 63);
-    assert_eq!(runs(&with_tops_at([&few[..32], &few]), "lag").len(), 64);
-    assert_eq!(runs(&with_tops_at([&few, &[]]), "gaps(A)").len(), 32);
-    let many: Vec<i64> = (1..=66).map(|i| 100 * i).collect();
-    assert_eq!(runs(&with_tops_at([&many[..65], &[]]), "gaps(A)").len(), 64);
-    assert_eq!(refused(&with_tops_at([&many, &[]]), "gaps(A)"), 8);
-    assert_eq!(runs(&with_tops_at([&many, &[]]), "steps(A)"), [(100, 100)]);
+    let even: Vec<i64> = (1..=256).map(|i| 100 * i).collect();
+    assert_eq!(refused(&with_tops_at([&even[..129], &even[..129]]), "lag"), 8);
+    assert_eq!(runs(&with_tops_at([&even[..128], &even[..128]]), "lag").len(), 255);
+    assert_eq!(runs(&with_tops_at([&even[..128], &even[..129]]), "lag").len(), 256);
+    assert_eq!(runs(&with_tops_at([&even, &[]]), "gaps(A)"), (1..=255).map(|i| (100 * i, 100 * i)).collect::<Vec<_>>());
+    assert_eq!(runs(&with_tops_at([&even, &[]]), "steps(A)"), [(100, 100)]);
+    // 129 even tops and one between two of them: 100, 200, .., 12,800 and 50, 150, .., 12,750. Behind them it makes 12,850 too.
+    let and_one = |time: i64| with_tops_at([&[&even[..129], &[time]].concat(), &[]]);
+    assert_eq!(runs(&and_one(150), "gaps(A)").len(), 256);
+    assert_eq!(refused(&and_one(12_950), "gaps(A)"), 8);
+    assert_eq!(runs(&and_one(12_950), "steps(A)"), [(50, 50), (100, 100)]);
 }
 
 #[test]

@@ -10,7 +10,7 @@ use crate::support::texts;
 use mill::reference::kept::mark_bytes;
 use mill::reference::recording::{bytes, Record};
 use mill::reference::text::{accepted, Node};
-use mill::sys::{mill_number, mill_question, mill_thin};
+use mill::sys::{mill_number, mill_question, mill_thin, MILL_SET_BYTES};
 use mill::{Curve, Degree, Refusal};
 
 /// A text without F, G, X, U and W whose after-times are among the marks.
@@ -140,7 +140,7 @@ fn nothing_kept_of_nothing() {
     begin("nothing kept of nothing", 0);
     assert_eq!(mill::thin(&[], &[40]), Ok(vec![]));
     for text in ["high(A)", "lowafter(A,40)", "", "F(A>v"] {
-        assert_eq!(question(&[], text.as_bytes(), 512), 4);
+        assert_eq!(question(&[], text.as_bytes(), MILL_SET_BYTES), 4);
         assert_eq!(degree(&[], text.as_bytes(), 40), 4);
     }
     assert_eq!(pair(&[], 0, 40), 4);

@@ -1,5 +1,5 @@
 //! Covers: the question call on random recordings and texts, read and unread, with outputs of any length; sets near the limit
-//! of 64 runs; many tops; long recordings.
+//! of 256 runs; many tops; long recordings.
 
 use crate::calls::{question, Tally};
 use crate::support::cases::cases;
@@ -7,13 +7,15 @@ use crate::support::random::Random;
 use crate::support::recordings::{self, put_top, with_many_tops};
 use crate::support::texts::{self, Kind};
 use mill::reference::recording::{bytes, Record, FLAT};
+use mill::sys::MILL_SET_BYTES;
 
 /// An output's length: room for all, or some few bytes.
 pub fn room(random: &mut Random) -> usize {
-    match random.below(4) {
-        0 => 8 * random.below(8),
-        1 => random.below(70),
-        _ => 512 + random.below(40),
+    match random.below(8) {
+        0 | 1 => 8 * random.below(8),
+        2 => random.below(70),
+        3 => random.below(MILL_SET_BYTES),
+        _ => MILL_SET_BYTES + random.below(40),
     }
 }
 
@@ -46,9 +48,9 @@ fn random_questions_two() {
 
 /// Values that lie apart, so that each makes a run of its own, on about as many records as a set may have runs.
 fn spread(random: &mut Random) -> Vec<Record> {
-    let distinct = 50 + random.below(30) as i64;
+    let distinct = 242 + random.below(30) as i64;
     let apart = random.pick(&[1, 2, 2, 3, 1000]);
-    let count = 60 + random.below(110);
+    let count = 250 + random.below(110);
     let mut records = recordings::accepted(random, count);
     let ordered = random.once_in(2);
     for (index, record) in records.iter_mut().enumerate() {
@@ -103,15 +105,15 @@ fn many_tops() {
     tally.saw(&[0, 8, 9, 10], 100);
 }
 
-/// Chains of `|` and `&` over sets of about 40 runs: which two are put together first decides whether 8 is due.
+/// Chains of `|` and `&` over sets of about 180 runs: which two are put together first decides whether 8 is due.
 #[test]
 fn chains_near_the_limit() {
     let mut tally = Tally::default();
     cases("chains near the limit", 6_000, |random| {
-        let mut records = recordings::accepted(random, 200);
+        let mut records = recordings::accepted(random, 800);
         for curve in 0..2 {
             records.iter_mut().for_each(|record| record.slope[curve] = FLAT);
-            for top in 0..25 + random.below(40) {
+            for top in 0..100 + random.below(160) {
                 put_top(&mut records, curve, 1 + curve + 3 * top);
             }
         }
@@ -126,7 +128,7 @@ fn chains_near_the_limit() {
                 _ => format!("{text}{sign}{}", random.pick(&parts)),
             };
         }
-        tally.add(question(&bytes(&records), text.as_bytes(), 512));
+        tally.add(question(&bytes(&records), text.as_bytes(), MILL_SET_BYTES));
     });
     tally.saw(&[0, 8], 1_000);
 }
@@ -137,11 +139,11 @@ fn long_recordings() {
     cases("long recordings", 160, |random| {
         let count = random.pick(&[4096, 4096, 4095, 3000]);
         let mut records = recordings::accepted(random, count);
-        let few = random.between(1, 40);
+        let few = random.between(1, 160);
         records.iter_mut().for_each(|record| record.value = record.value.map(|value| value.rem_euclid(few) * 2));
         let size = 1 + random.below(6);
         let text = texts::made(random, Kind::Mixed, size, &records);
-        tally.add(question(&bytes(&records), text.as_bytes(), 512));
+        tally.add(question(&bytes(&records), text.as_bytes(), MILL_SET_BYTES));
     });
     tally.saw(&[0, 8], 10);
 }

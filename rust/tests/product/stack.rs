@@ -9,15 +9,15 @@ use mill::reference::recording::bytes;
 use mill::sys::{mill_degree, mill_pair, mill_question, mill_thin};
 use std::collections::BTreeMap;
 
-/// A recording of 4,096 readings under which sets grow to about 60 runs.
+/// A recording of 4,096 readings under which sets grow to 250 runs.
 fn wide() -> Vec<u8> {
     let mut records = flat(4096);
     for (index, record) in records.iter_mut().enumerate() {
-        record.value = [index as i64 * 37 % 60 * 2, index as i64 * 41 % 60 * 2 + 1_000];
+        record.value = [index as i64 * 37 % 250 * 2, index as i64 * 41 % 250 * 2 + 1_000];
     }
-    for top in 0..50 {
-        put_top(&mut records, 0, 10 + 80 * top);
-        put_top(&mut records, 1, 30 + 80 * top);
+    for top in 0..250 {
+        put_top(&mut records, 0, 10 + 16 * top);
+        put_top(&mut records, 1, 14 + 16 * top);
     }
     bytes(&records)
 }

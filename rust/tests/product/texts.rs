@@ -5,6 +5,7 @@ use crate::calls::{question, Tally};
 use crate::support::cases::begin;
 use crate::support::r1::r1_bytes;
 use crate::support::texts::GOOD;
+use mill::sys::MILL_SET_BYTES;
 
 /// Asks every text of `least` to `most` words on R1; how many have a reading.
 fn every_text(name: &'static str, words: &[&str], most: usize) -> u64 {
@@ -16,7 +17,7 @@ fn every_text(name: &'static str, words: &[&str], most: usize) -> u64 {
             let text: String = chosen.iter().map(|word| words[*word]).collect();
             begin(name, case);
             case += 1;
-            read += u64::from(question(&recording, text.as_bytes(), 512) != 6);
+            read += u64::from(question(&recording, text.as_bytes(), MILL_SET_BYTES) != 6);
             let Some(place) = chosen.iter().rposition(|word| word + 1 < words.len()) else { break };
             chosen[place] += 1;
             chosen[place + 1..].fill(0);
@@ -58,15 +59,15 @@ fn every_text_one_byte_away() {
     for (case, text) in GOOD.iter().enumerate() {
         begin("every text one byte away", case as u64);
         let text = text.as_bytes();
-        assert_ne!(question(&recording, text, 512), 6);
+        assert_ne!(question(&recording, text, MILL_SET_BYTES), 6);
         for at in 0..=text.len() {
             if at < text.len() {
-                tally.add(question(&recording, &[&text[..at], &text[at + 1..]].concat(), 512));
+                tally.add(question(&recording, &[&text[..at], &text[at + 1..]].concat(), MILL_SET_BYTES));
             }
             for byte in 0..=255 {
-                tally.add(question(&recording, &[&text[..at], &[byte], &text[at..]].concat(), 512));
+                tally.add(question(&recording, &[&text[..at], &[byte], &text[at..]].concat(), MILL_SET_BYTES));
                 if at < text.len() {
-                    tally.add(question(&recording, &[&text[..at], &[byte], &text[at + 1..]].concat(), 512));
+                    tally.add(question(&recording, &[&text[..at], &[byte], &text[at + 1..]].concat(), MILL_SET_BYTES));
                 }
             }
         }

@@ -82,7 +82,7 @@ fn every_refusal_of_questions() {
         mill::question(&recording, b"").unwrap_err(),
         mill::question(&recording, b"F(A>v").unwrap_err(),
         mill::question(&recording, b"(((((((((((((((((A>=v)))))))))))))))))").unwrap_err(),
-        mill::question(&tops(65), b"peaks(A)").unwrap_err(),
+        mill::question(&tops(257), b"peaks(A)").unwrap_err(),
         mill::question(&tops(257), b"gaps(A)").unwrap_err(),
         mill::question_into(&recording, b"peaks(A)", &mut [0; 15]).unwrap_err(),
         mill::thin(&recording, &[0; 9]).unwrap_err(),

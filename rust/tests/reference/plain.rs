@@ -8,7 +8,7 @@ use mill::reference::{self, Degree};
 #[test]
 fn plain_rust_answers_alike() {
     cases("plain Rust answers alike", 20_000, |random| {
-        let records = recordings::any(random);
+        let records = if random.once_in(40) { recordings::with_many_tops(random) } else { recordings::any(random) };
         let mut recording = bytes(&records);
         if random.once_in(8) {
             recording = recordings::damaged(random, recording);
@@ -19,7 +19,7 @@ fn plain_rust_answers_alike() {
             text = texts::changed(random, &String::from_utf8(text).unwrap());
         }
         let pair = |refused: reference::Refused| (refused.number, refused.place);
-        let room = random.pick(&[1024, 1024, 16, 7]);
+        let room = random.pick(&[2048, 2048, 16, 7]);
         let mut out = vec![0; room];
         let plain = mill::plain::question(&recording, &text, &mut out).map(|length| out[..length].to_vec());
         assert_eq!(plain, reference::question(&recording, &text, room).map_err(pair));

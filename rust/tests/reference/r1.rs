@@ -60,10 +60,10 @@ fn table_examples() {
     assert_eq!(question(&r1, brackets(17).as_bytes(), ROOM), Err(refused(7)));
     assert_eq!(runs(&brackets(16)), [(LOW, 40)]);
     let tops = |count: usize| recording::bytes(&with_tops(4096, [count, 0]));
-    assert_eq!(question(&tops(65), b"peaks(A)", ROOM), Err(refused(8)));
-    assert_eq!(runs_of(&tops(64), "peaks(A)").len(), 64);
+    assert_eq!(question(&tops(257), b"peaks(A)", ROOM), Err(refused(8)));
+    assert_eq!(runs_of(&tops(256), "peaks(A)").len(), 256);
     assert_eq!(question(&tops(257), b"gaps(A)", ROOM), Err(refused(9)));
-    assert_eq!(question(&tops(256), b"gaps(A)", ROOM), Err(refused(8)));
+    assert_eq!(runs_of(&tops(256), "gaps(A)").len(), 255);
     assert_eq!(pair(&tops(257), 0, 1), Err(refused(9)));
     assert_eq!(question(&r1, b"peaks(A)", 15), Err(refused(10)));
     assert_eq!(question(&r1, b"peaks(A)", 16).map(|bytes| bytes.len()), Ok(16));

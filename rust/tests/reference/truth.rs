@@ -46,11 +46,11 @@ fn sets_hold_the_true_numbers() {
 fn two_ways_to_quantify() {
     let mut over = 0;
     cases("two ways to quantify", 4_000, |random| {
-        let many = random.once_in(2);
-        let count = if many { 60 + random.below(70) } else { 1 + random.below(40) };
+        let many = random.once_in(3);
+        let count = if many { 280 + random.below(60) } else { 1 + random.below(40) };
         let mut records = recordings::accepted(random, count);
         if many {
-            records.iter_mut().for_each(|r| r.value[0] = 2 * random.between(0, 100));
+            records.iter_mut().for_each(|r| r.value[0] = 2 * random.between(0, 2_000));
         }
         let size = 2 + random.below(8);
         let text = texts::made(random, texts::Kind::Temporal, size, &records);

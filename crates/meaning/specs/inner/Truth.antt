@@ -139,7 +139,7 @@ someNode G (next p) = G (next p) || someNode G p
 someNode G (until p q) = G (until p q) || (someNode G p || someNode G q)
 someNode G (weakUntil p q) = G (weakUntil p q) || (someNode G p || someNode G q)
 
--- some node of the text has over 64 runs at record i
+-- some node of the text has over 256 runs at record i
 abbrev pub overAt : List Coded → Text → ℕ → Bool
 overAt r p i = someNode (λ q. largeAt r q i) p
 

@@ -108,15 +108,15 @@ ended m [] a = none axis
 ended m (x ∷ l) a =
     behind-run m axis (index (x .low)) (index (x .high) + 1) (cuts l) a axis (a .2 .1) ∙ ended (index (x .high) + 1 + 1) l (a .2 .2)
 
--- runs of the axis, ascending, with a gap between any two, at most 64
+-- runs of the axis, ascending, with a gap between any two, and no more than a set holds
 abbrev fits : List Run → Bool
-fits l = allOf (λ x. onAxis (x .low) && onAxis (x .high)) l && (ascends 0 (cuts l) && leb (length (cuts l)) 128)
+fits l = allOf (λ x. onAxis (x .low) && onAxis (x .high)) l && (ascends 0 (cuts l) && leb (length (cuts l)) (2 * mostRuns))
 
 module _ (l : List Run) (h : fits l ≡ true) where
   on-axis : Each OnAxis l
   on-axis = all-stand l (and-left (allOf (λ x. onAxis (x .low) && onAxis (x .high)) l) _ h)
 
-  rest : (ascends 0 (cuts l) && leb (length (cuts l)) 128) ≡ true
+  rest : (ascends 0 (cuts l) && leb (length (cuts l)) (2 * mostRuns)) ≡ true
   rest = and-right (allOf (λ x. onAxis (x .low) && onAxis (x .high)) l) _ h
 
   ascend : Ascending 0 axis (cuts l)
@@ -125,8 +125,8 @@ module _ (l : List Run) (h : fits l ≡ true) where
   canonical : Canonical (cuts l)
   canonical = record { ascending = ascend; ended = ended 0 l ascend }
 
-  few-cuts : length (cuts l) ≤ 128
-  few-cuts = leb-true (length (cuts l)) 128 (and-right (ascends 0 (cuts l)) _ rest)
+  few-cuts : length (cuts l) ≤ 2 * mostRuns
+  few-cuts = leb-true (length (cuts l)) (2 * mostRuns) (and-right (ascends 0 (cuts l)) _ rest)
 
   -- the numbers inside the cuts are those of the runs
   inside-runs : (n : ℕ) → So (inside (cuts l) n) ↔ InRuns l (whole n)
@@ -143,7 +143,7 @@ R1-readings = refl
 R1-in-range : InRange (recording.readings R1)
 R1-in-range = accepted-recorded R1 R1-accepted .in-range
 
--- a line of the meaning, read from a text: 5, 6, 7 and 9 do not refuse it, and 8 does not where the set has at most 64 runs
+-- a line of the meaning, read from a text: 5, 6, 7 and 9 do not refuse it, and 8 does not where the set has at most 256 runs
 module _ {l : lines.Line} (told : lines.Told l) (text : List ℕ) (reads : reading text ≡ one (l .text)) (sized : NoneMeets (textLines text))
     (fit : fits (l .runs) ≡ true) (written : runBytes (lowCuts (cuts (l .runs))) (highCuts (cuts (l .runs))) ≡ bytesOfRuns (l .runs))
     (nine : refused9 (coded R1) (l .text) ≡ false) (eight : runCount (λ n. val (coded R1) n (l .text) 0) ≤ mostRuns → refused8 (coded R1) (l .text) ≡ false) where

@@ -59,7 +59,7 @@ some-record bytes e = by (ℕ-discrete (length (records bytes)) 0)
     by (yes z) = absurd (true≢false (sym (eq-eqb (length (records bytes)) 0 z) ∙ e))
     by (no z) = omega (arith, coded-length bytes, length-records bytes)
 
--- THE SIZE OF AN ANSWER: at most 64 runs of 8 bytes
+-- THE SIZE OF AN ANSWER: at most 256 runs of 8 bytes
 pub answered-few : (bytes text : List ℕ) (room : ℕ) (written : List ℕ) → questionOf bytes text room ≡ result written → length written ≤ 8 * mostRuns
 unfolding questionOf
 answered-few bytes text room written e =

@@ -79,15 +79,15 @@ complement-count l c =
     cuts-count (λ v. not (inside l v)) (mergeCuts xor false false (0 ∷ axis ∷ []) l) (merged-canonical xor refl (0 ∷ axis ∷ []) l axis-canonical c)
     (λ v h. merged-inside xor refl (0 ∷ axis ∷ []) l axis-canonical c v ∙ ap (λ (b : Bool). xor b (inside l v)) (axis-inside v h))
 
--- 64 runs inside the axis: the complement has 65
-full-inside : runCount (λ v. not (inside (runs-apart 64 5) v)) ≡ 65
+-- 256 runs inside the axis: the complement has 257
+full-inside : runCount (λ v. not (inside (runs-apart 256 5) v)) ≡ 257
 unfolding mergeCuts emit runs-apart
-full-inside = let e : 130 ≡ 2 * runCount (λ v. not (inside (runs-apart 64 5) v)) = complement-count (runs-apart 64 5) (apart 64 5 (omega arith)) in omega arith
+full-inside = let e : 514 ≡ 2 * runCount (λ v. not (inside (runs-apart 256 5) v)) = complement-count (runs-apart 256 5) (apart 256 5 (omega arith)) in omega arith
 
--- 64 runs of which one begins with the axis: the complement has 64
-full-at-the-end : runCount (λ v. not (inside (runs-apart 64 0) v)) ≡ 64
+-- 256 runs of which one begins with the axis: the complement has 256
+full-at-the-end : runCount (λ v. not (inside (runs-apart 256 0) v)) ≡ 256
 unfolding mergeCuts emit runs-apart
-full-at-the-end = let e : 128 ≡ 2 * runCount (λ v. not (inside (runs-apart 64 0) v)) = complement-count (runs-apart 64 0) (apart 64 0 (omega arith)) in omega arith
+full-at-the-end = let e : 512 ≡ 2 * runCount (λ v. not (inside (runs-apart 256 0) v)) = complement-count (runs-apart 256 0) (apart 256 0 (omega arith)) in omega arith
 
 -- ---- distances
 

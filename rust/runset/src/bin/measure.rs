@@ -1,4 +1,4 @@
-//! Times the proved operations and the plain ones side by side, at 1 and at 64 runs.
+//! Times the proved operations and the plain ones side by side, at 1, at 64 and at 256 runs.
 use runset_compare::{bytes, index, plain, repeat, Op, Run, LOW, OPS};
 use std::hint::black_box;
 
@@ -67,10 +67,10 @@ fn timed(f: impl FnOnce() -> u64) -> (f64, u64) {
 /// The least time of either side over rounds that take turns.
 fn main() {
     println!("{:8} {:>4} {:>10} {:>10} {:>6}", "op", "runs", "proved ns", "plain ns", "ratio");
-    for runs in [1, 64] {
+    for runs in [1, 64, 256] {
         let (a, b, c) = (spread(runs, 1), spread(runs, 2), spread(runs, 3));
         let (x, y, z) = (bytes(&a), bytes(&b), bytes(&c));
-        let times = if runs == 1 { 100_000 } else { 10_000 };
+        let times = if runs == 1 { 100_000 } else { 640_000 / runs as u64 };
         for op in OPS {
             let (mut ours, mut theirs) = (f64::MAX, f64::MAX);
             for _ in 0..40 {
