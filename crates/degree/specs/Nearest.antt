@@ -30,10 +30,10 @@ module _ (r : List Reading) (p : Text) where
 
   -- met: the target is a member; short: no member is nearer than the distance d, which is not 0, and the floats are d and its degree; no value at all: there
   -- is no member
-  abbrev pub Says : ℕ → Value → Type 0
-  Says v met = Member v
-  Says v (short x k) = (d : ℕ) × (0 < d) × Distance v d × (x ≡ distanceOf d) × (k ≡ degreeOf d)
-  Says v noValue = (w : ℕ) → w < axis → Member w → ⊥
+  abbrev pub TrueOf : ℕ → Value → Type 0
+  TrueOf v met = Member v
+  TrueOf v (short x k) = (d : ℕ) × (0 < d) × Distance v d × (x ≡ distanceOf d) × (k ≡ degreeOf d)
+  TrueOf v noValue = (w : ℕ) → w < axis → Member w → ⊥
 
 -- DEMAND 2, of a value x that the degree call gives for the number at index v: the text has a reading under the printed rules, and no other, and x says
 -- so of that reading
@@ -41,4 +41,4 @@ pub record Near (bytes text : List ℕ) (v : ℕ) (x : Value) : Type 0 where
   pub tree : Text
   pub reads : ReadsWhole text tree
   pub only : (t : Text) → ReadsWhole text t → t ≡ tree
-  pub says : Says (readings bytes) tree v x
+  pub says : TrueOf (readings bytes) tree v x

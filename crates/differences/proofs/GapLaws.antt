@@ -9,9 +9,10 @@ use lib.ListN.{length, getD}
 use borrow.Author.Tests.{eqb-true, leb-true, le-leb, ne-eqb}
 use Rattle.number.specs.Axis.{origin}
 use Rattle.number.specs.laws.Boolean.{same, or-left, or-right, or-cases, and-left, and-right, and-make}
-use Rattle.meaning.specs.inner.Truth.{someOf, somePair, apart}
+use Rattle.meaning.specs.inner.Truth.{somePair, apart}
 use Rattle.differences.specs.inner.Times.{Times, lagsOf, gapsOf}
 use Rattle.differences.specs.inner.Search.{from}
+use Rattle.recording.specs.Condition.{someOf}
 
 -- all over lo, and ascending
 abbrev Sorted : ℕ → List ℕ → Type 0

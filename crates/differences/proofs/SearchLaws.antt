@@ -10,10 +10,11 @@ use mathlib.Core.List.{List}
 use lib.ListN.{length, getD}
 use borrow.Author.Tests.{eqb-true, eq-eqb}
 use Rattle.number.specs.Axis.{origin, axis}
-use Rattle.meaning.specs.inner.Truth.{someOf, apart}
+use Rattle.meaning.specs.inner.Truth.{apart}
 use Rattle.meaning.specs.laws.Pick.{some-at, some-find}
 use Rattle.differences.specs.inner.Times.{Times, lagsOf}
 use Rattle.differences.specs.inner.Search.{Least, Past, Follows}
+use Rattle.recording.specs.Condition.{someOf}
 
 -- ---- membership by index
 

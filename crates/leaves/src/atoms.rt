@@ -6,11 +6,12 @@ ghost use lib.ListN.{length};
 ghost use Rattle.number.specs.Axis.{axis};
 ghost use Rattle.recording.specs.Recording.{Accepted};
 ghost use Rattle.grammar.specs.Syntax.{v, number, compare, A-to-B};
-ghost use Rattle.grammar.specs.inner.Table.{curveOf, fieldOf, relationOf};
+ghost use Rattle.grammar.specs.inner.Table.{fieldOf, relationOf};
 ghost use Rattle.meaning.specs.inner.Coded.{codedSlope};
 ghost use Rattle.meaning.specs.inner.Truth.{codedAt, relate, atomVal};
 ghost use Rattle.meaning.specs.inner.Coded.{coded};
 ghost use Rattle.leaves.specs.inner.Span.{Spans};
+ghost use Rattle.recording.specs.Reading.{curveOf};
 use crate::fields;
 use crate::span;
 use crate::span::Span;
@@ -87,5 +88,5 @@ pub fn sloped(rec: &[u8], i: usize, curve: u32, slope: u8) -> Span
     requires { ⌜ Accepted (now rec) × (i < length (coded (now rec))) ⌝ }
     ensures { λ r. ⌜ Spans (λ n. eqb (codedSlope (curveOf curve) (codedAt (coded (now (rec .entry))) i)) «slope») r ⌝ }
 {
-    span::all_if(fields::slope_at(rec, i, fields::curve(curve)) == slope)
+    span::all_if(fields::slope_at(rec, i, recording::curve(curve)) == slope)
 }

@@ -4,7 +4,7 @@ ghost use Prim.Native.Nat.{_<_};
 ghost use lib.ListN.{length};
 ghost use Rattle.number.specs.Axis.{axis};
 ghost use Rattle.recording.specs.Recording.{Accepted};
-ghost use Rattle.tops.specs.Tops as tops;
+ghost use Rattle.recording.specs.Reading.{curveOf};
 ghost use Rattle.grammar.specs.inner.Table as table;
 ghost use Rattle.meaning.specs.inner.Coded.{codedValue, codedSlope};
 ghost use Rattle.meaning.specs.inner.Truth.{codedAt, codedField};
@@ -15,16 +15,6 @@ pub const FALLING: u8 = 0;
 
 pub const RISING: u8 = 2;
 
-// The number of the curve with a code of a row: 0 for A, 1 for B.
-pub fn curve(code: u32) -> usize
-    ensures { λ r. ⌜ (r < 2) × (tops.curveOf r ≡ table.curveOf code) ⌝ }
-{
-    if code == 1 {
-        return 1;
-    }
-    0
-}
-
 pub fn time_at(rec: &[u8], i: usize) -> u32
     requires { ⌜ Accepted (now rec) × (i < length (coded (now rec))) ⌝ }
     ensures { λ r. ⌜ (r ≡ codedAt (coded (now (rec .entry))) i .time) × (r < axis) ⌝ }
@@ -34,14 +24,14 @@ pub fn time_at(rec: &[u8], i: usize) -> u32
 
 pub fn value_at(rec: &[u8], i: usize, curve: usize) -> u32
     requires { ⌜ Accepted (now rec) × (i < length (coded (now rec))) × (curve < 2) ⌝ }
-    ensures { λ r. ⌜ (r ≡ codedValue (tops.curveOf curve) (codedAt (coded (now (rec .entry))) i)) × (r < axis) ⌝ }
+    ensures { λ r. ⌜ (r ≡ codedValue (curveOf curve) (codedAt (coded (now (rec .entry))) i)) × (r < axis) ⌝ }
 {
     std::num::wrapping_add_u32(recording::word_in(rec, i, 4 + 4 * curve), number::ORIGIN)
 }
 
 pub fn slope_at(rec: &[u8], i: usize, curve: usize) -> u8
     requires { ⌜ Accepted (now rec) × (i < length (coded (now rec))) × (curve < 2) ⌝ }
-    ensures { λ r. ⌜ r ≡ codedSlope (tops.curveOf curve) (codedAt (coded (now (rec .entry))) i) ⌝ }
+    ensures { λ r. ⌜ r ≡ codedSlope (curveOf curve) (codedAt (coded (now (rec .entry))) i) ⌝ }
 {
     recording::byte_in(rec, i, 12 + curve)
 }

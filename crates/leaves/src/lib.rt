@@ -44,7 +44,7 @@ fn spanned(rec: &[u8], i: usize, row: Row) -> Span
     if kind == kinds::RISE {
         return atoms::sloped(rec, i, row.first, fields::RISING);
     }
-    let curve = fields::curve(row.first);
+    let curve = recording::curve(row.first);
     if kind == kinds::HIGH {
         return extremes::high(rec, curve);
     }
@@ -62,7 +62,7 @@ fn amplitude(rec: &[u8], i: usize, row: Row) -> Span
     requires { ⌜ Asked (now rec) i row × (row .kind ≡ AMPL) ⌝ }
     ensures { λ r. ⌜ Spans (λ v. val (coded (now (rec .entry))) v (leafOf row) i) r ⌝ }
 {
-    extremes::ampl(rec, fields::curve(row.first))
+    extremes::ampl(rec, recording::curve(row.first))
 }
 
 // Leaves on times: `peaks`, `cross`, `gaps`, `steps` and `lag`.
@@ -77,7 +77,7 @@ fn timed(rec: &[u8], i: usize, row: Row) -> Cuts
     if kind == kinds::LAG {
         return times::lag(rec);
     }
-    let curve = fields::curve(row.first);
+    let curve = recording::curve(row.first);
     if kind == kinds::PEAKS {
         return times::peaks(rec, curve);
     }

@@ -2,7 +2,6 @@
 ghost use Prim.Native.Nat.{_≤_, _<_};
 ghost use lib.ListN.{length};
 ghost use Rattle.recording.specs.Recording.{Accepted};
-ghost use Rattle.tops.specs.Tops.{curveOf};
 ghost use Rattle.grammar.specs.Syntax as asks;
 ghost use Rattle.meaning.specs.inner.Coded.{topTimes, crossingTimes};
 ghost use Rattle.tops.specs.Tops.{mostTops};
@@ -10,6 +9,7 @@ ghost use Rattle.meaning.specs.inner.Truth.{truth};
 ghost use Rattle.differences.specs.inner.Cuts.{Collects};
 ghost use Rattle.meaning.specs.inner.Coded.{coded};
 ghost use Rattle.leaves.specs.inner.Stamps.{Early, Shifted, Stamped};
+ghost use Rattle.recording.specs.Reading.{curveOf};
 use differences::Cuts;
 
 // The most tops or crossings of a recording: half of its records.

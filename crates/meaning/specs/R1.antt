@@ -48,12 +48,12 @@ Maximal (x ∷ []) = x .low ≤ℤ x .high
 Maximal (x ∷ (y ∷ l)) = (x .low ≤ℤ x .high) × ((x .high +ℤ pos 1) <ℤ y .low) × Maximal (y ∷ l)
 
 -- a marked line: a text, and the maximal runs of its set
-pub record Line : Type 0 where
+pub record Example : Type 0 where
   pub text : Text
   pub runs : List Run
 
 infix 70 _is_
-abbrev pub _is_ : Text → List Run → Line
+abbrev pub _is_ : Text → List Run → Example
 p is l = record { text = p; runs = l }
 
 -- the index of k
@@ -61,7 +61,7 @@ abbrev pub at : ℕ → ℕ
 at k = k + origin
 
 -- the marked lines for questions, by their trees; as texts, and with those of thinning, they stand in crate `promises`
-abbrev pub marked : List Line
+abbrev pub marked : List Example
 marked =
     listed (high A) is ((Lo to pos 90) ∷ [])
     ∷ listed (low A) is ((pos 30 to Hi) ∷ [])
@@ -77,6 +77,6 @@ marked =
     ∷ []
 
 -- the line holds of R1
-pub record Told (l : Line) : Type 0 where
+pub record Holding (l : Example) : Type 0 where
   pub set : (n : ℕ) → n < axis → InRuns (l .runs) (whole n) ↔ Holds R1 (whole n) (l .text) 0
   pub maximal : Maximal (l .runs)

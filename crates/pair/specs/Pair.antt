@@ -10,16 +10,16 @@ use lib.IntN.{ℤ, pos, negsuc, subℕ}
 use Rattle.refusal.specs.Outcome.{Outcome, result, refused, Line, line, judged}
 use Rattle.refusal.specs.Numbers.{numberOf, placeOf}
 use Rattle.recording.specs.Condition.{pick, holdsAt}
-use Rattle.recording.specs.Reading.{Reading, Curve, top, nothing}
+use Rattle.recording.specs.Reading.{Reading, Curve, top, nothing, curveOf}
 use Rattle.recording.specs.Recording.{records, readings, recordingLines, noRecord}
-use Rattle.tops.specs.Tops.{curveOf, timeOf, topTimes, mostTops}
+use Rattle.tops.specs.Tops.{recordedTime, topTimes, mostTops}
 use Rattle.targets.specs.Target.{offAxis}
 use Rattle.pair.specs.declared.TopPair.{TopPair}
 use Rattle.pair.specs.declared.TopPair.the-variants as answer
 
 -- the time of record i
 abbrev pub timeAt : List Reading → ℕ → ℕ
-timeAt r i = timeOf (getD r i nothing)
+timeAt r i = recordedTime (getD r i nothing)
 
 -- records i and j are two tops of c, i the earlier, and the later time minus the earlier is g
 pub record Fits (r : List Reading) (c : Curve) (g : ℤ) (i j : ℕ) : Type 0 where

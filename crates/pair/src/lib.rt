@@ -6,9 +6,9 @@ ghost use lib.IntN.{pos};
 ghost use lib.ListN.{length, take};
 ghost use Rattle.number.specs.Axis.{whole};
 ghost use Rattle.recording.specs.Recording.{readings, Accepted};
-ghost use Rattle.tops.specs.Tops.{curveOf};
 ghost use Rattle.refusal.specs.Outcome.{result, judged};
 ghost use Rattle.pair.specs.Pair.{pairsOf, firstApart, firstPair, tooManyTops, acceptedLines, outcomeOf, pairOf};
+ghost use Rattle.recording.specs.Reading.{curveOf};
 
 // The answer of the pair call.
 pub enum TopPair {

@@ -16,7 +16,7 @@ use Rattle.grammar.specs.Syntax.{Text}
 use Rattle.grammar.specs.inner.Table.{row, rowAt}
 use Rattle.grammar.specs.inner.Lexer.{byte, leafAt}
 use Rattle.grammar.specs.inner.Parse.{Joiner, bars, ampersands, sign, Task, chain, more, not-at, prim-at, argument, part, joinKind, leafOf, node, Out, got, unread, after, opened, begun, closed, parse, rank}
-use Rattle.parser.specs.inner.Rows.{Put, Same, Laid, leaf, unary, binary, Room, Ahead, Onward, Within, Fits, Answers, AnswersMore, AnswersOpened}
+use Rattle.parser.specs.inner.Rows.{Put, Same, Laid, leaf, unary, binary, Room, Ahead, Onward, Within, Fits, Parses, AnswersMore, AnswersOpened}
 use Rattle.parser.specs.laws.Rows.{ahead-of}
 use Rattle.grammar.specs.laws.Word.{inside, bound}
 use Rattle.grammar.specs.laws.Leaf.{Opening, round, single, double, open-held, leaf-held, leaf-low}
@@ -72,7 +72,7 @@ joined : (o : Joiner) → (19 ≤ joinKind o) × (joinKind o < 23)
 joined bars = (omega arith, omega arith)
 joined ampersands = (omega arith, omega arith)
 
-module _ {s : List ℕ} {at n e m : ℕ} {T U Y : List ℕ} {q r : Got} (o : Joiner) (x : Answers s (part o at) at n T U q) where
+module _ {s : List ℕ} {at n e m : ℕ} {T U Y : List ℕ} {q r : Got} (o : Joiner) (x : Parses s (part o at) at n T U q) where
   chain-fits : q ≡ Upto e m → AnswersMore s o e m U Y r → (f : ℕ) → rank s (chain o at) < f → Fits Y n r (parse s f (chain o at))
   unfolding parse
   chain-fits p y zero h = absurd (omega arith)
@@ -82,12 +82,12 @@ module _ {s : List ℕ} {at n e m : ℕ} {T U Y : List ℕ} {q r : Got} (o : Joi
       let c = rank-low s o at in
       then-fits U n e m (Fits Y n r) (parse s f (part o at)) (λ t j. parse s f (more o t j)) (rw p at (x .fits f (omega arith))) (λ t g. y .fits t n g f (omega arith))
 
-  pub chain-some : q ≡ Upto e m → AnswersMore s o e m U Y r → Answers s (chain o at) at n T Y r
+  pub chain-some : q ≡ Upto e m → AnswersMore s o e m U Y r → Parses s (chain o at) at n T Y r
   chain-some p y =
       let a = ahead-of x p in
       record { ahead = then-ahead (length s) at n e m r (a .0) (a .2) (a .3) (y .onward); same = same-on n m (omega arith) (x .same) (y .same); fits = chain-fits p y }
 
-module _ {s : List ℕ} {at n : ℕ} {T U : List ℕ} {q : Got} (o : Joiner) (x : Answers s (part o at) at n T U q) (p : q ≡ Unread) where
+module _ {s : List ℕ} {at n : ℕ} {T U : List ℕ} {q : Got} (o : Joiner) (x : Parses s (part o at) at n T U q) (p : q ≡ Unread) where
   chain-unread : (f : ℕ) → rank s (chain o at) < f → Fits U n Unread (parse s f (chain o at))
   unfolding parse
   chain-unread zero h = absurd (omega arith)
@@ -95,10 +95,10 @@ module _ {s : List ℕ} {at n : ℕ} {T U : List ℕ} {q : Got} (o : Joiner) (x 
       let b = rank-part s o at in
       then-unread U n (Fits U n Unread) (parse s f (part o at)) (λ t j. parse s f (more o t j)) (rw p at (x .fits f (omega arith))) tt
 
-  pub chain-none : Answers s (chain o at) at n T U Unread
+  pub chain-none : Parses s (chain o at) at n T U Unread
   chain-none = record { ahead = tt; same = x .same; fits = chain-unread }
 
-module _ (s : List ℕ) (at n : ℕ) {e m c : ℕ} {T U Y Z : List ℕ} {q r : Got} (o : Joiner) (i : c ≡ byte s at) (j : c ≡ sign o) (x : Answers s (part o (at + 1)) (at + 1) n T U q)
+module _ (s : List ℕ) (at n : ℕ) {e m c : ℕ} {T U Y Z : List ℕ} {q r : Got} (o : Joiner) (i : c ≡ byte s at) (j : c ≡ sign o) (x : Parses s (part o (at + 1)) (at + 1) n T U q)
     (p : q ≡ Upto e m) (z : Put U m (row (joinKind o) (n - 1) (m - 1) 0) Y) (y : AnswersMore s o e (m + 1) Y Z r) where
   more-fits : (t : Text) (b : ℕ) → Laid T b n t → (f : ℕ) → rank s (more o t at) < f → Fits Z b r (parse s f (more o t at))
   unfolding parse
@@ -122,7 +122,7 @@ module _ (s : List ℕ) (at n : ℕ) {e m c : ℕ} {T U Y Z : List ℕ} {q r : G
         fits = more-fits;
       }
 
-module _ (s : List ℕ) (at n : ℕ) {c : ℕ} {T U : List ℕ} {q : Got} (o : Joiner) (i : c ≡ byte s at) (j : c ≡ sign o) (x : Answers s (part o (at + 1)) (at + 1) n T U q) (p : q ≡ Unread) (l : at < length s) where
+module _ (s : List ℕ) (at n : ℕ) {c : ℕ} {T U : List ℕ} {q : Got} (o : Joiner) (i : c ≡ byte s at) (j : c ≡ sign o) (x : Parses s (part o (at + 1)) (at + 1) n T U q) (p : q ≡ Unread) (l : at < length s) where
   more-unread : (t : Text) (b : ℕ) → Laid T b n t → (f : ℕ) → rank s (more o t at) < f → Fits U b Unread (parse s f (more o t at))
   unfolding parse
   more-unread t b g zero h = absurd (omega arith)
@@ -144,7 +144,7 @@ module _ (s : List ℕ) (at n : ℕ) (T : List ℕ) {c : ℕ} (o : Joiner) (i : 
   more-stop = record { onward = (omega arith, l, omega arith, omega arith); same = record { row-at = λ k h. refl }; fits = more-here }
 
 -- UNDER `!`
-module _ (s : List ℕ) (at n : ℕ) {e m c : ℕ} {T U Y : List ℕ} {q : Got} (i : c ≡ byte s at) (j : c ≡ 33) (x : Answers s (not-at (at + 1)) (at + 1) n T U q)
+module _ (s : List ℕ) (at n : ℕ) {e m c : ℕ} {T U Y : List ℕ} {q : Got} (i : c ≡ byte s at) (j : c ≡ 33) (x : Parses s (not-at (at + 1)) (at + 1) n T U q)
     (p : q ≡ Upto e m) (z : Put U m (row 15 (m - 1) 0 0) Y) where
   not-fits : (f : ℕ) → rank s (not-at at) < f → Fits Y n (Upto e (m + 1)) (parse s f (not-at at))
   unfolding parse
@@ -155,12 +155,12 @@ module _ (s : List ℕ) (at n : ℕ) {e m c : ℕ} {T U Y : List ℕ} {q : Got} 
       (then-fits U n e m (Fits Y n (Upto e (m + 1))) (parse s f (not-at (at + 1))) (λ t k. got (node 15 t t) k) (rw p at (x .fits f (omega arith)))
       (λ t g. (refl, unary 15 (omega arith) (omega arith) (stays m (omega arith) (put-same m z) g) (z .here))))
 
-  pub not-some : Answers s (not-at at) at n T Y (Upto e (m + 1))
+  pub not-some : Parses s (not-at at) at n T Y (Upto e (m + 1))
   not-some =
       let a = ahead-of x p in
       record { ahead = (omega arith, omega arith, omega arith, omega arith); same = same-on n m (omega arith) (x .same) (put-same m z); fits = not-fits }
 
-module _ (s : List ℕ) (at n : ℕ) {c : ℕ} {T U : List ℕ} {q : Got} (i : c ≡ byte s at) (j : c ≡ 33) (x : Answers s (not-at (at + 1)) (at + 1) n T U q) (p : q ≡ Unread) (l : at < length s) where
+module _ (s : List ℕ) (at n : ℕ) {c : ℕ} {T U : List ℕ} {q : Got} (i : c ≡ byte s at) (j : c ≡ 33) (x : Parses s (not-at (at + 1)) (at + 1) n T U q) (p : q ≡ Unread) (l : at < length s) where
   not-unread : (f : ℕ) → rank s (not-at at) < f → Fits U n Unread (parse s f (not-at at))
   unfolding parse
   not-unread zero h = absurd (omega arith)
@@ -168,20 +168,20 @@ module _ (s : List ℕ) (at n : ℕ) {c : ℕ} {T U : List ℕ} {q : Got} (i : c
       rw (eq-eqb (byte s at) 33 (sym i ∙ j))
       (then-unread U n (Fits U n Unread) (parse s f (not-at (at + 1))) (λ t k. got (node 15 t t) k) (rw p at (x .fits f (omega arith))) tt)
 
-  pub not-none : Answers s (not-at at) at n T U Unread
+  pub not-none : Parses s (not-at at) at n T U Unread
   not-none = record { ahead = tt; same = x .same; fits = not-unread }
 
-module _ (s : List ℕ) (at n : ℕ) {c : ℕ} {T U : List ℕ} {r : Got} (i : c ≡ byte s at) (j : c ≡ 33 → ⊥) (x : Answers s (prim-at at) at n T U r) where
+module _ (s : List ℕ) (at n : ℕ) {c : ℕ} {T U : List ℕ} {r : Got} (i : c ≡ byte s at) (j : c ≡ 33 → ⊥) (x : Parses s (prim-at at) at n T U r) where
   not-plain : (f : ℕ) → rank s (not-at at) < f → Fits U n r (parse s f (not-at at))
   unfolding parse
   not-plain zero h = absurd (omega arith)
   not-plain (suc f) h = rw (ne-eqb (byte s at) 33 (λ z. j (i ∙ z))) (x .fits f (omega arith))
 
-  pub not-else : Answers s (not-at at) at n T U r
+  pub not-else : Parses s (not-at at) at n T U r
   not-else = record { ahead = x .ahead; same = x .same; fits = not-plain }
 
 -- A WHOLE TEXT, and the byte behind it
-module _ (s : List ℕ) (at n : ℕ) {e m c b : ℕ} {T U : List ℕ} {q : Got} (x : Answers s (chain bars at) at n T U q) (p : q ≡ Upto e m) (i : c ≡ byte s e) where
+module _ (s : List ℕ) (at n : ℕ) {e m c b : ℕ} {T U : List ℕ} {q : Got} (x : Parses s (chain bars at) at n T U q) (p : q ≡ Upto e m) (i : c ≡ byte s e) where
   argument-fits : c ≡ b → (f : ℕ) → rank s (argument b at) < f → Fits U n (Upto (e + 1) m) (parse s f (argument b at))
   unfolding parse
   argument-fits j zero h = absurd (omega arith)
@@ -196,25 +196,25 @@ module _ (s : List ℕ) (at n : ℕ) {e m c b : ℕ} {T U : List ℕ} {q : Got} 
       then-fits U n e m (Fits U n Unread) (parse s f (chain bars at)) (closed s b) (rw p at (x .fits f (omega arith)))
       (λ t g. rw (ne-eqb (byte s e) b (λ z. j (i ∙ z))) tt)
 
-  pub argument-some : c ≡ b → e < length s → Answers s (argument b at) at n T U (Upto (e + 1) m)
+  pub argument-some : c ≡ b → e < length s → Parses s (argument b at) at n T U (Upto (e + 1) m)
   argument-some j l =
       let a = ahead-of x p in
       record { ahead = (omega arith, omega arith, omega arith, omega arith); same = x .same; fits = argument-fits j }
 
-  pub argument-other : (c ≡ b → ⊥) → Answers s (argument b at) at n T U Unread
+  pub argument-other : (c ≡ b → ⊥) → Parses s (argument b at) at n T U Unread
   argument-other j = record { ahead = tt; same = x .same; fits = argument-open j }
 
-module _ (s : List ℕ) (at n b : ℕ) {T U : List ℕ} {q : Got} (x : Answers s (chain bars at) at n T U q) (p : q ≡ Unread) where
+module _ (s : List ℕ) (at n b : ℕ) {T U : List ℕ} {q : Got} (x : Parses s (chain bars at) at n T U q) (p : q ≡ Unread) where
   argument-unread : (f : ℕ) → rank s (argument b at) < f → Fits U n Unread (parse s f (argument b at))
   unfolding parse
   argument-unread zero h = absurd (omega arith)
   argument-unread (suc f) h = then-unread U n (Fits U n Unread) (parse s f (chain bars at)) (closed s b) (rw p at (x .fits f (omega arith))) tt
 
-  pub argument-none : Answers s (argument b at) at n T U Unread
+  pub argument-none : Parses s (argument b at) at n T U Unread
   argument-none = record { ahead = tt; same = x .same; fits = argument-unread }
 
 -- BEHIND AN OPENING of one text
-module _ (s : List ℕ) (k at n : ℕ) {T U : List ℕ} {q : Got} (l : 15 ≤ k) (u : k < 19) (x : Answers s (argument 41 at) at n T U q) where
+module _ (s : List ℕ) (k at n : ℕ) {T U : List ℕ} {q : Got} (l : 15 ≤ k) (u : k < 19) (x : Parses s (argument 41 at) at n T U q) where
   pub unary-some : {e m : ℕ} {Y : List ℕ} → q ≡ Upto e m → Put U m (row k (m - 1) 0 0) Y → AnswersOpened s k at n T Y (Upto e (m + 1))
   unary-some {e} {m} {Y} p z =
       let a = ahead-of x p in
@@ -238,7 +238,7 @@ module _ (s : List ℕ) (k at n : ℕ) {T U : List ℕ} {q : Got} (l : 15 ≤ k)
       }
 
 -- and of two
-module _ (s : List ℕ) (k at n : ℕ) {T U : List ℕ} {q : Got} (l : 19 ≤ k) (u : k < 23) (x : Answers s (argument 44 at) at n T U q) where
+module _ (s : List ℕ) (k at n : ℕ) {T U : List ℕ} {q : Got} (l : 19 ≤ k) (u : k < 23) (x : Parses s (argument 44 at) at n T U q) where
   pub binary-none : q ≡ Unread → AnswersOpened s k at n T U Unread
   binary-none p =
       record {
@@ -249,7 +249,7 @@ module _ (s : List ℕ) (k at n : ℕ) {T U : List ℕ} {q : Got} (l : 19 ≤ k)
             (then-unread U n (Fits U n Unread) (parse s f (argument 44 at)) (λ t j. after (parse s f (argument 41 j)) (λ v i. got (node k t v) i)) (rw p at (x .fits f h)) tt);
       }
 
-  module _ {e m : ℕ} {Y : List ℕ} {r : Got} (p : q ≡ Upto e m) (y : Answers s (argument 41 e) e m U Y r) where
+  module _ {e m : ℕ} {Y : List ℕ} {r : Got} (p : q ≡ Upto e m) (y : Parses s (argument 41 e) e m U Y r) where
     pub binary-half : r ≡ Unread → AnswersOpened s k at n T Y Unread
     binary-half o =
         let a = ahead-of x p in
@@ -336,18 +336,18 @@ module _ (s : List ℕ) (at n : ℕ) {l : Leaf} (i : l ≡ leafAt s at) where
         let k = leaf-low s at e r (sym i ∙ p) in
         rw (sym i ∙ p) (refl, leaf (subst (λ (y : Row). y .kind < 15) (sym (z .here)) k) (ap leafOf (z .here)))
 
-    pub prim-leaf : Answers s (prim-at at) at n T U (Upto e (n + 1))
+    pub prim-leaf : Parses s (prim-at at) at n T U (Upto e (n + 1))
     prim-leaf =
         let a = node-ends e r p in
         record { ahead = (omega arith, omega arith, omega arith, omega arith); same = put-same n z; fits = leaf-fits }
 
   module _ {k e : ℕ} {r : Got} {T U : List ℕ} (p : l ≡ Open k e) where
-    round-fits : k ≡ 23 → Answers s (argument 41 e) e n T U r → (f : ℕ) → rank s (prim-at at) < f → Fits U n r (parse s f (prim-at at))
+    round-fits : k ≡ 23 → Parses s (argument 41 e) e n T U r → (f : ℕ) → rank s (prim-at at) < f → Fits U n r (parse s f (prim-at at))
     unfolding parse
     round-fits j x zero h = absurd (omega arith)
     round-fits j x (suc f) h = let a = opening-ends k e p in rw (sym i ∙ p, eq-eqb k 23 j) (x .fits f (omega arith))
 
-    pub prim-round : k ≡ 23 → Answers s (argument 41 e) e n T U r → Answers s (prim-at at) at n T U r
+    pub prim-round : k ≡ 23 → Parses s (argument 41 e) e n T U r → Parses s (prim-at at) at n T U r
     prim-round j x =
         let a = opening-ends k e p in
         record { ahead = further-ahead (length s) at n e r (omega arith) (x .ahead); same = x .same; fits = round-fits j x }
@@ -357,7 +357,7 @@ module _ (s : List ℕ) (at n : ℕ) {l : Leaf} (i : l ≡ leafAt s at) where
     opened-fits x zero h = absurd (omega arith)
     opened-fits x (suc f) h = let a = opening-ends k e p in rw (sym i ∙ p) (x .fits f (omega arith))
 
-    pub prim-opened : AnswersOpened s k e n T U r → Answers s (prim-at at) at n T U r
+    pub prim-opened : AnswersOpened s k e n T U r → Parses s (prim-at at) at n T U r
     prim-opened x =
         let a = opening-ends k e p in
         record { ahead = within-ahead (length s) at n e r (a .0) (x .within); same = x .same; fits = opened-fits x }
@@ -368,5 +368,5 @@ module _ (s : List ℕ) (at n : ℕ) {l : Leaf} (i : l ≡ leafAt s at) where
     nothing-fits zero h = absurd (omega arith)
     nothing-fits (suc f) h = rw (sym i ∙ p) tt
 
-    pub prim-none : Answers s (prim-at at) at n T T Unread
+    pub prim-none : Parses s (prim-at at) at n T T Unread
     prim-none = record { ahead = tt; same = record { row-at = λ k h. refl }; fits = nothing-fits }

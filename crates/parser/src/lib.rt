@@ -4,7 +4,7 @@ ghost use mathlib.Core.Path.{_≡_};
 ghost use Prim.Native.Nat.{_+_, _≤_, _<_};
 ghost use Rattle.grammar.specs.inner.Table.{unaryFrom, binaryFrom, kinds};
 ghost use Rattle.grammar.specs.inner.Parse.{bars, ampersands, chain, not-at, prim-at, argument};
-ghost use Rattle.parser.specs.inner.Rows.{Room, Answers, AnswersMore, AnswersOpened};
+ghost use Rattle.parser.specs.inner.Rows.{Room, Parses, AnswersMore, AnswersOpened};
 
 mod table;
 
@@ -20,7 +20,7 @@ pub enum Got {
 // Texts joined by `|`.
 pub fn or_text(text: &[u8], table: &mut [u32], at: usize, n: usize) -> Got
     requires { ⌜ Room (now text) (now table) at n ⌝ }
-    ensures { λ r. ⌜ Answers (now (text .entry)) (chain bars at) at n (now (table .entry)) (now (table .exit)) r ⌝ }
+    ensures { λ r. ⌜ Parses (now (text .entry)) (chain bars at) at n (now (table .entry)) (now (table .exit)) r ⌝ }
 {
     match and_text(text, table, at, n) {
         Got::Upto(e, m) => or_more(text, table, e, m),
@@ -49,7 +49,7 @@ fn or_more(text: &[u8], table: &mut [u32], at: usize, n: usize) -> Got
 // Texts joined by `&`.
 fn and_text(text: &[u8], table: &mut [u32], at: usize, n: usize) -> Got
     requires { ⌜ Room (now text) (now table) at n ⌝ }
-    ensures { λ r. ⌜ Answers (now (text .entry)) (chain ampersands at) at n (now (table .entry)) (now (table .exit)) r ⌝ }
+    ensures { λ r. ⌜ Parses (now (text .entry)) (chain ampersands at) at n (now (table .entry)) (now (table .exit)) r ⌝ }
 {
     match not_text(text, table, at, n) {
         Got::Upto(e, m) => and_more(text, table, e, m),
@@ -78,7 +78,7 @@ fn and_more(text: &[u8], table: &mut [u32], at: usize, n: usize) -> Got
 // A text under `!`, which may be repeated.
 fn not_text(text: &[u8], table: &mut [u32], at: usize, n: usize) -> Got
     requires { ⌜ Room (now text) (now table) at n ⌝ }
-    ensures { λ r. ⌜ Answers (now (text .entry)) (not-at at) at n (now (table .entry)) (now (table .exit)) r ⌝ }
+    ensures { λ r. ⌜ Parses (now (text .entry)) (not-at at) at n (now (table .entry)) (now (table .exit)) r ⌝ }
 {
     if words::peek(text, at) == b'!' {
         match not_text(text, table, at + 1, n) {
@@ -96,7 +96,7 @@ fn not_text(text: &[u8], table: &mut [u32], at: usize, n: usize) -> Got
 // A leaf, or an opening and what it holds.
 fn primary(text: &[u8], table: &mut [u32], at: usize, n: usize) -> Got
     requires { ⌜ Room (now text) (now table) at n ⌝ }
-    ensures { λ r. ⌜ Answers (now (text .entry)) (prim-at at) at n (now (table .entry)) (now (table .exit)) r ⌝ }
+    ensures { λ r. ⌜ Parses (now (text .entry)) (prim-at at) at n (now (table .entry)) (now (table .exit)) r ⌝ }
 {
     match lexer::leaf(text, at) {
         Leaf::Node(row, e) => {
@@ -150,7 +150,7 @@ fn binary(text: &[u8], table: &mut [u32], at: usize, n: usize, kind: u32) -> Got
 // A whole text, and the byte behind it.
 fn argument(text: &[u8], table: &mut [u32], at: usize, n: usize, end: u8) -> Got
     requires { ⌜ Room (now text) (now table) at n × (0 < end) ⌝ }
-    ensures { λ r. ⌜ Answers (now (text .entry)) (argument end at) at n (now (table .entry)) (now (table .exit)) r ⌝ }
+    ensures { λ r. ⌜ Parses (now (text .entry)) (argument end at) at n (now (table .entry)) (now (table .exit)) r ⌝ }
 {
     match or_text(text, table, at, n) {
         Got::Upto(e, m) => {

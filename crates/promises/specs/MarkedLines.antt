@@ -78,6 +78,6 @@ pub record Thinned (marks times : List ℕ) : Type 0 where
   pub call : (room : ℕ) → thinOf R1 (bytesOfMarks marks) room ≡ writtenIn room (keptBytes marks R1)
 
 -- WHAT A MARKED LINE SAYS OF THE BYTES OF R1
-abbrev pub Says : MarkedLine → Type 0
-Says (asks text runs) = Asked text runs
-Says (keeps marks times) = Thinned marks times
+abbrev pub LineHolds : MarkedLine → Type 0
+LineHolds (asks text runs) = Asked text runs
+LineHolds (keeps marks times) = Thinned marks times

@@ -11,10 +11,10 @@ use Rattle.refusal.specs.Numbers.{numberOf, placeOf}
 use Rattle.refusal.specs.declared.Refusal.{Refusal}
 use Rattle.refusal.specs.declared.Refusal.the-variants.{PartialRecord, TooManyRecords, BadRecord, NoRecord, TextLength, NoReading, TextTooLarge, TooManyRuns, TooManyTops, ShortOutput, BadMarks, BadTarget}
 use Rattle.recording.specs.Condition.{pick}
-use Rattle.recording.specs.Reading.{top}
+use Rattle.recording.specs.Reading.{top, curveOf}
 use Rattle.recording.specs.Recording.{Raw, records, readings, lawful, mostRecords}
 use Rattle.runset.specs.Runs.{runCount}
-use Rattle.tops.specs.Tops.{curveOf, mostTops}
+use Rattle.tops.specs.Tops.{mostTops}
 use Rattle.grammar.specs.Syntax.{Text}
 use Rattle.grammar.specs.Grammar.{ReadsWhole}
 use Rattle.grammar.specs.Size.{nodes, openAt, mostBytes, mostNodes, mostOpen}

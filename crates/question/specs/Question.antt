@@ -7,19 +7,19 @@ use Rattle.recording.specs.Recording.{recordingLines, noRecord}
 use Rattle.recording.specs.Output.{outputLine}
 use Rattle.runset.specs.Runs.{setBytes}
 use Rattle.grammar.specs.Syntax.{Text, listed, lag}
-use Rattle.grammar.specs.inner.Parse.{Reading, one, none, reading}
+use Rattle.grammar.specs.inner.Parse.{Parsed, one, none, parsed}
 use Rattle.text.specs.Told.{textLines}
 use Rattle.meaning.specs.inner.Truth.{val, refused8, refused9}
 use Rattle.meaning.specs.inner.Coded.{coded}
 
 -- the text that was read; what stands for a text without a reading is never asked
-abbrev pub theText : Reading → Text
+abbrev pub theText : Parsed → Text
 theText (one t) = t
 theText none = listed lag
 
 -- the one reading of a text
 abbrev pub read : List ℕ → Text
-read text = theText (reading text)
+read text = theText (parsed text)
 
 -- THE ANSWERED SET: the numbers, by their indices, with which the text is true at the first record
 abbrev pub answer : List ℕ → List ℕ → ℕ → Bool

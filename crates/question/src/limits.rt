@@ -3,7 +3,7 @@ ghost use mathlib.Core.Path.{_≡_};
 ghost use Prim.Native.Nat.{ℕ, _*_, _≤_, _<_};
 ghost use lib.ListN.{length};
 ghost use Rattle.recording.specs.Recording.{Accepted};
-ghost use Rattle.tops.specs.Tops as tops;
+ghost use Rattle.recording.specs.Reading.{curveOf};
 ghost use Rattle.grammar.specs.inner.Table as nodes;
 ghost use Rattle.meaning.specs.inner.Coded.{coded};
 ghost use Rattle.meaning.specs.inner.Truth.{manyTops, asksTooMany, ofListed, refused9};
@@ -14,17 +14,10 @@ use grammar::kinds;
 // Whether the curve has too many tops for differences.
 fn many_tops(rec: &[u8], curve: usize) -> bool
     requires { ⌜ Accepted (now rec) × (curve < 2) ⌝ }
-    ensures { λ r. ⌜ r ≡ manyTops (tops.curveOf curve) (coded (now (rec .entry))) ⌝ }
+    ensures { λ r. ⌜ r ≡ manyTops (curveOf curve) (coded (now (rec .entry))) ⌝ }
 {
     let mut none = [0u32; 1];
     tops::MOST_TOPS < tops::top_times(rec, rec.len() / 16, curve, &mut none)
-}
-
-// The number of a curve from its code in a row.
-fn curve(code: u32) -> usize
-    ensures { λ r. ⌜ (r < 2) × (tops.curveOf r ≡ nodes.curveOf code) ⌝ }
-{
-    if code == 1 { 1 } else { 0 }
 }
 
 // Whether a leaf takes differences between too many tops.
@@ -42,7 +35,7 @@ fn leaf_asks(rec: &[u8], row: Row) -> bool
         }
         return many_tops(rec, 1);
     }
-    many_tops(rec, curve(row.first))
+    many_tops(rec, recording::curve(row.first))
 }
 
 // Whether node n of a text, or one under it, takes differences between too many tops.

@@ -7,7 +7,7 @@ use native.Mathlib.Numerals.{add-one}
 use mathlib.Core.Bool.{Bool, true, false, _&&_, _||_, or-true}
 use lib.Dec.{ltb}
 use borrow.Author.Tests.{ltb-true, ltb-false}
-use Rattle.grammar.specs.inner.Table.{rowAt, some}
+use Rattle.grammar.specs.inner.Table.{rowAt, someKind}
 use Rattle.grammar.specs.Classes.{within}
 use Rattle.grammar.specs.Syntax.{Text}
 use Rattle.grammar.specs.Size.{temporal, hasListed, mixed, nodes}
@@ -15,42 +15,42 @@ use Rattle.parser.specs.inner.Rows.{Laid}
 use Rattle.text.specs.laws.Table.{held-nodes, held-some, some-either, listedKind, temporalKind, listed-by-kind, temporal-by-kind}
 
 -- SCANS over the kinds
-pub some-here : (P : ℕ → Bool) (T : List ℕ) (n i k : ℕ) (t : Bool) → i < n → k ≡ rowAt T i .kind → t ≡ P k → t ≡ true → true ≡ some P T 0 n
+pub some-here : (P : ℕ → Bool) (T : List ℕ) (n i k : ℕ) (t : Bool) → i < n → k ≡ rowAt T i .kind → t ≡ P k → t ≡ true → true ≡ someKind P T 0 n
 some-here P T zero i k t l e q h = absurd (omega arith)
 some-here P T (suc n) i k t l e q h = go (ltb i n) refl (λ a. some-here P T n i k t a e q h)
   where
-    go : (b : Bool) → ltb i n ≡ b → (i < n → true ≡ some P T 0 n) → true ≡ (some P T 0 n || P (rowAt T (0 + n) .kind))
+    go : (b : Bool) → ltb i n ≡ b → (i < n → true ≡ someKind P T 0 n) → true ≡ (someKind P T 0 n || P (rowAt T (0 + n) .kind))
     go true d f = rw (sym (f (ltb-true i n d))) refl
     go false d f =
         let x = ltb-false i n d in
         let z : i ≡ 0 + n = omega arith in
         let y : P (rowAt T (0 + n) .kind) ≡ true = ap (λ (j : ℕ). P (rowAt T j .kind)) (sym z) ∙ ap P (sym e) ∙ sym q ∙ h in
-        rw y (sym (or-true (some P T 0 n)))
+        rw y (sym (or-true (someKind P T 0 n)))
 
-pub some-next : (P : ℕ → Bool) (T : List ℕ) (i k : ℕ) (t : Bool) → k ≡ rowAt T i .kind → t ≡ P k → t ≡ false → some P T 0 i ≡ false → some P T 0 (i + 1) ≡ false
+pub some-next : (P : ℕ → Bool) (T : List ℕ) (i k : ℕ) (t : Bool) → k ≡ rowAt T i .kind → t ≡ P k → t ≡ false → someKind P T 0 i ≡ false → someKind P T 0 (i + 1) ≡ false
 some-next P T i k t e q h g =
     let z : 0 + i ≡ i = omega arith in
     let y : P (rowAt T i .kind) ≡ false = ap P (sym e) ∙ sym q ∙ h in
     rw (add-one i, g, z, y)
 
-pub some-end : (P : ℕ → Bool) (T : List ℕ) (i n : ℕ) → i ≤ n → n ≤ i → some P T 0 i ≡ false → false ≡ some P T 0 n
-some-end P T i n a b g = let z : i ≡ n = omega arith in sym (ap (some P T 0) (sym z) ∙ g)
+pub some-end : (P : ℕ → Bool) (T : List ℕ) (i n : ℕ) → i ≤ n → n ≤ i → someKind P T 0 i ≡ false → false ≡ someKind P T 0 n
+some-end P T i n a b g = let z : i ≡ n = omega arith in sym (ap (someKind P T 0) (sym z) ∙ g)
 
 module _ (T : List ℕ) (n : ℕ) (t : Text) (h : Laid T 0 n t) where
   counted : n ≡ nodes t
   counted = let x = held-nodes h in omega arith
 
-  pub listed-scan : (r : Bool) → r ≡ some (within 5 14) T 0 n → r ≡ hasListed t
-  listed-scan r e = e ∙ ap (some (within 5 14) T 0) counted ∙ sym (held-some listedKind hasListed listed-by-kind h)
+  pub listed-scan : (r : Bool) → r ≡ someKind (within 5 14) T 0 n → r ≡ hasListed t
+  listed-scan r e = e ∙ ap (someKind (within 5 14) T 0) counted ∙ sym (held-some listedKind hasListed listed-by-kind h)
 
-  temporal-is : (some (within 16 18) T 0 n || some (within 21 22) T 0 n) ≡ temporal t
-  temporal-is = sym (some-either (within 16 18) (within 21 22) T 0 n) ∙ ap (some temporalKind T 0) counted ∙ sym (held-some temporalKind temporal temporal-by-kind h)
+  temporal-is : (someKind (within 16 18) T 0 n || someKind (within 21 22) T 0 n) ≡ temporal t
+  temporal-is = sym (some-either (within 16 18) (within 21 22) T 0 n) ∙ ap (someKind temporalKind T 0) counted ∙ sym (held-some temporalKind temporal temporal-by-kind h)
 
-  pub temporal-yes : (r : Bool) → r ≡ some (within 16 18) T 0 n → r ≡ true → true ≡ temporal t
-  temporal-yes r e q = sym (ap (λ x. x || some (within 21 22) T 0 n) (sym e ∙ q)) ∙ temporal-is
+  pub temporal-yes : (r : Bool) → r ≡ someKind (within 16 18) T 0 n → r ≡ true → true ≡ temporal t
+  temporal-yes r e q = sym (ap (λ x. x || someKind (within 21 22) T 0 n) (sym e ∙ q)) ∙ temporal-is
 
-  pub temporal-rest : (r u : Bool) → r ≡ some (within 16 18) T 0 n → r ≡ false → u ≡ some (within 21 22) T 0 n → u ≡ temporal t
-  temporal-rest r u e q d = d ∙ sym (ap (λ x. x || some (within 21 22) T 0 n) (sym e ∙ q)) ∙ temporal-is
+  pub temporal-rest : (r u : Bool) → r ≡ someKind (within 16 18) T 0 n → r ≡ false → u ≡ someKind (within 21 22) T 0 n → u ≡ temporal t
+  temporal-rest r u e q d = d ∙ sym (ap (λ x. x || someKind (within 21 22) T 0 n) (sym e ∙ q)) ∙ temporal-is
 
   pub mixed-yes : (r u : Bool) → r ≡ hasListed t → r ≡ true → u ≡ temporal t → u ≡ mixed t
   mixed-yes r u e q d = d ∙ sym (ap (λ x. x && temporal t) (sym e ∙ q))

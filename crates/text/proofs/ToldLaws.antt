@@ -16,8 +16,8 @@ use Rattle.text.specs.declared.Answer.the-variants.{Nodes, Refused}
 use Rattle.grammar.specs.Syntax.{Text}
 use Rattle.grammar.specs.Size.{mixed, nodes, tooDeep, mostBytes, mostNodes}
 use Rattle.grammar.specs.inner.Table.{treeAt, Falling}
-use Rattle.grammar.specs.inner.Parse.{Out, got, unread, chain, bars, parse, Reading, one, none, unmixed, atEnd, reading}
-use Rattle.parser.specs.inner.Rows.{Laid, Fits, Answers}
+use Rattle.grammar.specs.inner.Parse.{Out, got, unread, chain, bars, parse, Parsed, one, none, unmixed, atEnd, parsed}
+use Rattle.parser.specs.inner.Rows.{Laid, Fits, Parses}
 use Rattle.text.specs.inner.Judge.{judgedText}
 use Rattle.text.specs.laws.Table.{decoded, held-falling, held-nodes}
 use Rattle.text.specs.Told.{badLength, noReading, tooLarge, textLines, nodesOf, outcomeOf, Tabled, Told}
@@ -45,27 +45,27 @@ pub told-length : (s T : List ℕ) → badLength s ≡ true → Told s T (Refuse
 unfolding judged
 told-length s T e = record { outcome = rw e; tabled = λ n q. (let z : _≡_ {A = ℕ} 0 1 = cc in absurd (omega arith)) }
 
-pub told-none : (s T : List ℕ) → badLength s ≡ false → reading s ≡ none → Told s T (Refused NoReading)
+pub told-none : (s T : List ℕ) → badLength s ≡ false → parsed s ≡ none → Told s T (Refused NoReading)
 unfolding judged
 told-none s T e r = record { outcome = rw (e, r); tabled = λ n q. (let z : _≡_ {A = ℕ} 0 1 = cc in absurd (omega arith)) }
 
 module _ (s T : List ℕ) (n : ℕ) (t : Text) (h : Laid T 0 n t) (e : badLength s ≡ false) where
-  tabled-one : reading s ≡ one t → Tabled s T n
+  tabled-one : parsed s ≡ one t → Tabled s T n
   tabled-one r = let d = decoded h in record { reads = r ∙ ap one (sym d); rows = subst (Laid T 0 n) (sym d) h; falling = held-falling h }
 
-  told-cases : (m l d : Bool) → mixed t ≡ m → ltb mostNodes (nodes t) ≡ l → tooDeep s ≡ d → reading s ≡ unmixed t → Told s T (judgedText s t)
+  told-cases : (m l d : Bool) → mixed t ≡ m → ltb mostNodes (nodes t) ≡ l → tooDeep s ≡ d → parsed s ≡ unmixed t → Told s T (judgedText s t)
   unfolding judged
   told-cases true l d p q g r =
-      let x : reading s ≡ none = r ∙ rw p in
+      let x : parsed s ≡ none = r ∙ rw p in
       record { outcome = rw (e, x, p); tabled = λ k z. (let y = rw p at z in let o : _≡_ {A = ℕ} 0 1 = cc in absurd (omega arith)) }
   told-cases false true d p q g r =
-      let x : reading s ≡ one t = r ∙ rw p in
+      let x : parsed s ≡ one t = r ∙ rw p in
       record { outcome = rw (e, x, p, q); tabled = λ k z. (let y = rw (p, q) at z in let o : _≡_ {A = ℕ} 0 1 = cc in absurd (omega arith)) }
   told-cases false false true p q g r =
-      let x : reading s ≡ one t = r ∙ rw p in
+      let x : parsed s ≡ one t = r ∙ rw p in
       record { outcome = rw (e, x, p, q, g); tabled = λ k z. (let y = rw (p, q, g) at z in let o : _≡_ {A = ℕ} 0 1 = cc in absurd (omega arith)) }
   told-cases false false false p q g r =
-      let x : reading s ≡ one t = r ∙ rw p in
+      let x : parsed s ≡ one t = r ∙ rw p in
       record {
         outcome = rw (e, x, p, q, g);
         tabled = λ k z.
@@ -75,7 +75,7 @@ module _ (s T : List ℕ) (n : ℕ) (t : Text) (h : Laid T 0 n t) (e : badLength
             subst (Tabled s T) (let v : n ≡ k = omega arith in v) (tabled-one x));
       }
 
-  pub told-judged : reading s ≡ unmixed t → Told s T (judgedText s t)
+  pub told-judged : parsed s ≡ unmixed t → Told s T (judgedText s t)
   told-judged r = told-cases (mixed t) (ltb mostNodes (nodes t)) (tooDeep s) refl refl refl r
 
 pub length-bad : (s : List ℕ) → length s ≡ 0 → badLength s ≡ true
@@ -88,28 +88,28 @@ pub length-good : (s : List ℕ) → (length s ≡ 0 → ⊥) → length s ≤ m
 length-good s n l = rw (ne-eqb (length s) 0 n, le-ltb mostBytes (length s) l)
 
 -- what the reader's answer from the first byte on says of the reading
-module _ (s : List ℕ) {T U : List ℕ} {q : Got} (x : Answers s (chain bars 0) 0 0 T U q) where
+module _ (s : List ℕ) {T U : List ℕ} {q : Got} (x : Parses s (chain bars 0) 0 0 T U q) where
   fuel : Fits U 0 q (parse s (5 * length s + 5) (chain bars 0))
   fuel = x .fits (5 * length s + 5) (omega arith)
 
-  pub read-whole : {n e : ℕ} → q ≡ Upto e n → e ≡ length s → (t : Text) × (Laid U 0 n t) × (reading s ≡ unmixed t)
-  unfolding reading
+  pub read-whole : {n e : ℕ} → q ≡ Upto e n → e ≡ length s → (t : Text) × (Laid U 0 n t) × (parsed s ≡ unmixed t)
+  unfolding parsed
   read-whole {n} {e} p l = go (parse s (5 * length s + 5) (chain bars 0)) (rw p at fuel)
     where
       go : (o : Out) → Fits U 0 (Upto e n) o → (t : Text) × (Laid U 0 n t) × (atEnd s o ≡ unmixed t)
       go (got t j) f = (t, f .1, rw (eq-eqb j (length s) (sym (f .0) ∙ l)))
       go unread f = absurd f
 
-  pub read-part : {n e : ℕ} → q ≡ Upto e n → (e ≡ length s → ⊥) → reading s ≡ none
-  unfolding reading
+  pub read-part : {n e : ℕ} → q ≡ Upto e n → (e ≡ length s → ⊥) → parsed s ≡ none
+  unfolding parsed
   read-part {n} {e} p l = go (parse s (5 * length s + 5) (chain bars 0)) (rw p at fuel)
     where
       go : (o : Out) → Fits U 0 (Upto e n) o → atEnd s o ≡ none
       go (got t j) f = rw (ne-eqb j (length s) (λ z. l (f .0 ∙ z)))
       go unread f = absurd f
 
-  pub read-nothing : q ≡ Unread → reading s ≡ none
-  unfolding reading
+  pub read-nothing : q ≡ Unread → parsed s ≡ none
+  unfolding parsed
   read-nothing p = go (parse s (5 * length s + 5) (chain bars 0)) (rw p at fuel)
     where
       go : (o : Out) → Fits U 0 Unread o → atEnd s o ≡ none

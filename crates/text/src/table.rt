@@ -2,7 +2,7 @@
 ghost use mathlib.Core.Path.{_≡_};
 ghost use Prim.Native.Nat.{_+_, _*_, _≤_};
 ghost use lib.ListN.{length};
-ghost use Rattle.grammar.specs.inner.Table.{rowAt, some};
+ghost use Rattle.grammar.specs.inner.Table.{rowAt, someKind};
 ghost use Rattle.grammar.specs.Classes.{within};
 ghost use Rattle.grammar.specs.Syntax.{Text};
 ghost use Rattle.grammar.specs.Size.{temporal, hasListed, mixed};
@@ -26,7 +26,7 @@ fn between(k: u32, low: u32, high: u32) -> bool
 // Whether one of the first n kinds lies between low and high.
 fn some_kind(table: &[u32], n: usize, low: u32, high: u32) -> bool
     requires { ⌜ 4 * n ≤ length (now table) ⌝ }
-    ensures { λ r. ⌜ r ≡ some (within low high) (now (table .entry)) 0 n ⌝ }
+    ensures { λ r. ⌜ r ≡ someKind (within low high) (now (table .entry)) 0 n ⌝ }
 {
     let mut i = 0;
     while i < n {

@@ -19,7 +19,7 @@ use Rattle.runset.specs.laws.Distance.{distance-ext}
 use Rattle.runset.specs.Set.{member, nearestOf}
 use Rattle.runset.specs.declared.Nearest.the-variants.{At, Nothing}
 use Rattle.grammar.specs.Syntax.{Text}
-use Rattle.grammar.specs.inner.Parse.{reading}
+use Rattle.grammar.specs.inner.Parse.{parsed}
 use Rattle.text.specs.Told.{nodesOf}
 use Rattle.meaning.specs.inner.Coded.{coded, index}
 use Rattle.meaning.specs.inner.Truth.{val}
@@ -119,7 +119,7 @@ module _ (bytes text table : List ℕ) (g : ℤ) (q : Prepared) (h : Prepares by
   pub degree-refused : (x : Refusal) → q ≡ prepared.Refused x → refused (numberOf x) (placeOf x) ≡ nearnessOf bytes text g
   unfolding nearnessOf
   degree-refused x e =
-      sym (refusal-stands (askingLines bytes text) (targetLine g ∷ setLines bytes (read text)) (nodesOf (reading text)) (valueOf (answer bytes text) (index g)) (numberOf x) (placeOf x)
+      sym (refusal-stands (askingLines bytes text) (targetLine g ∷ setLines bytes (read text)) (nodesOf (parsed text)) (valueOf (answer bytes text) (index g)) (numberOf x) (placeOf x)
       (sym (h .outcome) ∙ ap preparedOf e))
 
   -- the target is handed on as z
@@ -128,7 +128,7 @@ module _ (bytes text table : List ℕ) (g : ℤ) (q : Prepared) (h : Prepares by
   unfolding nearnessOf
   degree-answered n e z same o w =
       let is : textOf table n ≡ read text = ap theText (sym (h .tabled n e .reads)) in
-      let passed : NoneMeets (askingLines bytes text) = result-none (askingLines bytes text) (nodesOf (reading text)) n (sym (h .outcome) ∙ ap preparedOf e) .0 in
+      let passed : NoneMeets (askingLines bytes text) = result-none (askingLines bytes text) (nodesOf (parsed text)) n (sym (h .outcome) ∙ ap preparedOf e) .0 in
       w ∙ ap (λ (t : ℤ). judged (targetLine t ∷ setLines bytes (textOf table n)) (valueOf (λ k. val (coded bytes) k (textOf table n) 0) (index t))) same
       ∙ ap (λ (p : Text). judged (targetLine g ∷ setLines bytes p) (valueOf (λ k. val (coded bytes) k p 0) (index g))) is
       ∙ sym (judged-pass (askingLines bytes text) (targetLine g ∷ setLines bytes (read text)) (valueOf (answer bytes text) (index g)) passed)

@@ -30,7 +30,7 @@ use Rattle.ratio.specs.laws.Degree.{distance-exact}
 use Rattle.targets.specs.Target.{offAxis}
 use Rattle.targets.specs.laws.Target.{sub-above, sub-below}
 use Rattle.degree.specs.Degree.{Value, met, short, noValue, graded, valueOf, targetLine, nearnessOf}
-use Rattle.degree.specs.Nearest.{apart, Member, Distance, Says, Near}
+use Rattle.degree.specs.Nearest.{apart, Member, Distance, TrueOf, Near}
 
 module _ (bytes text : List ℕ) (a : Accepted bytes) (v : ℕ) (h : v < axis) where
   -- the answered set
@@ -44,13 +44,13 @@ module _ (bytes text : List ℕ) (a : Accepted bytes) (v : ℕ) (h : v < axis) w
   member-true n m = val-holds (readings bytes) (accepted-recorded bytes a .in-range) n (read text) 0 (omega arith) .1 m
 
   -- where there is a member
-  graded-says : distance set v < axis → Says (readings bytes) (read text) v (graded (distance set v))
+  graded-says : distance set v < axis → TrueOf (readings bytes) (read text) v (graded (distance set v))
   graded-says some = by (eqb (distance set v) 0) refl
     where
       near : (w : ℕ) × (w < axis) × (set w ≡ true) × (apart v w ≡ distance set v)
       near = distance-reached set v h some
 
-      by : (b : Bool) → eqb (distance set v) 0 ≡ b → Says (readings bytes) (read text) v (cond b met (short (distanceOf (distance set v)) (degreeOf (distance set v))))
+      by : (b : Bool) → eqb (distance set v) 0 ≡ b → TrueOf (readings bytes) (read text) v (cond b met (short (distanceOf (distance set v)) (degreeOf (distance set v))))
       by true e =
           let z : distance set v ≡ 0 = eqb-true (distance set v) 0 e in
           let same : near .0 ≡ v = omega (arith, near .3, z) in
@@ -69,10 +69,10 @@ module _ (bytes text : List ℕ) (a : Accepted bytes) (v : ℕ) (h : v < axis) w
         refl,
       )
 
-  value-says : Says (readings bytes) (read text) v (valueOf set v)
+  value-says : TrueOf (readings bytes) (read text) v (valueOf set v)
   value-says = by (ltb (distance set v) axis) refl
     where
-      by : (b : Bool) → ltb (distance set v) axis ≡ b → Says (readings bytes) (read text) v (cond b (graded (distance set v)) noValue)
+      by : (b : Bool) → ltb (distance set v) axis ≡ b → TrueOf (readings bytes) (read text) v (cond b (graded (distance set v)) noValue)
       by true e = graded-says (ltb-true (distance set v) axis e)
       by false e = λ w hw m. omega (arith, ltb-false (distance set v) axis e, distance-least set v h w hw (member-true w m))
 
@@ -101,11 +101,11 @@ nearness-says bytes text g x e =
         tree = read text;
         reads = read-reads text (a .1 .1 .1 .0);
         only = λ u r. sym (reads-read text u r);
-        says = subst (Says (readings bytes) (read text) (index g)) (k .1) (value-says bytes text (a .0) (index g) (t .0));
+        says = subst (TrueOf (readings bytes) (read text) (index g)) (k .1) (value-says bytes text (a .0) (index g) (t .0));
       },
     )
 
 -- THE DISTANCE OF A MISSED TARGET IS EXACT: the float is the whole number
-pub short-exact : (r : List Reading) (p : Text) (v : ℕ) → v < axis → (x k : Float) → Says r p v (short x k) → (d : ℕ) × Distance r p v d × HasValue x false d 1
+pub short-exact : (r : List Reading) (p : Text) (v : ℕ) → v < axis → (x k : Float) → TrueOf r p v (short x k) → (d : ℕ) × Distance r p v d × HasValue x false d 1
 short-exact r p v h x k (d, above, far, same, of) =
     (d, far, subst (λ (y : Float). HasValue y false d 1) (sym same) (distance-exact d (omega (arith, far .on-axis, far .there))))

@@ -4,7 +4,8 @@ use mathlib.Core.Bool.{Bool}
 use mathlib.Core.List.{List}
 use lib.ListN.{length, getD}
 use Rattle.number.specs.Axis.{origin}
-use Rattle.meaning.specs.inner.Truth.{someOf, somePair, someStep, among, apart}
+use Rattle.meaning.specs.inner.Truth.{somePair, someStep, among, apart}
+use Rattle.recording.specs.Condition.{someOf}
 
 -- times 0 to 2,000,000,000, strictly ascending
 pub record Times (l : List ℕ) : Type 0 where

@@ -10,7 +10,7 @@ use Rattle.runset.specs.declared.merge.Filled.{Filled}
 use Rattle.grammar.specs.Syntax.{Atom, Listed, Text, atom, listed, lag}
 use Rattle.grammar.specs.declared.Row.{Row}
 use Rattle.grammar.specs.inner.Kinds.{NOT}
-use Rattle.grammar.specs.inner.Table.{leaves, rowAt, treeAt}
+use Rattle.grammar.specs.inner.Table.{leafTexts, rowAt, treeAt}
 use Rattle.meaning.specs.inner.Coded.{Coded, coded}
 use Rattle.meaning.specs.inner.Truth.{val, largeAt, someNode, refused8, refused9}
 use Rattle.leaves.specs.inner.Leaf.{leafOf, Asked}
@@ -32,7 +32,7 @@ leaf-at (p ∷ l) (suc k) a = leaf-at l k (a .1)
 
 row-leaf : (r : Row) → Leaf (leafOf r)
 row-leaf r =
-    leaf-at (leaves r) (r .kind)
+    leaf-at (leafTexts r) (r .kind)
     (an-atom _, (an-atom _, (an-atom _, (an-atom _, (an-atom _, (a-listed _, (a-listed _, (a-listed _, (a-listed _, (a-listed _, (a-listed _, (a-listed _, (a-listed _, (a-listed _, (a-listed _, tt)))))))))))))))
 
 alone-eight : (r : List Coded) {p : Text} → Leaf p → refused8 r p ≡ largeAt r p 0

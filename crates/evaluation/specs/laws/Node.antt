@@ -9,7 +9,7 @@ use mathlib.Core.List.{List, [], _∷_}
 use lib.ListN.{length, getD}
 use Rattle.grammar.specs.Syntax.{Text, listed, lag}
 use Rattle.grammar.specs.declared.Row.{Row}
-use Rattle.grammar.specs.inner.Table.{row, leaves, build, rowAt, treeAt, Falling}
+use Rattle.grammar.specs.inner.Table.{row, leafTexts, build, rowAt, treeAt, Falling}
 use Rattle.meaning.specs.inner.Truth.{someNode}
 use Rattle.leaves.specs.inner.Leaf.{leafOf}
 use Rattle.evaluation.specs.laws.Step.{four}
@@ -45,7 +45,7 @@ module _ (G : Text → Bool) where
   some-leaf : (r : Row) → r .kind < 15 → someNode G (leafOf r) ≡ G (leafOf r)
   unfolding someNode Each
   some-leaf r h =
-      each-at (λ (t : Text). someNode G t ≡ G t) (leaves r) (listed lag)
+      each-at (λ (t : Text). someNode G t ≡ G t) (leafTexts r) (listed lag)
       (refl, (refl, (refl, (refl, (refl, (refl, (refl, (refl, (refl, (refl, (refl, (refl, (refl, (refl, (refl, tt))))))))))))))) (r .kind) h
 
   some-one : (k a b n : ℕ) (p q : Text) → 15 ≤ k → k < 19 → someNode G (build (row k a b n) p q) ≡ (G (build (row k a b n) p q) || someNode G p)

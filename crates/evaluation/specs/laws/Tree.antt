@@ -9,7 +9,7 @@ use mathlib.Core.List.{List, [], _∷_, _++_}
 use lib.ListN.{length, getD, List·getD-append}
 use Rattle.grammar.specs.Syntax.{Text, listed, lag}
 use Rattle.grammar.specs.declared.Row.{Row}
-use Rattle.grammar.specs.inner.Table.{row, leaves, unaries, binaries, build, rowAt, tree, treeAt, Falling}
+use Rattle.grammar.specs.inner.Table.{row, leafTexts, unaries, binaries, build, rowAt, tree, treeAt, Falling}
 use Rattle.leaves.specs.inner.Leaf.{leafOf}
 use Rattle.evaluation.specs.laws.Step.{four}
 
@@ -21,7 +21,7 @@ getD-within (x ∷ l) (suc i) d e h = getD-within l i d e (le-of-suc-le-suc h)
 -- the trees of the children do not matter to a leaf, nor the second to a node with one child
 pub build-leaf : (r : Row) (p q : Text) → r .kind < 15 → build r p q ≡ leafOf r
 build-leaf r p q h =
-    List·getD-append (leaves r) (unaries p ++ binaries p q) p (r .kind) h ∙ getD-within (leaves r) (r .kind) p (listed lag) h
+    List·getD-append (leafTexts r) (unaries p ++ binaries p q) p (r .kind) h ∙ getD-within (leafTexts r) (r .kind) p (listed lag) h
 
 build-one : (a b n k : ℕ) (p q s : Text) → 15 ≤ k → k < 19 → build (row k a b n) p q ≡ build (row k a b n) p s
 build-one a b n k p q s l h = four (λ (k : ℕ). build (row k a b n) p q ≡ build (row k a b n) p s) 15 k l h refl refl refl refl

@@ -106,17 +106,17 @@ rank s (prim-at i) = 5 * (length s - i) + 0
 rank s (more o t i) = 5 * (length s - i) + 0
 
 -- the reading of a whole text
-pub data Reading : Type 0 where
-  one : Text → Reading
-  none : Reading
+pub data Parsed : Type 0 where
+  one : Text → Parsed
+  none : Parsed
 
 -- a listed name beside F, G, X, U or W has no reading
-abbrev pub unmixed : Text → Reading
+abbrev pub unmixed : Text → Parsed
 unmixed t = pick (mixed t) (λ _. none) (λ _. one t)
 
-abbrev pub atEnd : List ℕ → Out → Reading
+abbrev pub atEnd : List ℕ → Out → Parsed
 atEnd s (got t j) = pick (eqb j (length s)) (λ _. unmixed t) (λ _. none)
 atEnd s unread = none
 
-unfoldable pub reading : List ℕ → Reading
-reading s = atEnd s (parse s (5 * length s + 5) (chain bars 0))
+unfoldable pub parsed : List ℕ → Parsed
+parsed s = atEnd s (parse s (5 * length s + 5) (chain bars 0))

@@ -3,17 +3,13 @@ use Prim.Native.Nat.{ℕ, zero, suc, _+_, _*_, _<_, _≤_}
 use mathlib.Core.Bool.{Bool, false, _||_}
 use mathlib.Core.List.{List, [], _∷_, _++_}
 use lib.ListN.{getD}
-use Rattle.recording.specs.Reading.{Curve, A, B}
+use Rattle.recording.specs.Reading.{Curve, A, B, curveOf}
 use Rattle.grammar.specs.declared.Row.{Row}
 use Rattle.grammar.specs.inner.Kinds.{NOT, OR, BRACKET}
 use Rattle.grammar.specs.Syntax.{Field, of, T, Relation, ge, le, gt, lt, eq, v, number, compare, A-to-B, fall, rise, high, low, lowafter, capafter, peaks, cross, ampl, gaps, steps, lag, Text, atom, listed, or, and, neg, finally, globally, next, until, weakUntil}
 
 abbrev pub row : ℕ → ℕ → ℕ → ℕ → Row
 row k a b n = record { kind = k; first = a; second = b; number = n }
-
--- codes: 0 A, 1 B
-abbrev pub curveOf : ℕ → Curve
-curveOf n = getD (A ∷ B ∷ []) n A
 
 -- codes: 0 A, 1 B, 2 T
 abbrev pub fieldOf : ℕ → Field
@@ -24,8 +20,8 @@ abbrev pub relationOf : ℕ → Relation
 relationOf n = getD (ge ∷ le ∷ gt ∷ lt ∷ eq ∷ []) n eq
 
 -- kinds 0 to 14, the leaves: of a field or a curve, `first` is its code; `second` the relation's; `number` an index on the axis
-abbrev pub leaves : Row → List Text
-leaves r =
+abbrev pub leafTexts : Row → List Text
+leafTexts r =
     atom (compare (fieldOf (r .first)) (relationOf (r .second)) v)
     ∷ atom (compare (fieldOf (r .first)) (relationOf (r .second)) (number (r .number)))
     ∷ atom (A-to-B (relationOf (r .second)))
@@ -53,7 +49,7 @@ binaries p q = or p q ∷ and p q ∷ until p q ∷ weakUntil p q ∷ []
 
 -- the tree of a row, over the trees of its children
 abbrev pub build : Row → Text → Text → Text
-build r p q = getD (leaves r ++ (unaries p ++ binaries p q)) (r .kind) p
+build r p q = getD (leafTexts r ++ (unaries p ++ binaries p q)) (r .kind) p
 
 -- row n of the table
 abbrev pub rowAt : List ℕ → ℕ → Row
@@ -87,6 +83,6 @@ Falling table n =
     × (rowAt table m .kind < kinds)
 
 -- P holds of one of the n kinds from row b on
-abbrev pub some : (ℕ → Bool) → List ℕ → ℕ → ℕ → Bool
-some P table b zero = false
-some P table b (suc n) = some P table b n || P (rowAt table (b + n) .kind)
+abbrev pub someKind : (ℕ → Bool) → List ℕ → ℕ → ℕ → Bool
+someKind P table b zero = false
+someKind P table b (suc n) = someKind P table b n || P (rowAt table (b + n) .kind)

@@ -8,7 +8,7 @@ use lib.Dec.{eqb, ltb, leb, lit<}
 use lib.ListN.{length, getD, length-append}
 use borrow.Author.Tests.{eq-eqb, ne-eqb, eqb-true, eqb-false, lt-ltb, le-ltb, ltb-true}
 use Rattle.number.specs.Axis.{origin}
-use Rattle.recording.specs.Reading.{Curve, A, B}
+use Rattle.recording.specs.Reading.{Curve, A, B, curveOf}
 use Rattle.grammar.specs.declared.Row.{Row}
 use Rattle.grammar.specs.declared.Found.{Found}
 use Rattle.grammar.specs.declared.Found.the-variants.{At, Missing}
@@ -18,7 +18,7 @@ use Rattle.grammar.specs.Bytes.{bytes}
 use Rattle.grammar.specs.Classes.{isDigit}
 use Rattle.grammar.specs.Syntax.{Field, of, T, Relation, ge, le, gt, lt, eq, Operand, v, number, Atom, compare, A-to-B, fall, rise, Listed, high, low, lowafter, capafter, peaks, cross, ampl, gaps, steps, lag, Text, atom, listed, or, and, neg, finally, globally, next, until, weakUntil}
 use Rattle.grammar.specs.Grammar.{Numeral, curveWord, fieldWord, relationWord, OperandWord, the-v, a-number, AtomWord, compared, curves as A-with-B, falling, rising, ListedWord, a-high, a-low, a-lowafter, a-capafter, a-peaks, a-cross, an-ampl, a-gaps, a-steps, a-lag, Level, alternation, primary, Reads, bracketed, an-F, a-G, an-X, a-U, a-W, an-atom, a-listed}
-use Rattle.grammar.specs.inner.Table.{row, curveOf, fieldOf, relationOf, build}
+use Rattle.grammar.specs.inner.Table.{row, fieldOf, relationOf, build}
 use Rattle.grammar.specs.inner.Lexer.{byte, firstOf, curves, relations, fields, levelNames, topNames, openings, heads, numberAt, whenFound, closedBy, operandAt, comparisonAt, timedAt, argumentsAt, namedAt, headedAt, leafAt}
 use Rattle.grammar.specs.inner.Parse.{leafOf, node}
 use Rattle.grammar.specs.laws.Word.{Stands, Spelt, Each, each-of-both, nth, inside, bound, before, behind, together, one-byte, found, found-is, and-left, and-right}

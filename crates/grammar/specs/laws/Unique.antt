@@ -18,7 +18,7 @@ use Rattle.grammar.specs.Syntax.{of, T, Atom, Listed, Text, atom, listed
 use Rattle.grammar.specs.Size.{mixed}
 use Rattle.grammar.specs.Grammar.{AtomWord, compared, curves as A-with-B, falling, rising, ListedWord, a-high, a-low, a-lowafter, a-capafter, a-peaks, a-cross, an-ampl, a-gaps, a-steps, a-lag, Level, alternation, conjunction, negation, primary, Reads, one-conjunction, bar, one-negation, ampersand, one-primary, bang, bracketed, an-F, a-G, an-X, a-U, a-W, an-atom, a-listed, ReadsWhole}
 use Rattle.grammar.specs.inner.Lexer.{byte, leafAt}
-use Rattle.grammar.specs.inner.Parse.{Joiner, bars, ampersands, sign, Task, chain, more, not-at, prim-at, argument, part, joinKind, leafOf, node, Out, got, unread, after, pick, opened, begun, closed, parse, rank, Reading, one, none, unmixed, atEnd, reading}
+use Rattle.grammar.specs.inner.Parse.{Joiner, bars, ampersands, sign, Task, chain, more, not-at, prim-at, argument, part, joinKind, leafOf, node, Out, got, unread, after, pick, opened, begun, closed, parse, rank, Parsed, one, none, unmixed, atEnd, parsed}
 use Rattle.grammar.specs.laws.Word.{Stands, Spelt, inside, bound, before, behind, together, same-word, stands-self}
 use Rattle.grammar.specs.laws.Leaf.{Run, run-then, run-byte, Held, Opening, round, single, double, leaf-held, open-held, Lexed, atom-lexed, listed-lexed, X-opens, F-opens, G-opens, U-opens, W-opens, round-opens}
 
@@ -418,16 +418,16 @@ module _ (s : List ℕ) where
   complete (a-listed {w} {q = a} x) i e st q = λ d. leaf-finds i e (listed a) (subst (λ (m : ℕ). Lexed s i m (listed a)) (sym q) (listed-lexed s i x st))
 
   -- the computed reading is the reading by the rules
-  reads-computed : (t : Text) → ReadsWhole s t → reading s ≡ one t
-  unfolding reading
+  reads-computed : (t : Text) → ReadsWhole s t → parsed s ≡ one t
+  unfolding parsed
   reads-computed t r =
       let z = List·getD-eq-default s 0 {n = length s} (omega arith) in
       let c = complete (r .0) 0 (length s) (stands-self [] s) (omega arith) in
       let e = c (got t (length s)) (rw z refl) (λ x. omega arith) (stop-finds bars t (length s) (λ x. omega arith)) (5 * length s + 5) (omega arith) in
       rw (e, eq-eqb (length s) (length s) refl, r .1)
 
-  computed-reads : (t : Text) → reading s ≡ one t → ReadsWhole s t
-  unfolding reading
+  computed-reads : (t : Text) → parsed s ≡ one t → ReadsWhole s t
+  unfolding parsed
   computed-reads t h = whole (parse s (5 * length s + 5) (chain bars 0)) (sound s (5 * length s + 5) (chain bars 0)) h
     where
       clear : (u : Text) (b : Bool) → mixed u ≡ b → Reads alternation s u → pick b (λ _. none) (λ _. one u) ≡ one t → ReadsWhole s t
@@ -445,7 +445,7 @@ module _ (s : List ℕ) where
       whole unread r g = let z : _≡_ {A = ℕ} 0 1 = cc in absurd (omega arith)
 
   -- THE READER IS SOUND AND COMPLETE for the printed rules
-  pub reading-is : (t : Text) → (reading s ≡ one t) ↔ ReadsWhole s t
+  pub reading-is : (t : Text) → (parsed s ≡ one t) ↔ ReadsWhole s t
   reading-is t = (computed-reads t, reads-computed t)
 
   -- A TEXT HAS ONE READING AT MOST
@@ -453,9 +453,9 @@ module _ (s : List ℕ) where
   unique t u r q = let a = reads-computed t r in let b = reads-computed u q in cc
 
   -- that there is none is computed too
-  pub reading-none : (reading s ≡ none) ↔ ((t : Text) → ReadsWhole s t → ⊥)
-  reading-none = (λ e t r. (let a = reads-computed t r in let z : _≡_ {A = ℕ} 0 1 = cc in omega arith), λ n. go (reading s) refl n)
+  pub reading-none : (parsed s ≡ none) ↔ ((t : Text) → ReadsWhole s t → ⊥)
+  reading-none = (λ e t r. (let a = reads-computed t r in let z : _≡_ {A = ℕ} 0 1 = cc in omega arith), λ n. go (parsed s) refl n)
     where
-      go : (r : Reading) → reading s ≡ r → ((t : Text) → ReadsWhole s t → ⊥) → reading s ≡ none
+      go : (r : Parsed) → parsed s ≡ r → ((t : Text) → ReadsWhole s t → ⊥) → parsed s ≡ none
       go (one t) e n = absurd (n t (computed-reads t e))
       go none e n = e

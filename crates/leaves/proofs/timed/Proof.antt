@@ -2,10 +2,9 @@
 use mathlib.Core.Path.{_≡_, sym, subst}
 use Prim.Native.Nat.{_≤_}
 use lib.ListN.{length}
-use Rattle.recording.specs.Reading.{Curve}
+use Rattle.recording.specs.Reading.{Curve, curveOf}
 use Rattle.grammar.specs.Syntax as asks
 use Rattle.grammar.specs.Syntax.{Text}
-use Rattle.grammar.specs.inner.Table.{curveOf}
 use Rattle.meaning.specs.inner.Coded.{topTimes}
 use Rattle.tops.specs.Tops.{mostTops}
 use Rattle.meaning.specs.inner.Truth.{val, truth, refused9}

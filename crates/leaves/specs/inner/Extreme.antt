@@ -8,7 +8,7 @@ use lib.Dec.{leb, ltb}
 use Rattle.number.specs.Axis.{axis}
 use Rattle.recording.specs.Reading.{Curve}
 use Rattle.meaning.specs.inner.Coded.{Coded, codedValue, codedAfter}
-use Rattle.meaning.specs.inner.Truth.{someOf}
+use Rattle.recording.specs.Condition.{someOf}
 
 -- upwards: x is above n; downwards: x is at most n
 abbrev pub beyond : Bool → ℕ → ℕ → Bool

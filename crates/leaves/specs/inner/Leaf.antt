@@ -7,13 +7,13 @@ use lib.ListN.{length, getD}
 use Rattle.recording.specs.Recording.{Accepted}
 use Rattle.grammar.specs.Syntax.{Text, listed, lag}
 use Rattle.grammar.specs.declared.Row.{Row}
-use Rattle.grammar.specs.inner.Table.{leaves, unaryFrom}
+use Rattle.grammar.specs.inner.Table.{leafTexts, unaryFrom}
 use Rattle.meaning.specs.inner.Truth.{refused9}
 use Rattle.meaning.specs.inner.Coded.{coded}
 
 -- the text of a leaf's row
 abbrev pub leafOf : Row → Text
-leafOf r = getD (leaves r) (r .kind) (listed lag)
+leafOf r = getD (leafTexts r) (r .kind) (listed lag)
 
 -- a leaf whose set can be taken of an accepted recording at record i
 pub record Asked (rec : List ℕ) (i : ℕ) (r : Row) : Type 0 where

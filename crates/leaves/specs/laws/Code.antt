@@ -2,14 +2,8 @@
 use Prim.Native.Nat.{ℕ, zero, suc, _≤_}
 use native.Mathlib.Omega.{arith}
 use mathlib.Core.Path.{_≡_, refl}
-use Rattle.recording.specs.Reading.{A}
 use Rattle.grammar.specs.Syntax.{T, eq}
-use Rattle.grammar.specs.inner.Table.{curveOf, fieldOf, relationOf}
-
-pub curve-else : (n : ℕ) → (n ≡ 1 → ⊥) → curveOf n ≡ A
-curve-else zero h = refl
-curve-else (suc zero) h = absurd (h refl)
-curve-else (suc (suc n)) h = refl
+use Rattle.grammar.specs.inner.Table.{fieldOf, relationOf}
 
 pub field-else : (n : ℕ) → (n ≡ 0 → ⊥) → (n ≡ 1 → ⊥) → fieldOf n ≡ T
 field-else zero h k = absurd (h refl)

@@ -14,11 +14,10 @@ use Rattle.number.specs.Axis.{origin}
 use Rattle.number.specs.Words.{word, signed, turned}
 use Rattle.number.specs.laws.Order.{less-or-not}
 use Rattle.number.specs.laws.Boolean.{and-left, and-right}
-use Rattle.recording.specs.Reading.{Reading, Curve, A, B, value, nothing}
-use Rattle.recording.specs.Recording.{Raw, records, recordAt, reading, readings, inRange, latest, Accepted}
+use Rattle.recording.specs.Reading.{Reading, Curve, A, B, value, nothing, curveOf}
+use Rattle.recording.specs.Recording.{Raw, records, rawAt, reading, readings, inRange, latest, Accepted}
 use Rattle.recording.specs.laws.Record.{length-records, getD-chunks}
 use Rattle.recording.specs.laws.Value.{inRange-turned}
-use Rattle.tops.specs.Tops.{curveOf}
 use Rattle.meaning.specs.laws.Recorded.{accepted-recorded}
 use Rattle.meaning.specs.inner.Coded.{Coded, code, index, blank, codedValue, codedSlope}
 use Rattle.meaning.specs.inner.Truth.{codedAt}
@@ -36,12 +35,12 @@ length-coded rec = length-map (readings rec) code ∙ length-readings rec
 pub at-index : (r : List Coded) (i : ℕ) → i < length r → codedAt r i ≡ getD r i blank
 at-index r i h = let e : min i (length r - 1) ≡ i = omega arith in ap (λ (j : ℕ). getD r j blank) e
 
-reading-at : (rec : List ℕ) (i : ℕ) → i < length (readings rec) → getD (readings rec) i nothing ≡ reading (recordAt rec i)
+reading-at : (rec : List ℕ) (i : ℕ) → i < length (readings rec) → getD (readings rec) i nothing ≡ reading (rawAt rec i)
 unfolding reading signed turned
 reading-at rec i h =
     List·getD-map reading (records rec) i [] ∙ ap reading (getD-chunks (length rec / 16) rec i (omega (arith, length-readings rec)))
 
-pub coded-at : (rec : List ℕ) (i : ℕ) → i < length (coded rec) → codedAt (coded rec) i ≡ code (reading (recordAt rec i))
+pub coded-at : (rec : List ℕ) (i : ℕ) → i < length (coded rec) → codedAt (coded rec) i ≡ code (reading (rawAt rec i))
 coded-at rec i h =
     at-index (coded rec) i h ∙ List·getD-map code (readings rec) i nothing
     ∙ ap code (reading-at rec i (omega (arith, length-map (readings rec) code)))
@@ -80,7 +79,7 @@ module _ (rec : List ℕ) (a : Accepted rec) (i : ℕ) (h : i < length (coded re
   pub record-inside : i * 16 + 16 ≤ length rec
   record-inside = omega (arith, length-coded rec)
 
-  in-range : (c : Curve) → So (inRange (value c (reading (recordAt rec i))))
+  in-range : (c : Curve) → So (inRange (value c (reading (rawAt rec i))))
   in-range c = subst (λ (x : Reading). So (inRange (value c x))) (reading-at rec i inside) (accepted-recorded rec a .in-range i inside c)
 
   value-of : (curve : ℕ) → curve < 2 → (x : Raw) → value (curveOf curve) (reading x) ≡ signed (word x (4 + 4 * curve))
@@ -94,18 +93,18 @@ module _ (rec : List ℕ) (a : Accepted rec) (i : ℕ) (h : i < length (coded re
   coded-value B x = refl
 
   module _ (curve : ℕ) (l : curve < 2) where
-    so-value : So (inRange (signed (word (recordAt rec i) (4 + 4 * curve))))
-    so-value = subst (λ (z : ℤ). So (inRange z)) (value-of curve l (recordAt rec i)) (in-range (curveOf curve))
+    so-value : So (inRange (signed (word (rawAt rec i) (4 + 4 * curve))))
+    so-value = subst (λ (z : ℤ). So (inRange z)) (value-of curve l (rawAt rec i)) (in-range (curveOf curve))
 
-    field-index : codedValue (curveOf curve) (codedAt (coded rec) i) ≡ index (signed (word (recordAt rec i) (4 + 4 * curve)))
+    field-index : codedValue (curveOf curve) (codedAt (coded rec) i) ≡ index (signed (word (rawAt rec i) (4 + 4 * curve)))
     field-index =
-        ap (codedValue (curveOf curve)) (coded-at rec i h) ∙ coded-value (curveOf curve) (reading (recordAt rec i)) ∙ ap index (value-of curve l (recordAt rec i))
+        ap (codedValue (curveOf curve)) (coded-at rec i h) ∙ coded-value (curveOf curve) (reading (rawAt rec i)) ∙ ap index (value-of curve l (rawAt rec i))
 
-    pub value-field : (word (recordAt rec i) (4 + 4 * curve) + origin) % 4294967296 ≡ codedValue (curveOf curve) (codedAt (coded rec) i)
-    value-field = index-word (word (recordAt rec i) (4 + 4 * curve)) so-value ∙ sym field-index
+    pub value-field : (word (rawAt rec i) (4 + 4 * curve) + origin) % 4294967296 ≡ codedValue (curveOf curve) (codedAt (coded rec) i)
+    value-field = index-word (word (rawAt rec i) (4 + 4 * curve)) so-value ∙ sym field-index
 
     pub value-range : ValueIndex (codedValue (curveOf curve) (codedAt (coded rec) i))
-    value-range = subst ValueIndex (sym field-index) (index-range (word (recordAt rec i) (4 + 4 * curve)) so-value)
+    value-range = subst ValueIndex (sym field-index) (index-range (word (rawAt rec i) (4 + 4 * curve)) so-value)
 
     slope-of : (x : Raw) → codedSlope (curveOf curve) (code (reading x)) ≡ getD x (12 + curve) 0
     unfolding reading
@@ -116,13 +115,13 @@ module _ (rec : List ℕ) (a : Accepted rec) (i : ℕ) (h : i < length (coded re
         go (suc zero) l = refl
         go (suc (suc n)) l = absurd (not-suc-le-zero (le-of-suc-le-suc (le-of-suc-le-suc l)))
 
-    pub slope-field : getD (recordAt rec i) (12 + curve) 0 ≡ codedSlope (curveOf curve) (codedAt (coded rec) i)
-    slope-field = sym (ap (codedSlope (curveOf curve)) (coded-at rec i h) ∙ slope-of (recordAt rec i))
+    pub slope-field : getD (rawAt rec i) (12 + curve) 0 ≡ codedSlope (curveOf curve) (codedAt (coded rec) i)
+    slope-field = sym (ap (codedSlope (curveOf curve)) (coded-at rec i h) ∙ slope-of (rawAt rec i))
 
-  pub time-field : word (recordAt rec i) 0 + origin ≡ codedAt (coded rec) i .time
+  pub time-field : word (rawAt rec i) 0 + origin ≡ codedAt (coded rec) i .time
   unfolding reading
   time-field = sym (ap (λ (x : Coded). x .time) (coded-at rec i h))
 
-  pub time-most : word (recordAt rec i) 0 ≤ latest
+  pub time-most : word (rawAt rec i) 0 ≤ latest
   unfolding reading
   time-most = subst (λ (x : Reading). x .time ≤ latest) (reading-at rec i inside) (accepted-recorded rec a .in-time i inside)

@@ -15,11 +15,12 @@ use Rattle.number.specs.laws.Order.{less-or-not, leb-not-ltb}
 use Rattle.recording.specs.Reading.{Reading, Curve}
 use Rattle.grammar.specs.Syntax.{high, low, lowafter, capafter, ampl}
 use Rattle.meaning.specs.inner.Coded.{Coded, code, blank, codedValue, codedAfter}
-use Rattle.meaning.specs.inner.Truth.{someOf, allOf, truth, codedAt}
+use Rattle.meaning.specs.inner.Truth.{allOf, truth, codedAt}
 use Rattle.meaning.specs.laws.Pick.{some-at, some-find}
 use Rattle.number.specs.laws.Boolean.{same, or-left, or-right, or-cases}
 use Rattle.leaves.specs.inner.Extreme.{beyond, farther, Extreme, Passes}
 use Rattle.leaves.specs.laws.Coding.{at-index, ValueIndex}
+use Rattle.recording.specs.Condition.{someOf}
 
 -- ---- the farther of two
 

@@ -8,7 +8,7 @@ use lib.ListN.{length, getD}
 use borrow.Author.Tests.{ltb-false}
 use Rattle.recording.specs.Reading.{Curve, A, B}
 use Rattle.grammar.specs.Syntax.{Text, listed, lag, gaps, steps}
-use Rattle.grammar.specs.inner.Table.{leaves}
+use Rattle.grammar.specs.inner.Table.{leafTexts}
 use Rattle.grammar.specs.declared.Row.{Row}
 use Rattle.meaning.specs.inner.Coded.{Coded, topTimes}
 use Rattle.tops.specs.Tops.{mostTops}
@@ -18,7 +18,7 @@ use Rattle.leaves.specs.inner.Leaf.{leafOf}
 
 -- the text of a leaf of kind k
 abbrev pub leafAt : Row → ℕ → Text
-leafAt r k = getD (leaves r) k (listed lag)
+leafAt r k = getD (leafTexts r) k (listed lag)
 
 -- a row of kind k
 pub by-kind : (Q : Text → Type 0) (r : Row) (k : ℕ) → r .kind ≡ k → Q (leafAt r k) → Q (leafOf r)

@@ -109,7 +109,7 @@ module _ (rec : List ℕ) (a : Accepted rec) where
   unfolding raw.topTimes
   top-stamps c =
       tops-code c (readings rec) (all-settled (readings rec) (accepted-recorded rec a .in-range))
-      ∙ sym (map-map raw.timeOf indexOf (pick (top c) (readings rec)))
+      ∙ sym (map-map raw.recordedTime indexOf (pick (top c) (readings rec)))
 
   pub top-times : (c : Curve) → Times (topTimes c (coded rec))
   top-times c = picked-times (readings rec) (accepted-recorded rec a) (codedTop c)
@@ -123,7 +123,7 @@ module _ (rec : List ℕ) (a : Accepted rec) where
   unfolding raw.crossingTimes
   crossing-stamps =
       crossings-code (readings rec) (all-settled (readings rec) (accepted-recorded rec a .in-range))
-      ∙ sym (map-map raw.timeOf indexOf (pick crossing (readings rec)))
+      ∙ sym (map-map raw.recordedTime indexOf (pick crossing (readings rec)))
 
   pub crossing-times : Times (crossingTimes (coded rec))
   crossing-times = picked-times (readings rec) (accepted-recorded rec a) codedCrossing

@@ -7,6 +7,7 @@ use lib.Dec.{leb, ltb, eqb}
 use lib.ListN.{length, getD}
 use Rattle.number.specs.Axis.{origin}
 use Rattle.runset.specs.Runs.{runCount, mostRuns}
+use Rattle.recording.specs.Condition.{someOf}
 use Rattle.recording.specs.Reading.{Curve, A, B}
 use Rattle.grammar.specs.Syntax.{Field, of, T, Relation, ge, le, gt, lt, eq, Operand, v, number, Atom, compare, A-to-B, fall, rise, Listed, high, low, lowafter, capafter, peaks, cross, ampl, gaps, steps, lag, Text, atom, listed, or, and, neg, finally, globally, next, until, weakUntil}
 use Rattle.meaning.specs.inner.Coded.{Coded, blank, codedValue, codedFalls, codedRises, codedAfter, topTimes, crossingTimes}
@@ -16,10 +17,6 @@ use Rattle.tops.specs.Tops.{mostTops}
 -- ---- lists
 
 module _ {A : Type 0} where
-  abbrev pub someOf : (A → Bool) → List A → Bool
-  someOf P [] = false
-  someOf P (x ∷ r) = P x || someOf P r
-
   abbrev pub allOf : (A → Bool) → List A → Bool
   allOf P [] = true
   allOf P (x ∷ r) = P x && allOf P r

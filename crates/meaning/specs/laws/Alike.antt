@@ -11,7 +11,7 @@ use lib.IntN.{ℤ, pos, _+ℤ_, _-ℤ_, ℤ-discrete}
 use lib.Signed.{leZ, ltZ, _≤ℤ_, _<ℤ_, ltZ-no, clashℤ}
 use borrow.Author.Tests.{ltb-true, lt-ltb}
 use Rattle.number.specs.Axis.{origin, whole}
-use Rattle.recording.specs.Condition.{Condition, pick}
+use Rattle.recording.specs.Condition.{Condition, pick, someOf}
 use Rattle.recording.specs.Reading.{Reading, Curve, A, B, value, top, crossing, nothing}
 use Rattle.grammar.specs.Syntax.{Listed, high, low, lowafter, capafter, peaks, cross, ampl, gaps, steps, lag, Text, atom, listed, or, and, neg, finally, globally, next, until, weakUntil}
 use Rattle.meaning.specs.Listed.{recordAt, SomeRecord, EachRecord, Meets, timeOf, After, between, Says}
@@ -19,7 +19,7 @@ use Rattle.meaning.specs.Meaning.{readingAt, AtomSays, Holds}
 use Rattle.meaning.specs.Overfull.{children, Node, itself, below, Overfull, TooManyTops}
 use Rattle.grammar.specs.Size.{temporal, afterTime, afterTimes}
 use Rattle.meaning.specs.Alike.{markIndex, Plain, times, Alike, Same}
-use Rattle.meaning.specs.inner.Truth.{someOf, somePair, someStep}
+use Rattle.meaning.specs.inner.Truth.{somePair, someStep}
 use Rattle.number.specs.laws.Boolean.{then, back, either, both, so-and, none-left, or-right, off}
 use Rattle.meaning.specs.laws.Whole.{le-test, lt-test, lt-index, stands-whole}
 use Rattle.meaning.specs.laws.Pick.{some-at, some-find, key-find, key-at, pair-find, pair-at, step-find, step-at}

@@ -7,8 +7,9 @@ use mathlib.Core.List.{List, [], _∷_}
 use lib.Dec.{leb, eqb}
 use borrow.Author.Tests.{leb-true, le-leb, eqb-true}
 use Rattle.number.specs.Axis.{origin}
-use Rattle.meaning.specs.inner.Truth.{someOf, allOf, among}
+use Rattle.meaning.specs.inner.Truth.{allOf, among}
 use Rattle.number.specs.laws.Boolean.{same, or-left, or-right, or-cases, and-left, and-right, and-make, imp-or, or-imp}
+use Rattle.recording.specs.Condition.{someOf}
 
 module _ {X : Type 0} where
   pub some-imp : (P Q : X → Bool) (r : List X) → ((x : X) → P x ≡ true → Q x ≡ true) → someOf P r ≡ true → someOf Q r ≡ true

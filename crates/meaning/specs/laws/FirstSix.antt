@@ -13,7 +13,7 @@ use lib.ListN.{length, getD}
 use borrow.Author.Tests.{ltb-true, lt-ltb, le-ltb, leb-true, leb-false, eqb-true}
 use Rattle.number.specs.Axis.{axis, whole}
 use Rattle.runset.specs.Runs.{runCount, mostRuns}
-use Rattle.recording.specs.Condition.{pick, pickFrom, when}
+use Rattle.recording.specs.Condition.{pick, pickFrom, when, someOf}
 use Rattle.recording.specs.Reading.{Reading, Curve, edge}
 use Rattle.grammar.specs.Syntax.{of, T, ge, le, gt, eq, v, number, compare, A-to-B, fall, Listed, Text, atom, listed, or, and, neg, finally, globally, next}
 use Rattle.meaning.specs.Meaning.{Holds}
@@ -22,7 +22,7 @@ use Rattle.grammar.specs.Size.{temporal}
 use Rattle.meaning.specs.inner.Recorded.{Increasing, Recorded}
 use Rattle.meaning.specs.FirstSix.{Formula, of-high, of-low, of-lowafter, of-capafter, of-peaks, of-cross}
 use Rattle.meaning.specs.inner.Coded.{Coded, code, blank, codedValue, codedFalls, codedCrossed, codedAfter}
-use Rattle.meaning.specs.inner.Truth.{someOf, allOf, among, truth, lastCoded, codedAt, finallyFrom, globallyFrom, val, runsAt, largeAt, someNode, overAt, someBelow, refused8}
+use Rattle.meaning.specs.inner.Truth.{allOf, among, truth, lastCoded, codedAt, finallyFrom, globallyFrom, val, runsAt, largeAt, someNode, overAt, someBelow, refused8}
 use Rattle.number.specs.laws.Boolean.{same, then, back, or-cases, or-none, none-left}
 use Rattle.meaning.specs.laws.Run.{starts, run-count, starts-ext, runs-ext, Convex, Up, Down, up-convex, down-convex, const-convex, const-up, and-convex, point-convex, or-up, and-up, or-down, ray-up, ray-down, convex-few, more-starts}
 use Rattle.meaning.specs.laws.Truth.{val-holds}

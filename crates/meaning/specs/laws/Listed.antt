@@ -11,14 +11,14 @@ use lib.IntN.{ℤ, pos, negsuc, _+ℤ_}
 use lib.Signed.{_≤ℤ_}
 use borrow.Author.Tests.{leb-true}
 use Rattle.number.specs.Axis.{origin, whole}
-use Rattle.recording.specs.Condition.{Condition, pickFrom}
+use Rattle.recording.specs.Condition.{Condition, pickFrom, someOf}
 use Rattle.recording.specs.Reading.{Reading, Curve, A, B, value, falls, crossed, top, crossing, nothing}
 use Rattle.recording.specs.Recording.{inRange}
 use Rattle.grammar.specs.Syntax.{Listed, high, low, lowafter, capafter, peaks, cross, ampl, gaps, steps, lag}
 use Rattle.meaning.specs.Listed.{recordAt, SomeRecord, EachRecord, Meets, timeOf, After, between, Says}
 use Rattle.meaning.specs.inner.Recorded.{InRange}
 use Rattle.meaning.specs.inner.Coded.{Coded, code, index, codedValue, codedFalls, codedCrossed, codedAfter, codedTop, codedCrossing, timesOf, topTimes, crossingTimes}
-use Rattle.meaning.specs.inner.Truth.{someOf, allOf, somePair, someStep, among, apart, truth}
+use Rattle.meaning.specs.inner.Truth.{allOf, somePair, someStep, among, apart, truth}
 use Rattle.number.specs.laws.Boolean.{same, then, both, so-and, and-left, imp-or, or-imp}
 use Rattle.meaning.specs.laws.Whole.{Stands, stands-whole, le-test, le-index, lt-index, eq-index, apart-index, wide-index}
 use Rattle.meaning.specs.laws.Pick.{some-at, some-find, all-at, all-make, keysOf, key-find, key-at, pair-find, pair-at, step-find, step-at, Each, each-make, pick-map, edge-map, map-map}

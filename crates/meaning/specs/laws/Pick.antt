@@ -6,9 +6,9 @@ use mathlib.Core.Path.{_≡_, refl, ap, _∙_}
 use mathlib.Core.Bool.{Bool, true, false, _&&_, not, false≢true}
 use mathlib.Core.List.{List, [], _∷_, map, reverseAux}
 use lib.ListN.{length, getD, take, drop}
-use Rattle.recording.specs.Condition.{Condition, when, pickFrom}
+use Rattle.recording.specs.Condition.{Condition, when, pickFrom, someOf}
 use Rattle.recording.specs.Reading.{edge}
-use Rattle.meaning.specs.inner.Truth.{someOf, allOf, somePair, someStep}
+use Rattle.meaning.specs.inner.Truth.{allOf, somePair, someStep}
 use Rattle.number.specs.laws.Boolean.{or-left, or-right, or-cases, and-left, and-right, and-make, clash}
 
 module _ {X : Type 0} where

@@ -15,13 +15,14 @@ use Rattle.recording.specs.Recording.{inRange}
 use Rattle.grammar.specs.Syntax.{ge, eq, of, v, number, compare, high, low, lowafter, capafter, peaks, cross, ampl, gaps, lag, atom, listed, until}
 use Rattle.meaning.specs.inner.Recorded.{InRange}
 use Rattle.meaning.specs.inner.Coded.{Coded, code, index, codedValue, codedAfter}
-use Rattle.meaning.specs.inner.Truth.{someOf, among, truth, val}
+use Rattle.meaning.specs.inner.Truth.{among, truth, val}
 use Rattle.number.specs.laws.Boolean.{same, then, back, either, both, so-or, so-and, and-left, and-right, and-make}
 use Rattle.meaning.specs.laws.Whole.{Stands, stands-whole, le-index}
 use Rattle.meaning.specs.laws.Truth.{val-holds}
 use Rattle.meaning.specs.laws.Pick.{Each, all-at}
 use Rattle.meaning.specs.laws.Extreme.{Greatest, Least, greatest-some, least-some, spread, among-same}
-use Rattle.meaning.specs.R1.{R1, Run, _to_, just, Lo, Hi, _is_, InRuns, Maximal, Line, marked, at, Told}
+use Rattle.meaning.specs.R1.{R1, Run, _to_, just, Lo, Hi, _is_, InRuns, Maximal, Example, marked, at, Holding}
+use Rattle.recording.specs.Condition.{someOf}
 
 -- ---- runs by indices
 
@@ -73,7 +74,7 @@ r1-in-range i h B = all-at nothing (λ x. inRange (value B x)) R1 refl i h
 abbrev coded : List Coded
 coded = map code R1
 
-told : (l : Line) → Each OnAxis (l .runs) → ((n : ℕ) → n < axis → val coded n (l .text) 0 ≡ someOf (within n) (l .runs)) → Maximal (l .runs) → Told l
+told : (l : Example) → Each OnAxis (l .runs) → ((n : ℕ) → n < axis → val coded n (l .text) 0 ≡ someOf (within n) (l .runs)) → Maximal (l .runs) → Holding l
 told l s e m = record {
   set = λ n h. then (back (in-runs (l .runs) s n)) (then (λ k. e n h ∙ k, λ k. sym (e n h) ∙ k) (val-holds R1 r1-in-range n (l .text) 0 (omega arith)));
   maximal = m;
@@ -147,11 +148,11 @@ until-set n h =
 
 -- a line, and then the lines after it
 infixr 5 _also_
-_also_ : {l x : Line} {r : List Line} → Told x → (List·Memᴰ l r → Told l) → List·Memᴰ l (x ∷ r) → Told l
-(t also rest) m = ⊎-elim (λ e. subst Told (sym e) t) rest (List·Memᴰ·cases-cons m)
+_also_ : {l x : Example} {r : List Example} → Holding x → (List·Memᴰ l r → Holding l) → List·Memᴰ l (x ∷ r) → Holding l
+(t also rest) m = ⊎-elim (λ e. subst Holding (sym e) t) rest (List·Memᴰ·cases-cons m)
 
 -- THE MARKED LINES HOLD OF R1
-pub marked-lines : (l : Line) → List·Memᴰ l marked → Told l
+pub marked-lines : (l : Example) → List·Memᴰ l marked → Holding l
 marked-lines l =
     told (listed (high A) is ((Lo to pos 90) ∷ [])) ((refl, refl), tt) high-set (leZ-yes tt)
     also told (listed (low A) is ((pos 30 to Hi) ∷ [])) ((refl, refl), tt) low-set (leZ-yes tt)

@@ -22,7 +22,6 @@ use Rattle.kept.specs.Kept.{keptFor}
 use Rattle.thin.specs.Thin.{keptBytes, thinOf}
 use Rattle.marks.specs.Marks.{marksOf, marksLine}
 use Rattle.thin.specs.laws.Book.{kept-sixteens}
-use Rattle.tops.specs.Tops.{curveOf}
 use Rattle.runset.specs.Runs.{setBytes}
 use Rattle.text.specs.Told.{textLines}
 use Rattle.meaning.specs.inner.Coded.{index}
@@ -36,6 +35,7 @@ use Rattle.pair.specs.Pair.{firstPair, acceptedLines, pairOf}
 use Rattle.reply.specs.Reply.{half, packed, InHalf}
 use Rattle.reply.specs.laws.Place.{place-below}
 use Rattle.mill.specs.Boundary.{Writes, valueTold, distanceAfter, degreeAfter, Degrees}
+use Rattle.recording.specs.Reading.{curveOf}
 
 -- ---- an answer, packed
 

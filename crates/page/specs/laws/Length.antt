@@ -16,7 +16,7 @@ use Rattle.recording.specs.Output.{outputLine}
 use Rattle.recording.specs.laws.Outcome.{judged-first, judged-skip}
 use Rattle.number.specs.laws.Order.{less-or-not}
 use Rattle.runset.specs.Runs.{setBytes}
-use Rattle.grammar.specs.inner.Parse.{reading}
+use Rattle.grammar.specs.inner.Parse.{parsed}
 use Rattle.grammar.specs.Size.{mostBytes}
 use Rattle.text.specs.Told.{badLength, noReading, tooLarge}
 use Rattle.question.specs.Question.{read, answer, setLines, questionOf}
@@ -70,8 +70,8 @@ pub texts-alike : (rec s t : List ℕ) (room : ℕ) → mostBytes < length s →
 unfolding questionOf
 texts-alike rec s t room h g =
     line-stands (recordingLines rec ++ (noRecord rec ∷ [])) 5 (badLength s) (badLength t)
-    (line 6 (noReading (reading s)) ∷ line 7 (tooLarge s) ∷ (setLines rec (read s) ++ (outputLine room (setBytes (answer rec s)) ∷ [])))
-    (line 6 (noReading (reading t)) ∷ line 7 (tooLarge t) ∷ (setLines rec (read t) ++ (outputLine room (setBytes (answer rec t)) ∷ [])))
+    (line 6 (noReading (parsed s)) ∷ line 7 (tooLarge s) ∷ (setLines rec (read s) ++ (outputLine room (setBytes (answer rec s)) ∷ [])))
+    (line 6 (noReading (parsed t)) ∷ line 7 (tooLarge t) ∷ (setLines rec (read t) ++ (outputLine room (setBytes (answer rec t)) ∷ [])))
     (setBytes (answer rec s)) (setBytes (answer rec t)) (too-long s h) (too-long t g)
 
 -- ---- WHAT IS KEPT IS ANSWERED AS WHAT WAS SEEN

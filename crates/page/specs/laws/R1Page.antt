@@ -24,7 +24,7 @@ use Rattle.runset.specs.laws.Cuts.{lowCuts, highCuts}
 use Rattle.runset.specs.laws.Runs.{cuts-bytes, cuts-count}
 use Rattle.grammar.specs.Bytes.{bytes}
 use Rattle.grammar.specs.inner.Lexer.{unsignedAt, numberAt, operandAt, comparisonAt, timedAt, argumentsAt, namedAt, headedAt, leafAt}
-use Rattle.grammar.specs.inner.Parse.{parse, reading}
+use Rattle.grammar.specs.inner.Parse.{parse, parsed}
 use Rattle.grammar.specs.Size.{tooDeep}
 use Rattle.grammar.specs.Syntax.{Text, listed, peaks}
 use Rattle.grammar.specs.Size.{temporal}
@@ -40,7 +40,7 @@ abbrev asked : List ℕ
 asked = bytes "peaks(A)"
 
 reads : read asked ≡ listed (peaks A)
-unfolding reading parse unsignedAt numberAt operandAt comparisonAt timedAt argumentsAt namedAt headedAt leafAt
+unfolding parsed parse unsignedAt numberAt operandAt comparisonAt timedAt argumentsAt namedAt headedAt leafAt
 reads = refl
 
 -- ---- the set: 30 and 70, by their indices on the axis
@@ -106,7 +106,7 @@ eight =
     ∙ le-ltb mostRuns (runCount (λ n. val (coded R1) n (listed (peaks A)) 0)) (omega (arith, two, ap (λ (p : Text). runCount (λ n. val (coded R1) n p 0)) reads))
 
 none-asking : NoneMeets (askingLines R1 asked)
-unfolding recording.reading signed turned recording.fieldsOf recording.fields recording.lawful recording.firstBad least tooDeep reading parse unsignedAt numberAt operandAt comparisonAt timedAt argumentsAt namedAt headedAt leafAt
+unfolding recording.reading signed turned recording.fieldsOf recording.fields recording.lawful recording.firstBad least tooDeep parsed parse unsignedAt numberAt operandAt comparisonAt timedAt argumentsAt namedAt headedAt leafAt
 none-asking = (refl, (refl, (refl, (refl, (refl, (refl, (refl, tt)))))))
 
 ten : ltb setRoom (length (setBytes (answer R1 asked))) ≡ false

@@ -14,7 +14,6 @@ use Rattle.refusal.specs.declared.Refusal.the-variants.{NoRecord, BadTarget}
 use Rattle.number.specs.laws.Boolean.{or-right}
 use Rattle.recording.specs.Recording.{records, readings}
 use Rattle.recording.specs.laws.Record.{length-records}
-use Rattle.tops.specs.Tops.{curveOf}
 use Rattle.targets.specs.Target.{offAxis, Placed}
 use Rattle.targets.specs.laws.Target.{placed-handed}
 use Rattle.targets.specs.declared.OnAxis.the-variants.{Index, Off}
@@ -25,6 +24,7 @@ use Rattle.recording.specs.Recording.{noRecord}
 use Rattle.pair.specs.laws.Pair.{answer-first, answer-pass}
 use Rattle.pair.proofs.in_accepted.Statement.{statement}
 use Rattle.pair.proofs.in_accepted.Tie as tie
+use Rattle.recording.specs.Reading.{curveOf}
 
 module _ (bytes : List ℕ) (n : ℕ) (e : n ≡ length bytes / 16) (curve : ℕ) (g : ℤ) where
   abbrev given : Given

@@ -13,11 +13,11 @@ use Rattle.recording.specs.Recording.{recordingLines, readings, Accepted}
 use Rattle.recording.specs.laws.Outcome.{result-none}
 use Rattle.recording.specs.declared.Checked.{Checked}
 use Rattle.recording.specs.declared.Checked.the-variants as checked
-use Rattle.tops.specs.Tops.{curveOf}
 use Rattle.pair.specs.Pair.{firstPair, acceptedLines, outcomeOf, pairOf}
 use Rattle.pair.specs.laws.Pair.{answer-pass, answer-refused}
 use Rattle.pair.proofs.pair.Statement.{statement}
 use Rattle.pair.proofs.pair.Tie as tie
+use Rattle.recording.specs.Reading.{curveOf}
 
 accepted : (bytes : List ℕ) (r : Checked) (n : ℕ) → found r ≡ judged (recordingLines bytes) (length bytes / 16) → r ≡ checked.Records n
     → Accepted bytes × (n ≡ length bytes / 16)

@@ -11,10 +11,10 @@ use Rattle.number.specs.Axis.{origin, whole}
 use Rattle.refusal.specs.Outcome.{result, judged, NoneMeets}
 use Rattle.refusal.specs.declared.Refusal.the-variants.{TooManyTops}
 use Rattle.recording.specs.Condition.{pick}
-use Rattle.recording.specs.Reading.{top}
+use Rattle.recording.specs.Reading.{top, curveOf}
 use Rattle.recording.specs.laws.Outcome.{judged-none}
 use Rattle.recording.specs.Recording.{chunks, reading, readings, Accepted}
-use Rattle.tops.specs.Tops.{curveOf, topTimes, mostTops}
+use Rattle.tops.specs.Tops.{topTimes, mostTops}
 use Rattle.tops.specs.inner.Scan.{Scanned}
 use Rattle.pair.specs.declared.TopPair.{TopPair}
 use Rattle.pair.specs.declared.TopPair.the-variants as answer

@@ -20,7 +20,7 @@ use Rattle.recording.specs.Condition.{pick}
 use Rattle.recording.specs.Reading.{Reading, Curve, top, nothing}
 use Rattle.recording.specs.Recording.{readings, Accepted}
 use Rattle.recording.specs.laws.Outcome.{judged-pass, judged-first, refusal-stands}
-use Rattle.tops.specs.Tops.{timeOf, topTimes}
+use Rattle.tops.specs.Tops.{recordedTime, topTimes}
 use Rattle.targets.specs.laws.Target.{sub-above, sub-below}
 use Rattle.tops.specs.inner.Scan.{Scanned}
 use Rattle.tops.specs.laws.Top.{top-times-ascend}
@@ -46,13 +46,13 @@ module _ (r : List Reading) (c : Curve) (g : ℤ) where
   abbrev ts : List ℕ
   ts = topTimes c r
 
-  time-of-place : (k : ℕ) → getD (topTimes c r) k 0 ≡ timeOf (getD (pick (top c) r) k nothing)
+  time-of-place : (k : ℕ) → getD (topTimes c r) k 0 ≡ recordedTime (getD (pick (top c) r) k nothing)
   unfolding topTimes
-  time-of-place k = List·getD-map timeOf (pick (top c) r) k nothing
+  time-of-place k = List·getD-map recordedTime (pick (top c) r) k nothing
 
   pub count-tops : length (topTimes c r) ≡ length (pick (top c) r)
   unfolding topTimes
-  count-tops = length-map (pick (top c) r) timeOf
+  count-tops = length-map (pick (top c) r) recordedTime
 
   -- a pair that fits stands at two places
   pub record Placed (i j : ℕ) : Type 0 where
@@ -70,8 +70,8 @@ module _ (r : List Reading) (c : Curve) (g : ℤ) where
       let l = rankOf nothing (top c) [] r j in
       let kn : Numbered nothing (top c) [] r i k = number-found nothing (top c) [] r i (omega arith) (f .earlier) in
       let ln : Numbered nothing (top c) [] r j l = number-found nothing (top c) [] r j (f .inside) (f .later) in
-      let tk : getD ts k 0 ≡ timeAt r i = time-of-place k ∙ ap timeOf (kn .same) in
-      let tl : getD ts l 0 ≡ timeAt r j = time-of-place l ∙ ap timeOf (ln .same) in
+      let tk : getD ts k 0 ≡ timeAt r i = time-of-place k ∙ ap recordedTime (kn .same) in
+      let tl : getD ts l 0 ≡ timeAt r j = time-of-place l ∙ ap recordedTime (ln .same) in
       record {
         k = k;
         l = l;
@@ -91,8 +91,8 @@ module _ (r : List Reading) (c : Curve) (g : ℤ) where
       let o = a .order in
       let f : Found nothing (top c) [] r (indexOf (top c) [] r k) (getD (pick (top c) r) k nothing) = index-found nothing (top c) [] r k (omega arith) in
       let s : Found nothing (top c) [] r (indexOf (top c) [] r l) (getD (pick (top c) r) l nothing) = index-found nothing (top c) [] r l l-in in
-      let first : getD ts k 0 ≡ timeAt r (indexOf (top c) [] r k) = time-of-place k ∙ ap timeOf (sym (f .same)) in
-      let second : getD ts l 0 ≡ timeAt r (indexOf (top c) [] r l) = time-of-place l ∙ ap timeOf (sym (s .same)) in
+      let first : getD ts k 0 ≡ timeAt r (indexOf (top c) [] r k) = time-of-place k ∙ ap recordedTime (sym (f .same)) in
+      let second : getD ts l 0 ≡ timeAt r (indexOf (top c) [] r l) = time-of-place l ∙ ap recordedTime (sym (s .same)) in
       record {
         i = indexOf (top c) [] r k;
         j = indexOf (top c) [] r l;

@@ -56,7 +56,7 @@ Fits table b Unread (got t j) = ⊥
 Fits table b Unread unread = Unit {0}
 
 -- what reading the task from `at` answers, with n rows made
-pub record Answers (s : List ℕ) (g : Task) (at n : ℕ) (before now : List ℕ) (r : Got) : Type 0 where
+pub record Parses (s : List ℕ) (g : Task) (at n : ℕ) (before now : List ℕ) (r : Got) : Type 0 where
   pub ahead : Ahead (length s) at n r
   pub same : Same n before now
   pub fits : (f : ℕ) → rank s g < f → Fits now n r (parse s f g)

@@ -6,8 +6,8 @@ use lib.ListN.{length}
 use Rattle.parser.specs.declared.Got.{Got}
 use Rattle.parser.specs.declared.Got.the-variants.{Upto}
 use Rattle.grammar.specs.inner.Parse.{Task}
-use Rattle.parser.specs.inner.Rows.{Ahead, Answers}
+use Rattle.parser.specs.inner.Rows.{Ahead, Parses}
 
 -- how far an answer reads
-pub ahead-of : {s : List ℕ} {g : Task} {at n e m : ℕ} {T U : List ℕ} {r : Got} → Answers s g at n T U r → r ≡ Upto e m → (at < e) × (e ≤ length s) × (n < m) × (m + at ≤ n + e)
+pub ahead-of : {s : List ℕ} {g : Task} {at n e m : ℕ} {T U : List ℕ} {r : Got} → Parses s g at n T U r → r ≡ Upto e m → (at < e) × (e ≤ length s) × (n < m) × (m + at ≤ n + e)
 ahead-of {s} {at = at} {n = n} x p = subst (Ahead (length s) at n) p (x .ahead)

@@ -9,7 +9,7 @@ use borrow.Author.Tests.{eqb-true, eq-eqb, not-true}
 use Rattle.number.specs.laws.Boolean.{and-left, and-right}
 use Rattle.grammar.specs.Bytes.{bytes}
 use Rattle.grammar.specs.inner.Lexer.{unsignedAt, numberAt, operandAt, comparisonAt, timedAt, argumentsAt, namedAt, headedAt, leafAt}
-use Rattle.grammar.specs.inner.Parse.{parse, reading}
+use Rattle.grammar.specs.inner.Parse.{parse, parsed}
 use Rattle.grammar.specs.Size.{afterTimes}
 use Rattle.meaning.specs.Alike.{markIndex}
 use Rattle.question.specs.Question.{read}
@@ -107,5 +107,5 @@ all-asked marks (text ∷ texts) e = (
 )
 
 pub asked-of-kept : AllAsked mark40 askedTexts
-unfolding marksOf reading parse unsignedAt numberAt operandAt comparisonAt timedAt argumentsAt namedAt headedAt leafAt
+unfolding marksOf parsed parse unsignedAt numberAt operandAt comparisonAt timedAt argumentsAt namedAt headedAt leafAt
 asked-of-kept = all-asked mark40 askedTexts refl

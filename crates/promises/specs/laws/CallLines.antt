@@ -16,17 +16,17 @@ use Rattle.number.specs.Least.{least}
 use Rattle.number.specs.laws.Least.{least-holds, least-first}
 use Rattle.number.specs.laws.Order.{less-or-not}
 use Rattle.refusal.specs.Outcome.{Line, line, NoneMeets}
-use Rattle.recording.specs.Condition.{pick}
-use Rattle.recording.specs.Reading.{top}
+use Rattle.recording.specs.Condition.{pick, someOf}
+use Rattle.recording.specs.Reading.{top, curveOf}
 use Rattle.recording.specs.Recording.{records, readings, recordingLines, noRecord, Accepted}
 use Rattle.recording.specs.Output.{outputLine}
 use Rattle.runset.specs.Runs.{runCount, setBytes}
 use Rattle.runset.specs.laws.Runs.{runCount-ext, setBytes-length}
 use Rattle.targets.specs.Target.{offAxis}
-use Rattle.tops.specs.Tops.{curveOf, mostTops}
+use Rattle.tops.specs.Tops.{mostTops}
 use Rattle.grammar.specs.Syntax.{Text}
 use Rattle.grammar.specs.Grammar.{ReadsWhole}
-use Rattle.grammar.specs.inner.Parse.{reading}
+use Rattle.grammar.specs.inner.Parse.{parsed}
 use Rattle.grammar.specs.Size.{nodes, openAt, tooDeep, mostBytes, mostNodes, mostOpen}
 use Rattle.text.specs.Told.{badLength, noReading, tooLarge, textLines}
 use Rattle.meaning.specs.Alike.{Same}
@@ -43,7 +43,7 @@ use Rattle.question.specs.laws.Lines.{read-reads, reads-read, lines-mean}
 use Rattle.degree.specs.Degree.{targetLine}
 use Rattle.pair.specs.Pair.{pairLines, acceptedLines}
 use Rattle.thin.specs.Thin.{keptBytes}
-use Rattle.marks.specs.Marks.{marksOf, some, mostMarks, latestMark, marksLine}
+use Rattle.marks.specs.Marks.{marksOf, mostMarks, latestMark, marksLine}
 use Rattle.promises.specs.Table.{Request, question, degree, pair, thin, recordingIn, textIn, OfAxis, OpenTooDeep, acceptedOrder, order}
 use Rattle.promises.specs.laws.Table.{Agrees, Agree, agree-recording}
 
@@ -135,7 +135,7 @@ pub in-its-place : (bytes text : List ℕ) → Accepted bytes → InPlace bytes 
 in-its-place bytes text a = record {
   accepted = a;
   empty = (λ e. e, λ e. e);
-  same = λ some n t r. record { truth = λ z. (λ h. h, λ h. h); eight = (λ h. h, λ h. h); nine = (λ h. h, λ h. h) };
+  same = λ someOf n t r. record { truth = λ z. (λ h. h, λ h. h); eight = (λ h. h, λ h. h); nine = (λ h. h, λ h. h) };
 }
 
 module _ (full held text : List ℕ) (place : InPlace full held text) where
@@ -152,15 +152,15 @@ module _ (full held text : List ℕ) (place : InPlace full held text) where
     rest,
   )
 
-  module _ (some : noRecord held .meets ≡ false) (sized : NoneMeets (textLines text)) where
+  module _ (someOf : noRecord held .meets ≡ false) (sized : NoneMeets (textLines text)) where
     mean : LinesMean held text
-    mean = lines-mean held text (place .accepted) some
+    mean = lines-mean held text (place .accepted) someOf
 
     reads : ReadsWhole text (read text)
     reads = read-reads text (sized .1 .0)
 
     as-full : (t : Text) → ReadsWhole text t → Same (readings held) (readings full) t
-    as-full = place .same some sized
+    as-full = place .same someOf sized
 
     nine-met : refused9 (coded held) (read text) ≡ true → (t : Text) × ReadsWhole text t × OverTops (readings full) t
     nine-met e = (read text, reads, as-full (read text) reads .nine .0 (mean .nine (read text) reads .0 e))
@@ -224,8 +224,8 @@ module _ (full held text : List ℕ) (place : InPlace full held text) where
   agree-asked room =
       agree-four (question full text room) refl (textLines text ++ (setLines held (read text) ++ (outputLine room (setBytes (answer held text)) ∷ [])))
       (5 ∷ 6 ∷ 7 ∷ 9 ∷ 8 ∷ 10 ∷ [])
-      (λ some. agree-text (question full text room) held (lines-mean held text (place .accepted) some)
-      (setLines held (read text) ++ (outputLine room (setBytes (answer held text)) ∷ [])) (9 ∷ 8 ∷ 10 ∷ []) (λ sized. agree-sets some sized room))
+      (λ someOf. agree-text (question full text room) held (lines-mean held text (place .accepted) someOf)
+      (setLines held (read text) ++ (outputLine room (setBytes (answer held text)) ∷ [])) (9 ∷ 8 ∷ 10 ∷ []) (λ sized. agree-sets someOf sized room))
 
 -- ---- the question call
 
@@ -258,19 +258,19 @@ pub agree-degree : (bytes text : List ℕ) (target : ℤ)
 agree-degree bytes text target =
     agree-recording q (noRecord bytes ∷ textLines text ++ (targetLine target ∷ setLines bytes (read text))) (4 ∷ 5 ∷ 6 ∷ 7 ∷ 12 ∷ 9 ∷ 8 ∷ [])
     (λ a. agree-four bytes bytes text (in-its-place bytes text a) q refl (textLines text ++ (targetLine target ∷ setLines bytes (read text))) (5 ∷ 6 ∷ 7 ∷ 12 ∷ 9 ∷ 8 ∷ [])
-    (λ some. agree-text q bytes (lines-mean bytes text a some) (targetLine target ∷ setLines bytes (read text)) (12 ∷ 9 ∷ 8 ∷ [])
-    (λ sized. rest (in-its-place bytes text a) some sized)))
+    (λ someOf. agree-text q bytes (lines-mean bytes text a someOf) (targetLine target ∷ setLines bytes (read text)) (12 ∷ 9 ∷ 8 ∷ [])
+    (λ sized. rest (in-its-place bytes text a) someOf sized)))
   where
     q : Request
     q = degree bytes text target
 
     rest : InPlace bytes bytes text → noRecord bytes .meets ≡ false → NoneMeets (textLines text) → Agree q (targetLine target ∷ setLines bytes (read text)) (12 ∷ 9 ∷ 8 ∷ [])
-    rest place some sized = (
+    rest place someOf sized = (
       record { number = refl; named = refl; placed = refl; met = λ e. off-axis target e; unmet = λ e p m. m (on-axis target .0 e) },
       λ twelve. (
-        record { number = refl; named = refl; placed = refl; met = nine-met bytes bytes text place some sized; unmet = λ e p. nine-unmet bytes bytes text place some sized e },
+        record { number = refl; named = refl; placed = refl; met = nine-met bytes bytes text place someOf sized; unmet = λ e p. nine-unmet bytes bytes text place someOf sized e },
         λ nine. (
-          record { number = refl; named = refl; placed = refl; met = eight-met bytes bytes text place some sized; unmet = λ e p. eight-unmet bytes bytes text place some sized e },
+          record { number = refl; named = refl; placed = refl; met = eight-met bytes bytes text place someOf sized; unmet = λ e p. eight-unmet bytes bytes text place someOf sized e },
           λ eight. tt,
         ),
       ),
@@ -311,17 +311,17 @@ agree-pair bytes curve target =
 
 -- ---- the thinning call
 
-some-there : (ks : List ℕ) → some (ltb latestMark) ks ≡ true → (k : ℕ) × List·Memᴰ k ks × (latestMark < k)
+some-there : (ks : List ℕ) → someOf (ltb latestMark) ks ≡ true → (k : ℕ) × List·Memᴰ k ks × (latestMark < k)
 some-there [] e = absurd (false≢true e)
 some-there (k ∷ ks) e =
     ⊎-elim (λ h. (k, List·Memᴰ·head refl, ltb-true latestMark k h)) (λ h. let r = some-there ks h in (r .0, List·Memᴰ·tail (r .1), r .2))
-    (or-true (ltb latestMark k) (some (ltb latestMark) ks) e)
+    (or-true (ltb latestMark k) (someOf (ltb latestMark) ks) e)
 
-there-some : (ks : List ℕ) (k : ℕ) → List·Memᴰ k ks → latestMark < k → some (ltb latestMark) ks ≡ true
+there-some : (ks : List ℕ) (k : ℕ) → List·Memᴰ k ks → latestMark < k → someOf (ltb latestMark) ks ≡ true
 there-some [] k m h = absurd (List·Memᴰ·not-nil m)
 there-some (j ∷ ks) k m h = ⊎-elim
-    (λ (e : k ≡ j). or-left (ltb latestMark j) (some (ltb latestMark) ks) (lt-ltb latestMark j (omega arith)))
-    (λ i. or-right (ltb latestMark j) (some (ltb latestMark) ks) (there-some ks k i h)) (List·Memᴰ·cases-cons m)
+    (λ (e : k ≡ j). or-left (ltb latestMark j) (someOf (ltb latestMark) ks) (lt-ltb latestMark j (omega arith)))
+    (λ i. or-right (ltb latestMark j) (someOf (ltb latestMark) ks) (there-some ks k i h)) (List·Memᴰ·cases-cons m)
 
 pub agree-marks : (bytes marks : List ℕ) (room : ℕ) → Agrees (thin bytes marks room) (marksLine marks) 11
 agree-marks bytes marks room = record {
@@ -330,11 +330,11 @@ agree-marks bytes marks room = record {
   placed = refl;
   met = λ e. ⊎-elim (λ h. inl (λ z. clash (eq-eqb (length marks % 4) 0 z) (not-true _ h)))
       (λ h. inr (⊎-elim (λ i. inl (ltb-true mostMarks (length marks / 4) i)) (λ i. inr (some-there (marksOf marks) i))
-      (or-true (ltb mostMarks (length marks / 4)) (some (ltb latestMark) (marksOf marks)) h)))
-      (or-true (not (eqb (length marks % 4) 0)) (ltb mostMarks (length marks / 4) || some (ltb latestMark) (marksOf marks)) e);
+      (or-true (ltb mostMarks (length marks / 4)) (someOf (ltb latestMark) (marksOf marks)) h)))
+      (or-true (not (eqb (length marks % 4) 0)) (ltb mostMarks (length marks / 4) || someOf (ltb latestMark) (marksOf marks)) e);
   unmet = λ e p m.
-      let o = both-off (not (eqb (length marks % 4) 0)) (ltb mostMarks (length marks / 4) || some (ltb latestMark) (marksOf marks)) e in
-      let i = both-off (ltb mostMarks (length marks / 4)) (some (ltb latestMark) (marksOf marks)) (o .1) in
+      let o = both-off (not (eqb (length marks % 4) 0)) (ltb mostMarks (length marks / 4) || someOf (ltb latestMark) (marksOf marks)) e in
+      let i = both-off (ltb mostMarks (length marks / 4)) (someOf (ltb latestMark) (marksOf marks)) (o .1) in
       ⊎-elim (λ h. h (eqb-true (length marks % 4) 0 (not-false _ (o .0))))
       (λ h. ⊎-elim (λ n. clash (lt-ltb mostMarks (length marks / 4) n) (i .0)) (λ t. clash (there-some (marksOf marks) (t .0) (t .1) (t .2)) (i .1)) h) m;
 }

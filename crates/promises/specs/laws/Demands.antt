@@ -39,10 +39,9 @@ use Rattle.degree.specs.laws.Nearest.{nearness-says}
 use Rattle.degree.specs.Degree.{Value, met, short, noValue, valueOf, targetLine, nearnessOf}
 use Rattle.meaning.specs.inner.Coded.{index}
 use Rattle.pair.specs.Pair.{Given, times, none, firstPair, pairLines, pairOf}
-use Rattle.tops.specs.Tops.{curveOf}
 use Rattle.thin.specs.Thin.{keptBytes, thinOf}
 use Rattle.marks.specs.Marks.{marksOf, marksLine, AcceptedMarks}
-use Rattle.thin.specs.Book.{Call, Left, leaves, thinned, heldNext, calls, heldAfter, entry, joinNext, book, joinAfter}
+use Rattle.thin.specs.Book.{Call, Left, leftBy, thinned, heldNext, calls, heldAfter, entry, joinNext, book, joinAfter}
 use Rattle.thin.specs.laws.Book.{kept-join, taken, whole-next, as-the-book}
 use Rattle.thin.specs.Cut.{wholeFrom, CutBetween, LongEnough, allWritten}
 use Rattle.thin.specs.laws.Cut.{as-the-whole}
@@ -51,19 +50,20 @@ use Rattle.reply.specs.laws.Unpacked.{Numbered, number-result, low-result, numb
 use Rattle.mill.specs.Boundary.{Writes, Degrees, QuestionCall, DegreeCall, PairCall, ThinCall, valueTold, distanceAfter, degreeAfter, pairTold, earlierAfter, laterAfter}
 use Rattle.mill.specs.laws.Boundary.{thin-in-half, question-in-half, degree-place, pair-place}
 use Rattle.promises.specs.Table.{Request, question, degree, pair, thin, OfAxis, order, acceptedOrder, NoneMet, FirstMet}
-use Rattle.promises.specs.laws.Table.{number-bounds, Agree, Told, met-there, judged-told}
+use Rattle.promises.specs.laws.Table.{number-bounds, Agree, AsTable, met-there, judged-told}
 use Rattle.promises.specs.laws.CallLines.{InPlace, in-its-place, answer-is, agree-asked, agree-question, agree-degree, agree-pair, agree-marks, agree-thin}
 use Rattle.promises.specs.laws.Operator.{unwritten-flat}
 use Rattle.promises.specs.StandIn.{StandIn}
 use Rattle.promises.specs.laws.StandIn.{stand-same, stand-question, kept-stands, kept-accepted}
 use Rattle.promises.specs.CallsMade.{Returned, readOff, CallsMade, heldAt, takenFrom}
 use Rattle.promises.specs.Demands.{ByTheTable, OneAnswer, Demand1, Fixed, SetWritten, Demand2, AskedOfKept, RightOf, EveryList, CutWhole, KeptLikeFull, Demand3, Demands}
+use Rattle.recording.specs.Reading.{curveOf}
 
 -- ---- DEMAND 1: the number that is returned
 
 module _ (q : Request) (ks : List ℕ) where
   -- a packed outcome, judged by the table
-  judged-number : (o : Outcome ℕ) (r : ℕ) → r ≡ packed o → InHalf o → Told q ks o → ByTheTable q ks r
+  judged-number : (o : Outcome ℕ) (r : ℕ) → r ≡ packed o → InHalf o → AsTable q ks o → ByTheTable q ks r
   judged-number (result n) r e h t =
       let z : numberIn r ≡ 0 = ap numberIn e ∙ number-result n h in
       record { in-64-bits = omega arith; a-result = (λ k. t, λ k. z); a-refusal = λ k. absurd (k z) }
@@ -78,11 +78,11 @@ module _ (q : Request) (ks : List ℕ) where
         a-refusal = λ z. (t .0, t .1, k ∙ t .2, ap lowIn e ∙ low-refused n p h ∙ t .3);
       }
 
-  told-counted : (o : Outcome (List ℕ)) → Told q ks o → Told q ks (counted o)
+  told-counted : (o : Outcome (List ℕ)) → AsTable q ks o → AsTable q ks (counted o)
   told-counted (result b) t = t
   told-counted (refused n p) t = t
 
-  told-numbered : (o : Outcome ℕ) → Told q ks o → Numbered o
+  told-numbered : (o : Outcome ℕ) → AsTable q ks o → Numbered o
   told-numbered (result n) t = tt
   told-numbered (refused n p) t = let b = number-bounds (t .0) in let m = t .2 in omega arith
 
@@ -106,27 +106,27 @@ wrote (refused n p) out r after h k w z = let e = ap numberIn (w .returned) ∙ 
 
 -- ---- DEMAND 1, of each call
 
-question-told : (bytes text : List ℕ) (room : ℕ) → Told (question bytes text room) (order (question bytes text room)) (questionOf bytes text room)
+question-told : (bytes text : List ℕ) (room : ℕ) → AsTable (question bytes text room) (order (question bytes text room)) (questionOf bytes text room)
 unfolding questionOf
 question-told bytes text room =
     judged-told (question bytes text room) (askingLines bytes text ++ (setLines bytes (read text) ++ (outputLine room (setBytes (answer bytes text)) ∷ [])))
     (order (question bytes text room)) (setBytes (answer bytes text)) (agree-question bytes text room)
 
-thin-told : (bytes marks : List ℕ) (room : ℕ) → Told (thin bytes marks room) (order (thin bytes marks room)) (thinOf bytes marks room)
+thin-told : (bytes marks : List ℕ) (room : ℕ) → AsTable (thin bytes marks room) (order (thin bytes marks room)) (thinOf bytes marks room)
 unfolding thinOf
 thin-told bytes marks room =
     judged-told (thin bytes marks room) (recordingLines bytes ++ marksLine marks ∷ outputLine room (keptBytes (marksOf marks) bytes) ∷ [])
     (order (thin bytes marks room)) (keptBytes (marksOf marks) bytes) (agree-thin bytes marks room)
 
 -- a call that writes bytes
-writes-answered : (q : Request) (o : Outcome (List ℕ)) (out : List ℕ) (r : ℕ) (after : List ℕ) → Told q (order q) o → InHalf (counted o) → Writes o out r after
+writes-answered : (q : Request) (o : Outcome (List ℕ)) (out : List ℕ) (r : ℕ) (after : List ℕ) → AsTable q (order q) o → InHalf (counted o) → Writes o out r after
     → OneAnswer q r out after
 writes-answered q o out r after t h w = record {
   result-or-refusal = judged-number q (order q) (counted o) r (w .returned) h (told-counted q (order q) o t);
   refusal-writes-nothing = kept-output o out r after h w;
 }
 
-degree-told : (bytes text : List ℕ) (target : ℤ) → Told (degree bytes text target) (order (degree bytes text target)) (nearnessOf bytes text target)
+degree-told : (bytes text : List ℕ) (target : ℤ) → AsTable (degree bytes text target) (order (degree bytes text target)) (nearnessOf bytes text target)
 unfolding nearnessOf
 degree-told bytes text target =
     judged-told (degree bytes text target) (askingLines bytes text ++ (targetLine target ∷ setLines bytes (read text))) (order (degree bytes text target))
@@ -141,7 +141,7 @@ degree-answered bytes text target distance degree′ r first second d =
     q : Request
     q = degree bytes text target
 
-    go : (o : Outcome Value) → nearnessOf bytes text target ≡ o → Told q (order q) o → r ≡ packed (valueTold o) → first ≡ distanceAfter o distance
+    go : (o : Outcome Value) → nearnessOf bytes text target ≡ o → AsTable q (order q) o → r ≡ packed (valueTold o) → first ≡ distanceAfter o distance
         → second ≡ degreeAfter o degree′ → OneAnswer q r (distance ∷ degree′ ∷ []) (first ∷ second ∷ [])
     go (result met) e t p f s = record { result-or-refusal = judged-number q (order q) (result 0) r p (omega arith) t; refusal-writes-nothing = λ k. absurd (k (ap numberIn p)) }
     go (result (short d k)) e t p f s = record { result-or-refusal = judged-number q (order q) (result 1) r p (omega arith) t; refusal-writes-nothing = λ k. absurd (k (ap numberIn p)) }
@@ -149,7 +149,7 @@ degree-answered bytes text target distance degree′ r first second d =
     go (refused n i) e t p f s =
         record { result-or-refusal = judged-number q (order q) (refused n i) r p (degree-place bytes text target n i e) t; refusal-writes-nothing = λ k. ap₂ (λ (x y : ℕ). x ∷ y ∷ []) f s }
 
-pair-told : (bytes : List ℕ) (curve : ℕ) (target : ℤ) → Told (pair bytes curve target) (order (pair bytes curve target)) (pairOf bytes curve target)
+pair-told : (bytes : List ℕ) (curve : ℕ) (target : ℤ) → AsTable (pair bytes curve target) (order (pair bytes curve target)) (pairOf bytes curve target)
 unfolding pairOf
 pair-told bytes curve target =
     judged-told (pair bytes curve target) (pairLines bytes curve target) (order (pair bytes curve target)) (firstPair (readings bytes) (curveOf curve) target)
@@ -164,7 +164,7 @@ pair-answered bytes curve target earlier later r first second c =
     q : Request
     q = pair bytes curve target
 
-    go : (o : Outcome Given) → pairOf bytes curve target ≡ o → Told q (order q) o → r ≡ packed (pairTold o) → first ≡ earlierAfter o earlier
+    go : (o : Outcome Given) → pairOf bytes curve target ≡ o → AsTable q (order q) o → r ≡ packed (pairTold o) → first ≡ earlierAfter o earlier
         → second ≡ laterAfter o later → OneAnswer q r (earlier ∷ later ∷ []) (first ∷ second ∷ [])
     go (result (times t u)) e h p f s = record { result-or-refusal = judged-number q (order q) (result 1) r p (omega arith) h; refusal-writes-nothing = λ k. absurd (k (ap numberIn p)) }
     go (result none) e h p f s = record { result-or-refusal = judged-number q (order q) (result 0) r p (omega arith) h; refusal-writes-nothing = λ k. absurd (k (ap numberIn p)) }
@@ -203,8 +203,8 @@ module _ (full held text : List ℕ) (place : InPlace full held text) (room : �
   unfolding questionOf
   question-of-held = judged-pass (recordingLines held) (noRecord held ∷ asked) (setBytes (answer held text)) (place .accepted)
 
-  stood-told : Told (question full text room) acceptedOrder (questionOf held text room)
-  stood-told = subst (Told (question full text room) acceptedOrder) (sym question-of-held)
+  stood-told : AsTable (question full text room) acceptedOrder (questionOf held text room)
+  stood-told = subst (AsTable (question full text room) acceptedOrder) (sym question-of-held)
       (judged-told (question full text room) (noRecord held ∷ asked) acceptedOrder (setBytes (answer held text)) (agree-asked full held text place room))
 
   stood-fixed : (written : List ℕ) → questionOf held text room ≡ result written → Fixed full text written
@@ -252,7 +252,7 @@ degree-meant recording text target distance value r first second d z = go (nearn
         (x, nearness-says recording text target x e .2, subst (λ (o : Outcome Value). Degrees o distance value r first second) e d)
     go (refused n p) e =
         let q : Request = degree recording text target in
-        let t : Told q (order q) {R = Value} (refused n p) = subst (λ (o : Outcome Value). Told q (order q) o) e (degree-told recording text target) in
+        let t : AsTable q (order q) {R = Value} (refused n p) = subst (λ (o : Outcome Value). AsTable q (order q) o) e (degree-told recording text target) in
         let b = number-bounds (t .0) in
         let m = t .2 in
         let k : numberIn r ≡ n = ap numberIn (d .returned ∙ ap (λ (o : Outcome Value). packed (valueTold o)) e) ∙ number-refused n p (degree-place recording text target n p e) in
@@ -302,7 +302,7 @@ stands-in : (full held text out : List ℕ) → InPlace full held text → (r : 
 stands-in full held text out place r after w =
     let o : Outcome (List ℕ) = questionOf held text (length out) in
     let q : Request = question full text (length out) in
-    let t : Told q acceptedOrder (counted o) = told-counted q acceptedOrder o (stood-told full held text place (length out)) in
+    let t : AsTable q acceptedOrder (counted o) = told-counted q acceptedOrder o (stood-told full held text place (length out)) in
     let h : InHalf (counted o) = question-in-half held text (length out) in
     record {
       refusal = judged-number q acceptedOrder (counted o) r (w .returned) h t;
@@ -391,7 +391,7 @@ taken-join : (marks held : List ℕ) (cs : List Call) (xs : List Returned) (join
 taken-join marks held [] xs join e = refl
 taken-join marks held (c ∷ cs) [] join e = absurd (let z = ap length e in omega arith)
 taken-join marks held (c ∷ cs) (x ∷ xs) join e =
-    let parts = same-cons (readOff x) (leaves (entry marks join c) c) (map readOff xs) (book marks (joinNext join c (entry marks join c)) cs) e in
+    let parts = same-cons (readOff x) (leftBy (entry marks join c) c) (map readOff xs) (book marks (joinNext join c (entry marks join c)) cs) e in
     let n : cond (eqb (numberIn (x .returned)) 0) (join ++ c .piece) join ≡ joinNext join c (entry marks join c) = next (entry marks join c) (ap (λ (l : Left). l .answer) (parts .0)) in
     ap (λ (j : List ℕ). takenFrom j cs xs) n ∙ taken-join marks held cs xs (joinNext join c (entry marks join c)) (parts .1)
   where
@@ -413,8 +413,8 @@ all-given : (marks join : List ℕ) (cs : List Call) (xs : List Returned) → ma
 all-given marks join cs [] e x m = absurd (List·Memᴰ·not-nil m)
 all-given marks join [] (y ∷ ys) e x m = absurd (let z = ap length e in omega arith)
 all-given marks join (c ∷ cs) (y ∷ ys) e x m = ⊎-elim
-    (λ (q : x ≡ y). ap (λ (w : Returned). numberIn (w .returned)) q ∙ given (eqb (numberIn (y .returned)) 0) refl (ap answer-of (first-of (readOff y) (leaves (result (keptBytes marks (join ++ c .piece))) c) (map readOff ys) _ e)))
-    (λ i. all-given marks (join ++ c .piece) cs ys (rest-of (readOff y) (leaves (result (keptBytes marks (join ++ c .piece))) c) (map readOff ys) _ e) x i) (List·Memᴰ·cases-cons m)
+    (λ (q : x ≡ y). ap (λ (w : Returned). numberIn (w .returned)) q ∙ given (eqb (numberIn (y .returned)) 0) refl (ap answer-of (first-of (readOff y) (leftBy (result (keptBytes marks (join ++ c .piece))) c) (map readOff ys) _ e)))
+    (λ i. all-given marks (join ++ c .piece) cs ys (rest-of (readOff y) (leftBy (result (keptBytes marks (join ++ c .piece))) c) (map readOff ys) _ e) x i) (List·Memᴰ·cases-cons m)
   where
     answer-of : Left → Outcome ℕ
     answer-of l = l .answer

@@ -15,7 +15,7 @@ use Rattle.recording.specs.laws.Outcome.{judged-pass, none-append}
 use Rattle.runset.specs.Runs.{setBytes}
 use Rattle.grammar.specs.Bytes.{bytes}
 use Rattle.grammar.specs.inner.Lexer.{unsignedAt, numberAt, operandAt, comparisonAt, timedAt, argumentsAt, namedAt, headedAt, leafAt}
-use Rattle.grammar.specs.inner.Parse.{one, parse, reading}
+use Rattle.grammar.specs.inner.Parse.{one, parse, parsed}
 use Rattle.grammar.specs.Size.{tooDeep}
 use Rattle.grammar.specs.Syntax.{Listed, Text, listed}
 use Rattle.text.specs.Told.{textLines}
@@ -131,8 +131,8 @@ first-six-asked q p f s t rs rt = record { question = same-question f s t rs rt;
 
 -- ---- the six as the document writes them
 
-met : {q : Listed} {p : Text} → Formula q p → (w : NamedFormula) → reading (bytes (w .name)) ≡ one (listed q) → NoneMeets (textLines (bytes (w .name)))
-    → reading (bytes (w .formula)) ≡ one p → NoneMeets (textLines (bytes (w .formula))) → BothRead w
+met : {q : Listed} {p : Text} → Formula q p → (w : NamedFormula) → parsed (bytes (w .name)) ≡ one (listed q) → NoneMeets (textLines (bytes (w .name)))
+    → parsed (bytes (w .formula)) ≡ one p → NoneMeets (textLines (bytes (w .formula))) → BothRead w
 met {q} {p} f w a b c d = record {
   question = q;
   tree = p;
@@ -148,7 +148,7 @@ _also_ : {w x : NamedFormula} {r : List NamedFormula} → BothRead x → (List·
 
 -- the names and the formulas of the document read as such
 pub six-met : (w : NamedFormula) → List·Memᴰ w sixWritten → BothRead w
-unfolding tooDeep least reading parse unsignedAt numberAt operandAt comparisonAt timedAt argumentsAt namedAt headedAt leafAt
+unfolding tooDeep least parsed parse unsignedAt numberAt operandAt comparisonAt timedAt argumentsAt namedAt headedAt leafAt
 six-met w =
     met of-high _ refl (refl, (refl, (refl, tt))) refl (refl, (refl, (refl, tt)))
     also met of-low _ refl (refl, (refl, (refl, tt))) refl (refl, (refl, (refl, tt)))

@@ -24,7 +24,7 @@ use Rattle.runset.specs.laws.Cuts.{lowCuts, highCuts, none, behind-run, covers,
 use Rattle.runset.specs.laws.Runs.{cuts-bytes, cuts-count}
 use Rattle.grammar.specs.Bytes.{bytes}
 use Rattle.grammar.specs.inner.Lexer.{unsignedAt, numberAt, operandAt, comparisonAt, timedAt, argumentsAt, namedAt, headedAt, leafAt}
-use Rattle.grammar.specs.inner.Parse.{one, parse, reading}
+use Rattle.grammar.specs.inner.Parse.{one, parse, parsed}
 use Rattle.grammar.specs.Size.{tooDeep}
 use Rattle.grammar.specs.Syntax.{ge, eq, of, v, number, compare, Listed, high, low, lowafter, capafter, peaks, cross, ampl, gaps, lag, Text, atom, listed, until}
 use Rattle.text.specs.Told.{textLines}
@@ -39,14 +39,15 @@ use Rattle.meaning.specs.R1.{Run, InRuns}
 use Rattle.meaning.specs.laws.R1Lines.{marked-lines}
 use Rattle.meaning.specs.laws.Run.{starts, run-count, Convex, const-convex, point-convex, convex-runs, convex-few}
 use Rattle.meaning.specs.laws.Recorded.{accepted-recorded}
-use Rattle.meaning.specs.inner.Truth.{someOf, allOf, codedAt, lastCoded, untilFrom, val, someNode, overAt, someBelow, refused8, refused9}
+use Rattle.meaning.specs.inner.Truth.{allOf, codedAt, lastCoded, untilFrom, val, someNode, overAt, someBelow, refused8, refused9}
 use Rattle.meaning.specs.laws.Truth.{val-holds}
 use Rattle.meaning.specs.laws.Whole.{Stands, stands-whole, le-index}
 use Rattle.question.specs.Question.{theText, read, answer, askingLines, setLines, questionOf}
 use Rattle.thin.specs.Thin.{keptBytes, thinOf}
 use Rattle.marks.specs.Marks.{marksOf, marksLine, AcceptedMarks}
 use Rattle.thin.specs.laws.R1Calls.{R1-accepted}
-use Rattle.promises.specs.MarkedLines.{MarkedLine, markedLines, bytesOfRuns, bytesOfMarks, writtenIn, Asked, Thinned, Says}
+use Rattle.promises.specs.MarkedLines.{MarkedLine, markedLines, bytesOfRuns, bytesOfMarks, writtenIn, Asked, Thinned, LineHolds}
+use Rattle.recording.specs.Condition.{someOf}
 
 -- ---- the runs of a set fix its bytes
 
@@ -144,7 +145,7 @@ R1-in-range : InRange (recording.readings R1)
 R1-in-range = accepted-recorded R1 R1-accepted .in-range
 
 -- a line of the meaning, read from a text: 5, 6, 7 and 9 do not refuse it, and 8 does not where the set has at most 256 runs
-module _ {l : lines.Line} (told : lines.Told l) (text : List ℕ) (reads : reading text ≡ one (l .text)) (sized : NoneMeets (textLines text))
+module _ {l : lines.Example} (told : lines.Holding l) (text : List ℕ) (reads : parsed text ≡ one (l .text)) (sized : NoneMeets (textLines text))
     (fit : fits (l .runs) ≡ true) (written : runBytes (lowCuts (cuts (l .runs))) (highCuts (cuts (l .runs))) ≡ bytesOfRuns (l .runs))
     (nine : refused9 (coded R1) (l .text) ≡ false) (eight : runCount (λ n. val (coded R1) n (l .text) 0) ≤ mostRuns → refused8 (coded R1) (l .text) ≡ false) where
   is-read : read text ≡ l .text
@@ -277,17 +278,17 @@ each : {X : Type 0} (P : X → Type 0) (l : List X) → ((x : X) → List·Mem�
 each P [] h = tt
 each P (x ∷ l) h = (h x (List·Memᴰ·head refl), each P l (λ y m. h y (List·Memᴰ·tail m)))
 
-told : Each lines.Told lines.marked
-told = each lines.Told lines.marked marked-lines
+told : Each lines.Holding lines.marked
+told = each lines.Holding lines.marked marked-lines
 
 -- a line, and then the lines after it
 infixr 5 _also_
-_also_ : {l x : MarkedLine} {r : List MarkedLine} → Says x → (List·Memᴰ l r → Says l) → List·Memᴰ l (x ∷ r) → Says l
-(t also rest) m = ⊎-elim (λ e. subst Says (sym e) t) rest (List·Memᴰ·cases-cons m)
+_also_ : {l x : MarkedLine} {r : List MarkedLine} → LineHolds x → (List·Memᴰ l r → LineHolds l) → List·Memᴰ l (x ∷ r) → LineHolds l
+(t also rest) m = ⊎-elim (λ e. subst LineHolds (sym e) t) rest (List·Memᴰ·cases-cons m)
 
 -- THE MARKED LINES OF R1 HOLD
-pub marked-hold : (l : MarkedLine) → List·Memᴰ l markedLines → Says l
-unfolding tooDeep least reading parse unsignedAt numberAt operandAt comparisonAt timedAt argumentsAt namedAt headedAt leafAt lowCuts highCuts refused9 someNode marksOf keptBytes recording.reading signed turned
+pub marked-hold : (l : MarkedLine) → List·Memᴰ l markedLines → LineHolds l
+unfolding tooDeep least parsed parse unsignedAt numberAt operandAt comparisonAt timedAt argumentsAt namedAt headedAt leafAt lowCuts highCuts refused9 someNode marksOf keptBytes recording.reading signed turned
 marked-hold l =
     asked (told .0) (bytes "high(A)") refl (refl, (refl, (refl, tt))) refl refl refl (listed-eight (high A))
     also asked (told .1 .0) (bytes "low(A)") refl (refl, (refl, (refl, tt))) refl refl refl (listed-eight (low A))

@@ -10,20 +10,19 @@ use lib.IntN.{ℤ}
 use lib.Dec.{ltb}
 use lib.Signed.{leZ, ltZ}
 use borrow.Author.Tests.{not-true, not-false}
-use Rattle.recording.specs.Condition.{Condition, _∪_}
+use Rattle.recording.specs.Condition.{Condition, _∪_, someOf}
 use Rattle.number.specs.laws.Boolean.{off, and-left, and-right}
 use Rattle.number.specs.laws.Words.{leZ-not-ltZ}
 use Rattle.recording.specs.laws.Value.{ltZ-asym, lt-le-trans, ltZ-between}
 use Rattle.recording.specs.Reading.{Reading, Curve, A, B, value, top, crossing}
 use Rattle.meaning.specs.Listed.{recordAt}
 use Rattle.meaning.specs.Meaning.{lastOf, readingAt}
-use Rattle.meaning.specs.inner.Truth.{someOf}
 use Rattle.meaning.specs.Alike.{Alike}
 use Rattle.meaning.specs.laws.Alike.{Tested, tested-alike}
 use Rattle.kept.specs.Kept.{first, last, withBefore, forSome, firstGreatest, less, more, eitherCurve, extremes, anyTime, after, keptFor, kept}
 use Rattle.kept.specs.Selection.{flags, select, Includes}
 use Rattle.kept.specs.laws.Stability.{_⊑_, left, right, pick-flags, select-blind}
-use Rattle.kept.specs.laws.Rule.{some-of, some-blind}
+use Rattle.kept.specs.laws.Rule.{some-blind}
 use Rattle.kept.specs.laws.Kept.{kept-piecewise, same-tops, same-crossings}
 
 -- ---- which records the rule keeps for their value
@@ -80,7 +79,7 @@ and-off true f h k = h
 and-off false f h k = absurd (false≢true k)
 
 -- "some record passes the test", as the meaning has it and as the rule has it
-some-same : (P : Reading → Bool) (r : List Reading) → someOf P r ≡ some-of P r
+some-same : (P : Reading → Bool) (r : List Reading) → someOf P r ≡ someOf P r
 some-same P [] = refl
 some-same P (x ∷ r) = ap (λ (b : Bool). P x || b) (some-same P r)
 
@@ -93,7 +92,7 @@ module _ (marks : List ℕ) (r : List Reading) (mask : List Bool) (w : Includes 
       → someOf P (select mask r) ≡ someOf P r
   seen q under le P within upward asym =
       some-same P (select mask r)
-      ∙ select-blind (keptFor marks) (kept-piecewise marks .stable) (some-of P)
+      ∙ select-blind (keptFor marks) (kept-piecewise marks .stable) (someOf P)
       (λ b x a f. some-blind q under P within upward asym b x a (off (le b x a) f)) r mask w
       ∙ sym (some-same P r)
 

@@ -25,7 +25,7 @@ use Rattle.grammar.specs.Bytes.{bytes}
 use Rattle.grammar.specs.Size.{tooDeep}
 use Rattle.grammar.specs.Syntax.{Listed, lowafter, peaks, Text, listed}
 use Rattle.grammar.specs.inner.Lexer.{unsignedAt, numberAt, operandAt, comparisonAt, timedAt, argumentsAt, namedAt, headedAt, leafAt}
-use Rattle.grammar.specs.inner.Parse.{parse, reading}
+use Rattle.grammar.specs.inner.Parse.{parse, parsed}
 use Rattle.text.specs.Told.{textLines}
 use Rattle.grammar.specs.Size.{afterTime}
 use Rattle.meaning.specs.Alike.{markIndex, Plain}
@@ -49,11 +49,11 @@ pub R1-lasts : Lasting mark40 cuts
 R1-lasts = lasting mark40 mark40-accepted cuts R1-accepted (refl, (refl, (refl, tt))) cuts-long-enough
 
 reads-lowafter : read (bytes "lowafter(A,40)") ≡ listed (lowafter A 2000000040)
-unfolding reading parse unsignedAt numberAt operandAt comparisonAt timedAt argumentsAt namedAt headedAt leafAt
+unfolding parsed parse unsignedAt numberAt operandAt comparisonAt timedAt argumentsAt namedAt headedAt leafAt
 reads-lowafter = refl
 
 reads-peaks : read (bytes "peaks(A)") ≡ listed (peaks A)
-unfolding reading parse unsignedAt numberAt operandAt comparisonAt timedAt argumentsAt namedAt headedAt leafAt
+unfolding parsed parse unsignedAt numberAt operandAt comparisonAt timedAt argumentsAt namedAt headedAt leafAt
 reads-peaks = refl
 
 -- an after-time that is the mark
@@ -76,7 +76,7 @@ R1-peaks room = R1-lasts .same .question (bytes "peaks(A)") peaks-askable room
 -- ---- the first of the two answers, from the calls to the bytes: 45..Hi
 
 text-read : NoneMeets (textLines (bytes "lowafter(A,40)"))
-unfolding tooDeep least reading parse unsignedAt numberAt operandAt comparisonAt timedAt argumentsAt namedAt headedAt leafAt
+unfolding tooDeep least parsed parse unsignedAt numberAt operandAt comparisonAt timedAt argumentsAt namedAt headedAt leafAt
 text-read = (refl, (refl, (refl, tt)))
 
 abbrev after-40 : ℕ → Bool

@@ -13,14 +13,14 @@ use borrow.Author.Tests.{eq-eqb, ne-eqb, eqb-true}
 use Rattle.number.specs.Axis.{whole}
 use Rattle.refusal.specs.Outcome.{refused, Line, line, judged, NoneMeets}
 use Rattle.recording.specs.Condition.{pick, on}
-use Rattle.recording.specs.Reading.{Reading, top}
+use Rattle.recording.specs.Reading.{Reading, top, curveOf}
 use Rattle.recording.specs.Recording.{Raw, records, reading, readings, recordingLines, noRecord, Accepted}
 use Rattle.recording.specs.Output.{outputLine}
 use Rattle.recording.specs.laws.Acceptance.{Sound, accepted-sound, sound-accepted}
 use Rattle.recording.specs.laws.Outcome.{judged-pass}
 use Rattle.runset.specs.Runs.{setBytes}
 use Rattle.runset.specs.laws.Runs.{setBytes-ext}
-use Rattle.tops.specs.Tops.{curveOf, timeOf, topTimes, mostTops}
+use Rattle.tops.specs.Tops.{recordedTime, topTimes, mostTops}
 use Rattle.grammar.specs.Syntax.{Text}
 use Rattle.text.specs.Told.{textLines}
 use Rattle.meaning.specs.inner.Coded.{coded, index}
@@ -142,8 +142,8 @@ module _ (marks full held : List ℕ) (s : StandIn (marksOf marks) full held) (a
   module _ (curve : ℕ) (target : ℤ) where
     same-count : length (pick (top (curveOf curve)) (readings held)) ≡ length (pick (top (curveOf curve)) (readings full))
     same-count =
-        sym (length-map (pick (top (curveOf curve)) (readings held)) timeOf) ∙ ap length (s .alike .tops (curveOf curve))
-        ∙ length-map (pick (top (curveOf curve)) (readings full)) timeOf
+        sym (length-map (pick (top (curveOf curve)) (readings held)) recordedTime) ∙ ap length (s .alike .tops (curveOf curve))
+        ∙ length-map (pick (top (curveOf curve)) (readings full)) recordedTime
 
     same-lines : acceptedLines held curve target ≡ acceptedLines full curve target
     same-lines = ap₂ (λ (l : Line) (n : ℕ). l ∷ badTarget curve target ∷ line 9 (ltb mostTops n) ∷ []) (same-noRecord (marksOf marks) full held s) same-count

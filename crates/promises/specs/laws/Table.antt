@@ -81,9 +81,9 @@ Agree q (l ∷ ls) [] = ⊥
 Agree q (l ∷ ls) (k ∷ ks) = Agrees q l k × (l .meets ≡ false → Agree q ls ks)
 
 -- what an outcome says by the table: a result, no line is met; a refusal, it is the first that is
-abbrev pub Told : Request → List ℕ → {R : Type 0} → Outcome R → Type 0
-Told q ks (result r) = NoneMet q ks
-Told q ks (refused n p) = (x : Refusal) × FirstMet q ks x × (n ≡ numberOf x) × (p ≡ placeOf x)
+abbrev pub AsTable : Request → List ℕ → {R : Type 0} → Outcome R → Type 0
+AsTable q ks (result r) = NoneMet q ks
+AsTable q ks (refused n p) = (x : Refusal) × FirstMet q ks x × (n ≡ numberOf x) × (p ≡ placeOf x)
 
 module _ (q : Request) where
   -- no refusal with that number is met
@@ -98,19 +98,19 @@ module _ (q : Request) where
 
   module _ {R : Type 0} where
     -- what is judged by agreeing lines
-    pub judged-told : (ls : List Line) (ks : List ℕ) (r : R) → Agree q ls ks → Told q ks (judged ls r)
+    pub judged-told : (ls : List Line) (ks : List ℕ) (r : R) → Agree q ls ks → AsTable q ks (judged ls r)
     unfolding judged
     judged-told [] [] r a = λ x m. absurd (List·Memᴰ·not-nil m)
     judged-told [] (k ∷ ks) r a = absurd a
     judged-told (l ∷ ls) [] r a = absurd a
     judged-told (l ∷ ls) (k ∷ ks) r a = go (l .meets) refl (judged ls r) (λ h. judged-told ls ks r (a .1 h))
       where
-        rest : l .meets ≡ false → (o : Outcome R) → Told q ks o → Told q (k ∷ ks) o
+        rest : l .meets ≡ false → (o : Outcome R) → AsTable q ks o → AsTable q (k ∷ ks) o
         rest e (result s) t = λ x m.
             ⊎-elim (λ (i : numberOf x ≡ k). unmet-all k (a .0 .unmet e) x i) (λ i. t x i) (List·Memᴰ·cases-cons m)
         rest e (refused n p) t = (t .0, inr (unmet-all k (a .0 .unmet e), t .1), t .2, t .3)
 
-        go : (b : Bool) → l .meets ≡ b → (o : Outcome R) → (l .meets ≡ false → Told q ks o) → Told q (k ∷ ks) (cond b (refused (l .number) (l .place)) o)
+        go : (b : Bool) → l .meets ≡ b → (o : Outcome R) → (l .meets ≡ false → AsTable q ks o) → AsTable q (k ∷ ks) (cond b (refused (l .number) (l .place)) o)
         go true e o t = (refusalOf k (l .place), inl (a .0 .named, a .0 .met e), a .0 .number ∙ sym (a .0 .named), sym (a .0 .placed))
         go false e o t = rest e o (t e)
 

@@ -28,7 +28,7 @@ use Rattle.grammar.specs.Syntax.{Text}
 use Rattle.grammar.specs.Size.{tooDeep, mostNodes}
 use Rattle.grammar.specs.inner.Table.{treeAt}
 use Rattle.parser.specs.inner.Rows.{Laid, leaf, unary, binary}
-use Rattle.grammar.specs.inner.Parse.{Reading, one, none, reading}
+use Rattle.grammar.specs.inner.Parse.{Parsed, one, none, parsed}
 use Rattle.text.specs.Told.{textLines, nodesOf, Tabled}
 use Rattle.meaning.specs.inner.Coded.{coded}
 use Rattle.meaning.specs.inner.Truth.{val}
@@ -89,12 +89,12 @@ module _ (bytes text table : List ℕ) where
   unfolding questionOf
   question-refused q x h e old =
       answers-refused (questionOf bytes text (length old)) old x
-      (refusal-stands (askingLines bytes text) (setLines bytes (read text) ++ (outputLine (length old) (setBytes (answer bytes text)) ∷ [])) (nodesOf (reading text)) (setBytes (answer bytes text)) (numberOf x) (placeOf x)
+      (refusal-stands (askingLines bytes text) (setLines bytes (read text) ++ (outputLine (length old) (setBytes (answer bytes text)) ∷ [])) (nodesOf (parsed text)) (setBytes (answer bytes text)) (numberOf x) (placeOf x)
       (sym (h .outcome) ∙ ap preparedOf e))
 
   module _ (q : Prepared) (n : ℕ) (h : Prepares bytes text table q) (e : q ≡ prepared.Nodes n) where
-    passed : NoneMeets (askingLines bytes text) × (nodesOf (reading text) ≡ n)
-    passed = result-none (askingLines bytes text) (nodesOf (reading text)) n (sym (h .outcome) ∙ ap preparedOf e)
+    passed : NoneMeets (askingLines bytes text) × (nodesOf (parsed text) ≡ n)
+    passed = result-none (askingLines bytes text) (nodesOf (parsed text)) n (sym (h .outcome) ∙ ap preparedOf e)
 
     parts : NoneMeets (recordingLines bytes) × NoneMeets (noRecord bytes ∷ textLines text)
     parts = none-append (recordingLines bytes) (noRecord bytes ∷ textLines text) (passed .0)
@@ -104,7 +104,7 @@ module _ (bytes text table : List ℕ) where
 
     few-nodes : n ≤ mostNodes
     few-nodes =
-        omega (arith, passed .1, ltb-false mostNodes (nodesOf (reading text)) (none-left (ltb mostNodes (nodesOf (reading text))) (tooDeep text) (parts .1 .1 .1 .1 .0)))
+        omega (arith, passed .1, ltb-false mostNodes (nodesOf (parsed text)) (none-left (ltb mostNodes (nodesOf (parsed text))) (tooDeep text) (parts .1 .1 .1 .1 .0)))
 
     some-record : 0 < length (coded bytes)
     some-record = by (ℕ-discrete (length (records bytes)) 0)

@@ -8,11 +8,12 @@ use mathlib.Core.List.{List, map}
 use lib.Dec.{ltb}
 use lib.ListN.{length, getD, length-map}
 use Rattle.recording.specs.Recording.{Accepted, readings}
-use Rattle.recording.specs.Reading.{Curve, A, B}
+use Rattle.recording.specs.Reading.{Curve, A, B, curveOf}
 use Rattle.tops.specs.Tops as tops
 use Rattle.grammar.specs.Syntax.{Text, Listed, listed, gaps, steps, lag}
 use Rattle.grammar.specs.declared.Row.{Row}
-use Rattle.grammar.specs.inner.Table.{row, build, rowAt, treeAt, Falling, curveOf}
+use Rattle.grammar.specs.inner.Kinds.{GAPS, STEPS, LAG, NOT, OR, BRACKET}
+use Rattle.grammar.specs.inner.Table.{row, build, rowAt, treeAt, Falling}
 use Rattle.meaning.specs.inner.Coded.{Coded, coded, topTimes}
 use Rattle.tops.specs.Tops.{mostTops}
 use Rattle.meaning.specs.inner.Truth.{manyTops, asksTooMany, ofListed, refused9, someNode}
@@ -28,7 +29,7 @@ tops-count rec a c = ap length (top-stamps rec a c) ∙ length-map (tops.topTime
 
 module _ (r : List Coded) (a b n : ℕ) where
   -- leaves that take no differences
-  pub leaf-none : (k : ℕ) → k < 12 → ofListed (asksTooMany r) (leafOf (row k a b n)) ≡ false
+  pub leaf-none : (k : ℕ) → k < GAPS → ofListed (asksTooMany r) (leafOf (row k a b n)) ≡ false
   leaf-none k h = by (decLt k 4) (decLt k 8)
     where
       P : ℕ → Type 0
@@ -39,28 +40,22 @@ module _ (r : List Coded) (a b n : ℕ) where
       by (no l) (yes m) = four (λ (k : ℕ). ofListed (asksTooMany r) (leafOf (row k a b n)) ≡ false) 4 k (omega arith) m refl refl refl refl
       by (no l) (no m) = four (λ (k : ℕ). ofListed (asksTooMany r) (leafOf (row k a b n)) ≡ false) 8 k (omega arith) h refl refl refl refl
 
-  pub leaf-one : (k : ℕ) → 12 ≤ k → k < 15 → (k ≡ 14 → ⊥) → ofListed (asksTooMany r) (leafOf (row k a b n)) ≡ manyTops (curveOf a) r
-  leaf-one k l h ne = by (ℕ-discrete k 12)
+  pub leaf-one : (k : ℕ) → GAPS ≤ k → k < NOT → (k ≡ LAG → ⊥) → ofListed (asksTooMany r) (leafOf (row k a b n)) ≡ manyTops (curveOf a) r
+  leaf-one k l h ne = by (ℕ-discrete k GAPS)
     where
-      by : Dec (k ≡ 12) → ofListed (asksTooMany r) (leafOf (row k a b n)) ≡ manyTops (curveOf a) r
+      by : Dec (k ≡ GAPS) → ofListed (asksTooMany r) (leafOf (row k a b n)) ≡ manyTops (curveOf a) r
       by (yes e) = ap (λ (k : ℕ). ofListed (asksTooMany r) (leafOf (row k a b n))) e
-      by (no m) = let e : k ≡ 13 = omega arith in ap (λ (k : ℕ). ofListed (asksTooMany r) (leafOf (row k a b n))) e
+      by (no m) = let e : k ≡ STEPS = omega arith in ap (λ (k : ℕ). ofListed (asksTooMany r) (leafOf (row k a b n))) e
 
-  pub leaf-both : (k : ℕ) → k ≡ 14 → ofListed (asksTooMany r) (leafOf (row k a b n)) ≡ (manyTops A r || manyTops B r)
+  pub leaf-both : (k : ℕ) → k ≡ LAG → ofListed (asksTooMany r) (leafOf (row k a b n)) ≡ (manyTops A r || manyTops B r)
   leaf-both k e = ap (λ (k : ℕ). ofListed (asksTooMany r) (leafOf (row k a b n))) e
 
--- every code but 1 is A
-pub curve-other : (n : ℕ) → (n ≡ 1 → ⊥) → A ≡ curveOf n
-curve-other zero ne = refl
-curve-other (suc zero) ne = absurd (ne refl)
-curve-other (suc (suc n)) ne = refl
-
 -- an operator asks nothing itself
-op-one : (G : Listed → Bool) (k a b n : ℕ) (p q : Text) → 15 ≤ k → k < 19 → ofListed G (build (row k a b n) p q) ≡ false
-op-one G k a b n p q l h = four (λ (k : ℕ). ofListed G (build (row k a b n) p q) ≡ false) 15 k l h refl refl refl refl
+op-one : (G : Listed → Bool) (k a b n : ℕ) (p q : Text) → NOT ≤ k → k < OR → ofListed G (build (row k a b n) p q) ≡ false
+op-one G k a b n p q l h = four (λ (k : ℕ). ofListed G (build (row k a b n) p q) ≡ false) NOT k l h refl refl refl refl
 
-op-two : (G : Listed → Bool) (k a b n : ℕ) (p q : Text) → 19 ≤ k → k < 23 → ofListed G (build (row k a b n) p q) ≡ false
-op-two G k a b n p q l h = four (λ (k : ℕ). ofListed G (build (row k a b n) p q) ≡ false) 19 k l h refl refl refl refl
+op-two : (G : Listed → Bool) (k a b n : ℕ) (p q : Text) → OR ≤ k → k < BRACKET → ofListed G (build (row k a b n) p q) ≡ false
+op-two G k a b n p q l h = four (λ (k : ℕ). ofListed G (build (row k a b n) p q) ≡ false) OR k l h refl refl refl refl
 
 or-true : (a b : Bool) → a ≡ true → (a || b) ≡ true
 or-true a b e = ap (λ (x : Bool). x || b) e
@@ -78,16 +73,16 @@ module _ (table : List ℕ) (count : ℕ) (rec : List ℕ) (falling : Falling ta
   self : treeAt table n ≡ build (rowAt table n) (treeAt table (rowAt table n .first)) (treeAt table (rowAt table n .second))
   self = tree-step table count falling n inn
 
-  pub asks-leaf : line .kind < 15 → (x : Bool) → x ≡ ofListed (asksTooMany (coded rec)) (leafOf line) → x ≡ refused9 (coded rec) (treeAt table n)
+  pub asks-leaf : line .kind < NOT → (x : Bool) → x ≡ ofListed (asksTooMany (coded rec)) (leafOf line) → x ≡ refused9 (coded rec) (treeAt table n)
   unfolding refused9
   asks-leaf h x e =
-      let h′ : rowAt table n .kind < 15 = subst (λ (j : ℕ). j < 15) kind-is h in
+      let h′ : rowAt table n .kind < NOT = subst (λ (j : ℕ). j < NOT) kind-is h in
       let t : treeAt table n ≡ leafOf (rowAt table n) = self ∙ build-leaf (rowAt table n) (treeAt table (rowAt table n .first)) (treeAt table (rowAt table n .second)) h′ in
       e ∙ ap (λ (y : Row). G (leafOf y)) is-line ∙ sym (here-leaf G table count falling n inn h′ ∙ ap G t)
 
-  module _ (a : ℕ) (is-a : a ≡ line .first) (l : 15 ≤ line .kind) (x : Bool) (ex : x ≡ refused9 (coded rec) (treeAt table a)) where
-    l′ : 15 ≤ rowAt table n .kind
-    l′ = subst (λ (j : ℕ). 15 ≤ j) kind-is l
+  module _ (a : ℕ) (is-a : a ≡ line .first) (l : NOT ≤ line .kind) (x : Bool) (ex : x ≡ refused9 (coded rec) (treeAt table a)) where
+    l′ : NOT ≤ rowAt table n .kind
+    l′ = subst (λ (j : ℕ). NOT ≤ j) kind-is l
 
     child : x ≡ refused9 (coded rec) (treeAt table (rowAt table n .first))
     child = ex ∙ ap (λ (m : ℕ). refused9 (coded rec) (treeAt table m)) (is-a ∙ ap (λ (y : Row). y .first) is-line)
@@ -96,14 +91,14 @@ module _ (table : List ℕ) (count : ℕ) (rec : List ℕ) (falling : Falling ta
     asks-first-falls = subst (λ (m : ℕ). m < n) (sym (is-a ∙ ap (λ (y : Row). y .first) is-line)) (falls-first table count falling n inn l′)
 
     -- the node asks what its children ask
-    of-one : rowAt table n .kind < 19 → refused9 (coded rec) (treeAt table n) ≡ x
+    of-one : rowAt table n .kind < OR → refused9 (coded rec) (treeAt table n) ≡ x
     unfolding refused9
     of-one h =
         here-one G table count falling n inn l′ h
         ∙ ap (λ (b : Bool). b || someNode G (treeAt table (rowAt table n .first))) (ap G self ∙ op-one (asksTooMany (coded rec)) (rowAt table n .kind) (rowAt table n .first) (rowAt table n .second) (rowAt table n .number) (treeAt table (rowAt table n .first)) (treeAt table (rowAt table n .second)) l′ h)
         ∙ sym child
 
-    of-two : 19 ≤ rowAt table n .kind → refused9 (coded rec) (treeAt table n) ≡ (x || refused9 (coded rec) (treeAt table (rowAt table n .second)))
+    of-two : OR ≤ rowAt table n .kind → refused9 (coded rec) (treeAt table n) ≡ (x || refused9 (coded rec) (treeAt table (rowAt table n .second)))
     unfolding refused9
     of-two h =
         here-two G table count falling n inn h
@@ -111,18 +106,18 @@ module _ (table : List ℕ) (count : ℕ) (rec : List ℕ) (falling : Falling ta
         ∙ ap (λ (b : Bool). b || someNode G (treeAt table (rowAt table n .second))) (sym child)
 
     pub asks-first : x ≡ true → true ≡ refused9 (coded rec) (treeAt table n)
-    asks-first e = by (decLt (rowAt table n .kind) 19)
+    asks-first e = by (decLt (rowAt table n .kind) OR)
       where
-        by : Dec (rowAt table n .kind < 19) → true ≡ refused9 (coded rec) (treeAt table n)
+        by : Dec (rowAt table n .kind < OR) → true ≡ refused9 (coded rec) (treeAt table n)
         by (yes h) = sym (of-one h ∙ e)
         by (no h) = sym (of-two (omega arith) ∙ or-true x _ e)
 
-    pub asks-one : line .kind < 19 → x ≡ false → false ≡ refused9 (coded rec) (treeAt table n)
-    asks-one h e = sym (of-one (subst (λ (j : ℕ). j < 19) kind-is h) ∙ e)
+    pub asks-one : line .kind < OR → x ≡ false → false ≡ refused9 (coded rec) (treeAt table n)
+    asks-one h e = sym (of-one (subst (λ (j : ℕ). j < OR) kind-is h) ∙ e)
 
-    module _ (h : 19 ≤ line .kind) (d : ℕ) (is-d : d ≡ line .second) where
-      h′ : 19 ≤ rowAt table n .kind
-      h′ = subst (λ (j : ℕ). 19 ≤ j) kind-is h
+    module _ (h : OR ≤ line .kind) (d : ℕ) (is-d : d ≡ line .second) where
+      h′ : OR ≤ rowAt table n .kind
+      h′ = subst (λ (j : ℕ). OR ≤ j) kind-is h
 
       pub asks-second-falls : d < n
       asks-second-falls = subst (λ (m : ℕ). m < n) (sym (is-d ∙ ap (λ (y : Row). y .second) is-line)) (falls-second table count falling n inn h′)

@@ -12,7 +12,7 @@ use Rattle.recording.specs.Recording.{Accepted, readings, noRecord}
 use Rattle.grammar.specs.Syntax.{Text}
 use Rattle.grammar.specs.Grammar.{ReadsWhole}
 use Rattle.grammar.specs.Size.{nodes, mostNodes, tooDeep}
-use Rattle.grammar.specs.inner.Parse.{Reading, one, none, reading}
+use Rattle.grammar.specs.inner.Parse.{Parsed, one, none, parsed}
 use Rattle.text.specs.Told.{noReading, nodesOf, tooLarge}
 use Rattle.grammar.specs.laws.Unique.{reading-is, reading-none}
 use Rattle.meaning.specs.inner.Coded.{code, coded}
@@ -28,10 +28,10 @@ use Rattle.question.specs.inner.Lines.{LinesMean}
 
 module _ (text : List ℕ) where
   -- a text that 6 does not refuse reads as what was read
-  pub read-reads : noReading (reading text) ≡ false → ReadsWhole text (read text)
-  read-reads h = by (reading text) refl h
+  pub read-reads : noReading (parsed text) ≡ false → ReadsWhole text (read text)
+  read-reads h = by (parsed text) refl h
     where
-      by : (r : Reading) → reading text ≡ r → noReading r ≡ false → ReadsWhole text (read text)
+      by : (r : Parsed) → parsed text ≡ r → noReading r ≡ false → ReadsWhole text (read text)
       by (one t) e h = subst (ReadsWhole text) (sym (ap theText e)) (reading-is text t .0 e)
       by none e h = absurd (true≢false h)
 
@@ -39,25 +39,25 @@ module _ (text : List ℕ) where
   pub reads-read : (t : Text) → ReadsWhole text t → read text ≡ t
   reads-read t r = ap theText (reading-is text t .1 r)
 
-  six-means : So (noReading (reading text)) ↔ ((t : Text) → ReadsWhole text t → ⊥)
-  six-means = (λ h. reading-none text .0 (is-none (reading text) h), λ n. ap noReading (reading-none text .1 n))
+  six-means : So (noReading (parsed text)) ↔ ((t : Text) → ReadsWhole text t → ⊥)
+  six-means = (λ h. reading-none text .0 (is-none (parsed text) h), λ n. ap noReading (reading-none text .1 n))
     where
-      is-none : (r : Reading) → So (noReading r) → r ≡ none
+      is-none : (r : Parsed) → So (noReading r) → r ≡ none
       is-none (one t) h = absurd (false≢true h)
       is-none none h = refl
 
   seven-means : (t : Text) → ReadsWhole text t → So (tooLarge text) ↔ ((mostNodes < nodes t) ⊎ So (tooDeep text))
-  seven-means t r = (λ h. to (ltb mostNodes (nodesOf (reading text))) refl h, λ h. ⊎-elim many (deep (ltb mostNodes (nodesOf (reading text)))) h)
+  seven-means t r = (λ h. to (ltb mostNodes (nodesOf (parsed text))) refl h, λ h. ⊎-elim many (deep (ltb mostNodes (nodesOf (parsed text)))) h)
     where
-      counted-nodes : nodesOf (reading text) ≡ nodes t
+      counted-nodes : nodesOf (parsed text) ≡ nodes t
       counted-nodes = ap nodesOf (reading-is text t .1 r)
 
-      to : (b : Bool) → ltb mostNodes (nodesOf (reading text)) ≡ b → So (b || tooDeep text) → (mostNodes < nodes t) ⊎ So (tooDeep text)
-      to true e h = inl (omega (arith, ltb-true mostNodes (nodesOf (reading text)) e, counted-nodes))
+      to : (b : Bool) → ltb mostNodes (nodesOf (parsed text)) ≡ b → So (b || tooDeep text) → (mostNodes < nodes t) ⊎ So (tooDeep text)
+      to true e h = inl (omega (arith, ltb-true mostNodes (nodesOf (parsed text)) e, counted-nodes))
       to false e h = inr h
 
       many : mostNodes < nodes t → So (tooLarge text)
-      many h = ap (λ (b : Bool). b || tooDeep text) (lt-ltb mostNodes (nodesOf (reading text)) (omega (arith, counted-nodes)))
+      many h = ap (λ (b : Bool). b || tooDeep text) (lt-ltb mostNodes (nodesOf (parsed text)) (omega (arith, counted-nodes)))
 
       deep : (b : Bool) → So (tooDeep text) → So (b || tooDeep text)
       deep true h = refl

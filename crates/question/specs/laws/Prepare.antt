@@ -16,7 +16,7 @@ use Rattle.recording.specs.laws.Outcome.{judged-pass, judged-skip, judged-first
 use Rattle.recording.specs.Output.{found}
 use Rattle.recording.specs.declared.Checked.{Checked}
 use Rattle.recording.specs.declared.Checked.the-variants as checked
-use Rattle.grammar.specs.inner.Parse.{reading}
+use Rattle.grammar.specs.inner.Parse.{parsed}
 use Rattle.text.specs.Told.{textLines, nodesOf, outcomeOf, Told, Tabled}
 use Rattle.text.specs.declared.Answer.{Answer}
 use Rattle.text.specs.declared.Answer.the-variants as answer
@@ -35,13 +35,13 @@ same-nodes : (m n : ℕ) → Nodes m ≡ Nodes n → m ≡ n
 same-nodes m n e = cc
 
 module _ (bytes text table : List ℕ) where
-  refusing : (x : Refusal) → judged (askingLines bytes text) (nodesOf (reading text)) ≡ refused (numberOf x) (placeOf x) → Prepares bytes text table (Refused x)
+  refusing : (x : Refusal) → judged (askingLines bytes text) (nodesOf (parsed text)) ≡ refused (numberOf x) (placeOf x) → Prepares bytes text table (Refused x)
   refusing x e = record { outcome = sym e; tabled = λ n q. refused-nodes x n q }
 
   -- the recording is refused
   pub prepare-refused : (c : Checked) (x : Refusal) → found c ≡ judged (recordingLines bytes) (length bytes / 16) → c ≡ checked.Refused x → Prepares bytes text table (Refused x)
   prepare-refused c x e q =
-      refusing x (refusal-stands (recordingLines bytes) (noRecord bytes ∷ textLines text) (length bytes / 16) (nodesOf (reading text)) (numberOf x) (placeOf x) (sym e ∙ ap found q))
+      refusing x (refusal-stands (recordingLines bytes) (noRecord bytes ∷ textLines text) (length bytes / 16) (nodesOf (parsed text)) (numberOf x) (placeOf x) (sym e ∙ ap found q))
 
   module _ (c : Checked) (n : ℕ) (e : found c ≡ judged (recordingLines bytes) (length bytes / 16)) (q : c ≡ checked.Records n) where
     -- the recording is accepted, and has n records
@@ -51,17 +51,17 @@ module _ (bytes text table : List ℕ) where
     count-is : length (records bytes) ≡ n
     count-is = length-records bytes ∙ accepted-is .1
 
-    pass : judged (askingLines bytes text) (nodesOf (reading text)) ≡ judged (noRecord bytes ∷ textLines text) (nodesOf (reading text))
-    pass = judged-pass (recordingLines bytes) (noRecord bytes ∷ textLines text) (nodesOf (reading text)) (accepted-is .0)
+    pass : judged (askingLines bytes text) (nodesOf (parsed text)) ≡ judged (noRecord bytes ∷ textLines text) (nodesOf (parsed text))
+    pass = judged-pass (recordingLines bytes) (noRecord bytes ∷ textLines text) (nodesOf (parsed text)) (accepted-is .0)
 
     pub prepare-empty : n ≡ 0 → Prepares bytes text table (Refused Rattle.refusal.specs.declared.Refusal.the-variants.NoRecord)
     prepare-empty z =
         refusing Rattle.refusal.specs.declared.Refusal.the-variants.NoRecord
-        (pass ∙ judged-first (noRecord bytes) (textLines text) (nodesOf (reading text)) (eq-eqb (length (records bytes)) 0 (count-is ∙ z)))
+        (pass ∙ judged-first (noRecord bytes) (textLines text) (nodesOf (parsed text)) (eq-eqb (length (records bytes)) 0 (count-is ∙ z)))
 
     module _ (some : n ≡ 0 → ⊥) (a : Answer) (told : Told text table a) where
-      past : judged (askingLines bytes text) (nodesOf (reading text)) ≡ judged (textLines text) (nodesOf (reading text))
-      past = pass ∙ judged-skip [] (noRecord bytes) (textLines text) (nodesOf (reading text)) (ne-eqb (length (records bytes)) 0 (λ z. some (sym count-is ∙ z)))
+      past : judged (askingLines bytes text) (nodesOf (parsed text)) ≡ judged (textLines text) (nodesOf (parsed text))
+      past = pass ∙ judged-skip [] (noRecord bytes) (textLines text) (nodesOf (parsed text)) (ne-eqb (length (records bytes)) 0 (λ z. some (sym count-is ∙ z)))
 
       pub prepare-unread : (x : Refusal) → a ≡ answer.Refused x → Prepares bytes text table (Refused x)
       prepare-unread x h = refusing x (past ∙ sym (told .outcome) ∙ ap outcomeOf h)

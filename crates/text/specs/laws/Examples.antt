@@ -11,12 +11,12 @@ use Rattle.grammar.specs.Syntax.{of, T, Relation, ge, le, gt, lt, eq, v, number
 use Rattle.grammar.specs.Size.{tooDeep}
 use Rattle.text.specs.Told.{textLines, nodesOf}
 use Rattle.grammar.specs.inner.Lexer.{unsignedAt, numberAt, operandAt, comparisonAt, timedAt, argumentsAt, namedAt, headedAt, leafAt}
-use Rattle.grammar.specs.inner.Parse.{Reading, one, none, parse, reading}
+use Rattle.grammar.specs.inner.Parse.{Parsed, one, none, parse, parsed}
 
 -- a text and its reading
 pub record Example : Type 0 where
   pub text : String
-  pub reads : Reading
+  pub reads : Parsed
 
 abbrev is : String → Text → Example
 is w t = record { text = w; reads = one t }
@@ -96,8 +96,8 @@ examples =
     ∷ has-none ""
     ∷ []
 
-pub examples-hold : map (λ e. reading (bytes (e .text))) examples ≡ map (λ e. e .reads) examples
-unfolding reading parse unsignedAt numberAt operandAt comparisonAt timedAt argumentsAt namedAt headedAt leafAt
+pub examples-hold : map (λ e. parsed (bytes (e .text))) examples ≡ map (λ e. e .reads) examples
+unfolding parsed parse unsignedAt numberAt operandAt comparisonAt timedAt argumentsAt namedAt headedAt leafAt
 examples-hold = refl
 
 -- a text and its outcome: the nodes, or the refusal
@@ -145,6 +145,6 @@ outcomes =
     ∷ refusal-is (nested 126 (bytes "A>v")) 7
     ∷ []
 
-pub outcomes-hold : map (λ e. judged (textLines (e .text)) (nodesOf (reading (e .text)))) outcomes ≡ map (λ e. e .outcome) outcomes
-unfolding judged tooDeep least reading parse unsignedAt numberAt operandAt comparisonAt timedAt argumentsAt namedAt headedAt leafAt
+pub outcomes-hold : map (λ e. judged (textLines (e .text)) (nodesOf (parsed (e .text)))) outcomes ≡ map (λ e. e .outcome) outcomes
+unfolding judged tooDeep least parsed parse unsignedAt numberAt operandAt comparisonAt timedAt argumentsAt namedAt headedAt leafAt
 outcomes-hold = refl

@@ -11,7 +11,7 @@ use Rattle.grammar.specs.declared.Row.{Row}
 use Rattle.grammar.specs.Syntax.{Text}
 use Rattle.grammar.specs.Size.{temporal, hasListed, nodes}
 use Rattle.grammar.specs.Classes.{within}
-use Rattle.grammar.specs.inner.Table.{some, row, leaves, unaries, binaries, build, rowAt, tree, treeAt, Falling}
+use Rattle.grammar.specs.inner.Table.{someKind, row, leafTexts, unaries, binaries, build, rowAt, tree, treeAt, Falling}
 use Rattle.grammar.specs.inner.Parse.{leafOf, node}
 use Rattle.parser.specs.inner.Rows.{Laid, leaf, unary, binary}
 
@@ -42,9 +42,9 @@ any-default (x ∷ l) (suc n) d e h = any-default l n d e (omega arith)
 
 build-leaf : (r : Row) (p q u w : Text) → r .kind < 15 → build r p q ≡ build r u w
 build-leaf r p q u w h =
-    List·getD-append (leaves r) (unaries p ++ binaries p q) p (r .kind) h
-    ∙ any-default (leaves r) (r .kind) p u h
-    ∙ sym (List·getD-append (leaves r) (unaries u ++ binaries u w) u (r .kind) h)
+    List·getD-append (leafTexts r) (unaries p ++ binaries p q) p (r .kind) h
+    ∙ any-default (leafTexts r) (r .kind) p u h
+    ∙ sym (List·getD-append (leafTexts r) (unaries u ++ binaries u w) u (r .kind) h)
 
 build-unary : (k a b n : ℕ) (p q u : Text) → 15 ≤ k → k < 19 → build (row k a b n) p q ≡ node k p u
 build-unary k a b n p q u = unary-kinds (λ j. build (row j a b n) p q ≡ node j p u) refl refl refl refl k
@@ -142,12 +142,12 @@ held-nodes (binary {p = p} {q = u} k a c h g q) =
 
 -- ---- scans over the kinds
 
-some-split : (P : ℕ → Bool) (T : List ℕ) (b m n : ℕ) → some P T b (n + m) ≡ (some P T b n || some P T (b + n) m)
-some-split P T b zero n = let z : n + 0 ≡ n = omega arith in rw z (sym (or-false (some P T b n)))
+some-split : (P : ℕ → Bool) (T : List ℕ) (b m n : ℕ) → someKind P T b (n + m) ≡ (someKind P T b n || someKind P T (b + n) m)
+some-split P T b zero n = let z : n + 0 ≡ n = omega arith in rw z (sym (or-false (someKind P T b n)))
 some-split P T b (suc m) n =
     let z : n + suc m ≡ suc (n + m) = omega arith in
     let w : b + (n + m) ≡ b + n + m = omega arith in
-    rw (z, w, some-split P T b m n) (or-assoc (some P T b n) (some P T (b + n) m) (P (rowAt T (b + n + m) .kind)))
+    rw (z, w, some-split P T b m n) (or-assoc (someKind P T b n) (someKind P T (b + n) m) (P (rowAt T (b + n + m) .kind)))
 
 -- a property of texts that goes by the kinds of the nodes
 pub record ByKind (P : ℕ → Bool) (F : Text → Bool) : Type 0 where
@@ -155,10 +155,10 @@ pub record ByKind (P : ℕ → Bool) (F : Text → Bool) : Type 0 where
   pub of-unary : (k : ℕ) (p : Text) → 15 ≤ k → k < 19 → F (node k p p) ≡ (F p || P k)
   pub of-binary : (k : ℕ) (p q : Text) → 19 ≤ k → k < 23 → F (node k p q) ≡ (F p || F q || P k)
 
-some-kind : (P : ℕ → Bool) (T : List ℕ) (b n m k : ℕ) → b + n ≡ m → rowAt T m .kind ≡ k → some P T b (n + 1) ≡ (some P T b n || P k)
+some-kind : (P : ℕ → Bool) (T : List ℕ) (b n m k : ℕ) → b + n ≡ m → rowAt T m .kind ≡ k → someKind P T b (n + 1) ≡ (someKind P T b n || P k)
 some-kind P T b n m k e q = let z : n + 1 ≡ suc n = omega arith in rw (z, e, q)
 
-pub held-some : (P : ℕ → Bool) (F : Text → Bool) → ByKind P F → {T : List ℕ} {b m : ℕ} {t : Text} → Laid T b m t → F t ≡ some P T b (nodes t)
+pub held-some : (P : ℕ → Bool) (F : Text → Bool) → ByKind P F → {T : List ℕ} {b m : ℕ} {t : Text} → Laid T b m t → F t ≡ someKind P T b (nodes t)
 held-some P F h {T} (leaf {b} {t} k q) =
     let x : nodes t ≡ 1 = ap nodes (sym q) ∙ leaf-nodes (rowAt T b) k in
     let z : b + 0 ≡ b = omega arith in
@@ -167,17 +167,17 @@ held-some P F h {T} (unary {b} {m} {p} k a c g q) =
     let x = held-nodes g in
     let y = unary-kinds (λ j. nodes (node j p p) ≡ nodes p + 1) refl refl refl refl k a c in
     let z = held-some P F h g in
-    h .of-unary k p a c ∙ ap (λ w. w || P k) z ∙ sym (ap (some P T b) y ∙ some-kind P T b (nodes p) m k (sym x) (ap (λ (r : Row). r .kind) q))
+    h .of-unary k p a c ∙ ap (λ w. w || P k) z ∙ sym (ap (someKind P T b) y ∙ some-kind P T b (nodes p) m k (sym x) (ap (λ (r : Row). r .kind) q))
 held-some P F h {T} (binary {b} {m} {n} {p} {q = u} k a c g i q) =
     let x = held-nodes g in
     let w = held-nodes i in
     let y = binary-kinds (λ j. nodes (node j p u) ≡ nodes p + nodes u + 1) refl refl refl refl k a c in
     let z = held-some P F h g in
     let v = held-some P F h i in
-    let o : some P T b (nodes p + nodes u) ≡ (F p || F u) = some-split P T b (nodes u) (nodes p) ∙ rw (← x) (ap₂ _||_ (sym z) (sym v)) in
+    let o : someKind P T b (nodes p + nodes u) ≡ (F p || F u) = some-split P T b (nodes u) (nodes p) ∙ rw (← x) (ap₂ _||_ (sym z) (sym v)) in
     h .of-binary k p u a c
     ∙ ap (λ w. w || P k) (sym o)
-    ∙ sym (ap (some P T b) y ∙ some-kind P T b (nodes p + nodes u) n k (omega arith) (ap (λ (r : Row). r .kind) q))
+    ∙ sym (ap (someKind P T b) y ∙ some-kind P T b (nodes p + nodes u) n k (omega arith) (ap (λ (r : Row). r .kind) q))
 
 -- a listed name is a kind from 5 to 14; F, G and X are 16 to 18, U and W 21 and 22
 abbrev pub listedKind : ℕ → Bool
@@ -213,11 +213,11 @@ temporal-by-kind =
     }
 
 -- a scan for either of two kinds of kinds
-pub some-either : (P Q : ℕ → Bool) (T : List ℕ) (b n : ℕ) → some (λ k. P k || Q k) T b n ≡ (some P T b n || some Q T b n)
+pub some-either : (P Q : ℕ → Bool) (T : List ℕ) (b n : ℕ) → someKind (λ k. P k || Q k) T b n ≡ (someKind P T b n || someKind Q T b n)
 some-either P Q T b zero = refl
-some-either P Q T b (suc n) = go (some P T b n) (some Q T b n) (P (rowAt T (b + n) .kind)) (Q (rowAt T (b + n) .kind)) (some-either P Q T b n)
+some-either P Q T b (suc n) = go (someKind P T b n) (someKind Q T b n) (P (rowAt T (b + n) .kind)) (Q (rowAt T (b + n) .kind)) (some-either P Q T b n)
   where
-    go : (x y p q : Bool) → some (λ k. P k || Q k) T b n ≡ (x || y) → (some (λ k. P k || Q k) T b n || (p || q)) ≡ ((x || p) || (y || q))
+    go : (x y p q : Bool) → someKind (λ k. P k || Q k) T b n ≡ (x || y) → (someKind (λ k. P k || Q k) T b n || (p || q)) ≡ ((x || p) || (y || q))
     go true y p q e = rw e refl
     go false true p q e = rw e (sym (or-true p))
     go false false p q e = rw e refl

@@ -13,7 +13,7 @@ use Rattle.grammar.specs.Syntax.{Text}
 use Rattle.grammar.specs.Size.{nodes, mostNodes, tooDeep}
 use Rattle.grammar.specs.Grammar.{ReadsWhole}
 use Rattle.grammar.specs.inner.Table.{treeAt}
-use Rattle.grammar.specs.inner.Parse.{Reading, one, none, reading}
+use Rattle.grammar.specs.inner.Parse.{Parsed, one, none, parsed}
 use Rattle.grammar.specs.laws.Unique.{reading-is}
 use Rattle.text.specs.laws.Table.{above, held-nodes}
 use Rattle.text.specs.Told.{textLines, nodesOf, outcomeOf, Tabled, Told}
@@ -34,7 +34,7 @@ or-left false b e = refl
 
 module _ (s table : List ℕ) (n : ℕ) (h : Told s table (Nodes n)) where
   pub none-meets : NoneMeets (textLines s)
-  none-meets = judged-result (textLines s) (nodesOf (reading s)) n (h .outcome)
+  none-meets = judged-result (textLines s) (nodesOf (parsed s)) n (h .outcome)
 
   pub count : n ≡ nodes (treeAt table (n - 1))
   count = let x = held-nodes (h .tabled n refl .rows) in omega arith
@@ -46,7 +46,7 @@ module _ (s table : List ℕ) (n : ℕ) (h : Told s table (Nodes n)) where
   few =
       let x = ap nodesOf (h .tabled n refl .reads) in
       let y = count in
-      let z = ltb-false mostNodes (nodesOf (reading s)) (or-left (ltb mostNodes (nodesOf (reading s))) (tooDeep s) (none-meets .1 .1 .0)) in
+      let z = ltb-false mostNodes (nodesOf (parsed s)) (or-left (ltb mostNodes (nodesOf (parsed s))) (tooDeep s) (none-meets .1 .1 .0)) in
       omega arith
 
   pub reads-whole : ReadsWhole s (treeAt table (n - 1))

@@ -7,7 +7,7 @@ use borrow.Author.Needs.{needs}
 use Rattle.refusal.specs.Outcome.{refused}
 use Rattle.refusal.specs.Numbers.{numberOf, placeOf}
 use Rattle.refusal.specs.declared.Refusal.{Refusal}
-use Rattle.grammar.specs.inner.Parse.{reading}
+use Rattle.grammar.specs.inner.Parse.{parsed}
 use Rattle.text.specs.Told.{textLines, nodesOf, outcomeOf, Told}
 use Rattle.text.specs.declared.Answer.{Answer}
 use Rattle.text.specs.declared.Answer.the-variants.{Nodes, Refused}
@@ -26,7 +26,7 @@ module _ (s table : List ℕ) (a : Answer) (t : Told s table a) where
 
   place-fits : (x : Refusal) → a ≡ Refused x → placeOf x < half
   place-fits x e =
-      let z = plain-place (textLines s) (nodesOf (reading s)) (numberOf x) (placeOf x) (refl, (refl, (refl, tt))) (sym (t .outcome) ∙ ap outcomeOf e) in
+      let z = plain-place (textLines s) (nodesOf (parsed s)) (numberOf x) (placeOf x) (refl, (refl, (refl, tt))) (sym (t .outcome) ∙ ap outcomeOf e) in
       omega arith
 
 slice-aggregate-read : tie.Need-slice-aggregate-read

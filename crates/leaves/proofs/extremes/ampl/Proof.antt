@@ -4,7 +4,6 @@ use Prim.Native.Nat.{ℕ, _+_, _-_, _≤_, _<_}
 use native.Mathlib.Omega.{arith}
 use lib.ListN.{length-map}
 use Rattle.recording.specs.Recording.{readings}
-use Rattle.tops.specs.Tops.{curveOf}
 use Rattle.meaning.specs.inner.Coded.{code}
 use Rattle.meaning.specs.inner.Coded.{coded}
 use Rattle.leaves.specs.laws.Span.{spans-ext}
@@ -22,6 +21,7 @@ use Rattle.leaves.specs.laws.Coding.{at-index, ValueIndex, value-range}
 use Rattle.leaves.specs.laws.Extreme.{spread-order, spread-small, ampl-upto}
 use Rattle.leaves.proofs.extremes.ampl.Statement.{statement}
 use Rattle.leaves.proofs.extremes.ampl.Tie as tie
+use Rattle.recording.specs.Reading.{curveOf}
 
 module _ (rec : List ℕ) (a : Accepted rec) (index : 0 < length (coded rec)) (curve : ℕ) (l : curve < 2) (bottom top : ℕ)
     (e : Extreme false (curveOf curve) 0 (coded rec) bottom) (f : Extreme true (curveOf curve) 0 (coded rec) top) where

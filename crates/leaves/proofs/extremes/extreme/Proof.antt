@@ -3,7 +3,6 @@ use mathlib.Core.Path.{sym, subst}
 use Prim.Native.Nat.{_-_, _≤_, _<_}
 use native.Mathlib.Omega.{arith}
 use lib.ListN.{length, take}
-use Rattle.tops.specs.Tops.{curveOf}
 use Rattle.meaning.specs.inner.Coded.{coded}
 use Rattle.leaves.specs.laws.Coding.{length-coded}
 use Rattle.leaves.specs.inner.Extreme.{Extreme}
@@ -11,6 +10,7 @@ use Rattle.leaves.specs.laws.Extreme.{extreme-start, extreme-turn, extre
 use borrow.Author.Needs.{needs}
 use Rattle.leaves.proofs.extremes.extreme.Statement.{statement}
 use Rattle.leaves.proofs.extremes.extreme.Tie as tie
+use Rattle.recording.specs.Reading.{curveOf}
 
 abbrev Inv-loop : tie.InvT-loop
 Inv-loop rec curve after up n m₀ i₀ m i = (i ≤ length (coded rec)) × Extreme up (curveOf curve) after (take i (coded rec)) m

@@ -3,12 +3,12 @@ use mathlib.Core.Path.{refl}
 use native.Mathlib.Omega.{arith}
 use lib.ListN.{length-map}
 use Rattle.recording.specs.Recording.{readings}
-use Rattle.tops.specs.Tops.{curveOf}
 use Rattle.meaning.specs.inner.Coded.{code}
 use Rattle.leaves.specs.laws.Span.{spans-ext}
 use Rattle.leaves.specs.laws.Extreme.{high-upto}
 use Rattle.leaves.proofs.extremes.high.Statement.{statement}
 use Rattle.leaves.proofs.extremes.high.Tie as tie
+use Rattle.recording.specs.Reading.{curveOf}
 
 extreme-requires : tie.Need-extreme-requires
 extreme-requires c κs = let s = c .before in (s .pre .0, s .pre .2)

@@ -4,13 +4,13 @@ use Prim.Native.Nat.{ℕ, _<_}
 use native.Mathlib.Omega.{arith}
 use Rattle.number.specs.Axis.{axis}
 use Rattle.meaning.specs.inner.Truth.{codedAt}
-use Rattle.tops.specs.Tops.{curveOf}
 use Rattle.meaning.specs.inner.Coded.{coded}
 use Rattle.leaves.specs.inner.Extreme.{farther}
 use Rattle.leaves.specs.laws.Extreme.{pass-over, pass-by}
 use borrow.Author.Needs.{needs}
 use Rattle.leaves.proofs.extremes.pass.Statement.{statement}
 use Rattle.leaves.proofs.extremes.pass.Tie as tie
+use Rattle.recording.specs.Reading.{curveOf}
 
 time-at-requires : tie.Need-time-at-requires
 time-at-requires c κs = let s = c .before in (s .pre .0, s .pre .1)

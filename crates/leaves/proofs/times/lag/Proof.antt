@@ -4,13 +4,13 @@ use Prim.Native.Nat.{ℕ}
 use native.Mathlib.Omega.{arith}
 use mathlib.Core.List.{List}
 use lib.Seq.{length-take-le}
-use Rattle.tops.specs.Tops.{curveOf}
 use Rattle.meaning.specs.inner.Truth.{truth}
 use Rattle.differences.specs.inner.Cuts.{Collects}
 use Rattle.differences.specs.inner.Times.{Times, lagsOf}
 use Rattle.leaves.specs.laws.Stamp.{top-times}
 use Rattle.leaves.proofs.times.lag.Statement.{statement}
 use Rattle.leaves.proofs.times.lag.Tie as tie
+use Rattle.recording.specs.Reading.{curveOf}
 
 slice-aggregate-top-stamps : tie.Need-slice-aggregate-top-stamps
 slice-aggregate-top-stamps c = refl

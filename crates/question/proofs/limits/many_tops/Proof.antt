@@ -2,11 +2,11 @@
 use mathlib.Core.Path.{ap, sym, _∙_}
 use native.Mathlib.Omega.{arith}
 use lib.Dec.{ltb}
-use Rattle.tops.specs.Tops.{curveOf}
 use Rattle.question.specs.laws.Limit.{tops-count}
 use borrow.Author.Needs.{needs}
 use Rattle.question.proofs.limits.many_tops.Statement.{statement}
 use Rattle.question.proofs.limits.many_tops.Tie as tie
+use Rattle.recording.specs.Reading.{curveOf}
 
 slice-aggregate-top-times : tie.Need-slice-aggregate-top-times
 slice-aggregate-top-times c = search needs

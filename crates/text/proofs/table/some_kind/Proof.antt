@@ -4,13 +4,13 @@ use mathlib.Core.Bool.{false}
 use Prim.Native.Nat.{_-_, _≤_}
 use borrow.Author.Needs.{needs}
 use Rattle.grammar.specs.Classes.{within}
-use Rattle.grammar.specs.inner.Table.{some}
+use Rattle.grammar.specs.inner.Table.{someKind}
 use Rattle.text.proofs.TableLaws.{some-here, some-next, some-end}
 use Rattle.text.proofs.table.some_kind.Statement.{statement}
 use Rattle.text.proofs.table.some_kind.Tie as tie
 
 abbrev Inv-loop : tie.InvT-loop
-Inv-loop table n low high i₀ i = (i ≤ n) × (some (within low high) table 0 i ≡ false)
+Inv-loop table n low high i₀ i = (i ≤ n) × (someKind (within low high) table 0 i ≡ false)
 
 abbrev μ-loop : tie.MeasureT-loop
 μ-loop table n low high i₀ i = n - i
