@@ -1,3 +1,4 @@
+pub mod Axis
 pub mod Boolean
 pub mod Order
 pub mod Words

@@ -8,6 +8,7 @@ use mathlib.Core.Logic.{_↔_}
 use mathlib.Core.List.{List, [], _∷_, map, List·Memᴰ}
 use lib.IntN.{ℤ}
 use lib.ListN.{length, take, drop}
+use Rattle.number.specs.Axis.{whole, OfAxis}
 use Rattle.refusal.specs.Outcome.{result}
 use Rattle.refusal.specs.Numbers.{numberOf, placeOf}
 use Rattle.refusal.specs.declared.Refusal.{Refusal}
@@ -21,7 +22,6 @@ use Rattle.grammar.specs.Size.{afterTimes}
 use Rattle.meaning.specs.Meaning.{Holds}
 use Rattle.meaning.specs.Overfull.{IsSet}
 use Rattle.meaning.specs.Alike.{markIndex}
-use Rattle.meaning.specs.inner.Coded.{index}
 use Rattle.degree.specs.Degree.{Value}
 use Rattle.degree.specs.Nearest.{Near}
 use Rattle.marks.specs.Marks.{marksOf, marksLine, AcceptedMarks}
@@ -31,7 +31,7 @@ use Rattle.thin.specs.Cut.{wholeFrom, CutBetween, LongEnough, allWritten}
 use Rattle.reply.specs.Reply.{half, numberIn, lowIn}
 use Rattle.mill.specs.Boundary.{QuestionCall, DegreeCall, PairCall, ThinCall, Degrees}
 use Rattle.promises.specs.CallsMade.{Returned, readOff, CallsMade, heldAt, takenFrom}
-use Rattle.promises.specs.Table.{Request, question, degree, pair, thin, OfAxis, order, acceptedOrder, NoneMet, FirstMet}
+use Rattle.promises.specs.Table.{Request, question, degree, pair, thin, order, acceptedOrder, NoneMet, FirstMet}
 
 -- ---- DEMAND 1
 
@@ -78,13 +78,13 @@ pub record SetWritten (recording text out : List ℕ) (r : ℕ) (after : List �
   pub set : Fixed recording text (take (lowIn r) after)
   pub behind : drop (lowIn r) after ≡ drop (lowIn r) out
 
--- DEMAND 2, of what the question call wrote, and of what the degree call told (`Near`: by the same reading)
+-- DEMAND 2, of what the question call wrote, and of what the degree call told (`Near`: by the same reading, of the target as the number at index v of the axis)
 pub record Demand2 : Type 0 where
   pub set-written : {recording text out : List ℕ} {r : ℕ} {after : List ℕ} → QuestionCall recording text out r after → numberIn r ≡ 0
       → SetWritten recording text out r after
   pub degree-told : {recording text : List ℕ} (target : ℤ) {distance value r distance-after value-after : ℕ}
       → DegreeCall recording text target distance value r distance-after value-after → numberIn r ≡ 0
-      → (x : Value) × Near recording text (index target) x × Degrees (result x) distance value r distance-after value-after
+      → (v : ℕ) × (x : Value) × (whole v ≡ target) × Near recording text v x × Degrees (result x) distance value r distance-after value-after
 
 -- ---- DEMAND 3
 

@@ -4,9 +4,9 @@ use mathlib.Core.Path.{_≡_}
 use mathlib.Core.Bool.{Bool, true, false}
 use mathlib.Core.Logic.{_⊎_}
 use mathlib.Core.List.{List, [], _∷_, List·Memᴰ}
-use lib.IntN.{ℤ, pos, negsuc}
+use lib.IntN.{ℤ}
 use lib.ListN.{length}
-use lib.Signed.{_≤ℤ_}
+use Rattle.number.specs.Axis.{OfAxis}
 use Rattle.refusal.specs.Numbers.{numberOf, placeOf}
 use Rattle.refusal.specs.declared.Refusal.{Refusal}
 use Rattle.refusal.specs.declared.Refusal.the-variants.{PartialRecord, TooManyRecords, BadRecord, NoRecord, TextLength, NoReading, TextTooLarge, TooManyRuns, TooManyTops, ShortOutput, BadMarks, BadTarget}
@@ -41,10 +41,6 @@ textIn (question r t n) = t
 textIn (degree r t g) = t
 textIn (pair r c g) = []
 textIn (thin r m n) = []
-
--- a whole number from minus to plus two thousand million
-abbrev pub OfAxis : ℤ → Type 0
-OfAxis z = (negsuc 1999999999 ≤ℤ z) × (z ≤ℤ pos 2000000000)
 
 -- record i is the first out of its rules
 pub record FirstBroken (xs : List Raw) (i : ℕ) : Type 0 where

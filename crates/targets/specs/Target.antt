@@ -1,19 +1,12 @@
 -- Document 01, refusal 12: a target on the axis and one off it.
-use Prim.Native.Nat.{_-_, _<_}
+use Prim.Native.Nat.{_<_}
 use mathlib.Core.Path.{_≡_}
 use mathlib.Core.Bool.{Bool, true, false, _||_}
 use lib.IntN.{ℤ}
 use lib.Signed.{ltZ}
-use Rattle.number.specs.Axis.{axis, whole}
+use Rattle.number.specs.Axis.{axis, whole, lowest, highest}
 use Rattle.targets.specs.declared.OnAxis.{OnAxis}
 use Rattle.targets.specs.declared.OnAxis.the-variants.{Index, Off}
-
--- the ends of the axis, −2,000,000,000 and 2,000,000,000
-abbrev pub lowest : ℤ
-lowest = whole 0
-
-abbrev pub highest : ℤ
-highest = whole (axis - 1)
 
 -- a whole number is off the axis
 abbrev pub offAxis : ℤ → Bool

@@ -11,7 +11,7 @@ use lib.IntN.{ℤ, pos, negsuc}
 use lib.ListN.{length}
 use lib.Signed.{_≤ℤ_, leZ-yes}
 use borrow.Author.Tests.{eqb-true, eqb-false, eq-eqb, ltb-true, ltb-false, lt-ltb, le-ltb, not-true, not-false}
-use Rattle.number.specs.Axis.{axis, whole}
+use Rattle.number.specs.Axis.{axis, whole, OfAxis}
 use Rattle.number.specs.Least.{least}
 use Rattle.number.specs.laws.Least.{least-holds, least-first}
 use Rattle.number.specs.laws.Order.{less-or-not}
@@ -30,7 +30,7 @@ use Rattle.grammar.specs.inner.Parse.{parsed}
 use Rattle.grammar.specs.Size.{nodes, openAt, tooDeep, mostBytes, mostNodes, mostOpen}
 use Rattle.text.specs.Told.{badLength, noReading, tooLarge, textLines}
 use Rattle.meaning.specs.Alike.{Same}
-use Rattle.number.specs.laws.Boolean.{same, or-left, or-right, or-none, none-left, none-right, so-or}
+use Rattle.number.specs.laws.Boolean.{clash, same, or-left, or-right, or-none, none-left, none-right, so-or}
 use Rattle.meaning.specs.inner.Coded.{coded}
 use Rattle.meaning.specs.Meaning.{Holds}
 use Rattle.meaning.specs.Overfull.{IsSet, Overfull, TooManyTops as OverTops}
@@ -44,7 +44,7 @@ use Rattle.degree.specs.Degree.{targetLine}
 use Rattle.pair.specs.Pair.{pairLines, acceptedLines}
 use Rattle.thin.specs.Thin.{keptBytes}
 use Rattle.marks.specs.Marks.{marksOf, mostMarks, latestMark, marksLine}
-use Rattle.promises.specs.Table.{Request, question, degree, pair, thin, recordingIn, textIn, OfAxis, OpenTooDeep, acceptedOrder, order}
+use Rattle.promises.specs.Table.{Request, question, degree, pair, thin, recordingIn, textIn, OpenTooDeep, acceptedOrder, order}
 use Rattle.promises.specs.laws.Table.{Agrees, Agree, agree-recording}
 
 -- ---- tests
@@ -54,9 +54,6 @@ or-true a b = so-or a b .0
 
 both-off : (a b : Bool) → (a || b) ≡ false → (a ≡ false) × (b ≡ false)
 both-off a b e = (none-left a b e, none-right a b e)
-
-clash : {b : Bool} {C : Type 0} → b ≡ true → b ≡ false → C
-clash t f = absurd (true≢false (sym t ∙ f))
 
 -- ---- 5, 6 and 7: the text
 
@@ -76,7 +73,7 @@ deep-open text = (to, from)
     from o =
         let here = o .1 in
         ⊎-elim (λ l. lt-ltb _ (length text) l)
-        (λ l. clash (lt-ltb mostOpen (openAt text (o .0)) (o .2)) (least-first (λ i. ltb mostOpen (openAt text i)) (length text) (o .0) (omega arith)))
+        (λ l. absurd (clash (lt-ltb mostOpen (openAt text (o .0)) (o .2)) (least-first (λ i. ltb mostOpen (openAt text i)) (length text) (o .0) (omega arith))))
         (less-or-not (least (λ i. ltb mostOpen (openAt text i)) (length text)) (length text))
 
 module _ (q : Request) (bytes : List ℕ) (mean : LinesMean bytes (textIn q)) where

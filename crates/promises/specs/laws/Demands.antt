@@ -11,7 +11,7 @@ use lib.ListN.{length, take, drop}
 use lib.Signed.{_≤ℤ_}
 use lib.Seq.{take-append-seam, drop-append-seam}
 use borrow.Author.Tests.{eqb-true, eq-eqb, ne-eqb}
-use Rattle.number.specs.Axis.{axis, origin, whole}
+use Rattle.number.specs.Axis.{axis, origin, whole, OfAxis}
 use Rattle.number.specs.Least.{least}
 use Rattle.refusal.specs.Outcome.{Outcome, result, refused, Line, judged, NoneMeets}
 use Rattle.refusal.specs.Numbers.{numberOf, placeOf}
@@ -49,7 +49,7 @@ use Rattle.reply.specs.Reply.{half, packed, InHalf, numberIn, lowIn, unpacked}
 use Rattle.reply.specs.laws.Unpacked.{Numbered, number-result, low-result, number-refused, low-refused, unpacked-packed}
 use Rattle.mill.specs.Boundary.{Writes, Degrees, QuestionCall, DegreeCall, PairCall, ThinCall, valueTold, distanceAfter, degreeAfter, pairTold, earlierAfter, laterAfter}
 use Rattle.mill.specs.laws.Boundary.{thin-in-half, question-in-half, degree-place, pair-place}
-use Rattle.promises.specs.Table.{Request, question, degree, pair, thin, OfAxis, order, acceptedOrder, NoneMet, FirstMet}
+use Rattle.promises.specs.Table.{Request, question, degree, pair, thin, order, acceptedOrder, NoneMet, FirstMet}
 use Rattle.promises.specs.laws.Table.{number-bounds, Agree, AsTable, met-there, judged-told}
 use Rattle.promises.specs.laws.CallLines.{InPlace, in-its-place, answer-is, agree-asked, agree-question, agree-degree, agree-pair, agree-marks, agree-thin}
 use Rattle.promises.specs.laws.Operator.{unwritten-flat}
@@ -244,12 +244,14 @@ written-set recording text out r after w z =
     own recording text written e = in-its-place recording text (answered-accepted recording text (length out) written e)
 
 degree-meant : (recording text : List ℕ) (target : ℤ) (distance value r first second : ℕ) → DegreeCall recording text target distance value r first second → numberIn r ≡ 0
-    → (x : Value) × Near recording text (index target) x × Degrees (result x) distance value r first second
+    → (v : ℕ) × (x : Value) × (whole v ≡ target) × Near recording text v x × Degrees (result x) distance value r first second
 degree-meant recording text target distance value r first second d z = go (nearnessOf recording text target) refl
   where
-    go : (o : Outcome Value) → nearnessOf recording text target ≡ o → (x : Value) × Near recording text (index target) x × Degrees (result x) distance value r first second
+    go : (o : Outcome Value) → nearnessOf recording text target ≡ o
+        → (v : ℕ) × (x : Value) × (whole v ≡ target) × Near recording text v x × Degrees (result x) distance value r first second
     go (result x) e =
-        (x, nearness-says recording text target x e .2, subst (λ (o : Outcome Value). Degrees o distance value r first second) e d)
+        let n = nearness-says recording text target x e in
+        (index target, x, n .1, n .2, subst (λ (o : Outcome Value). Degrees o distance value r first second) e d)
     go (refused n p) e =
         let q : Request = degree recording text target in
         let t : AsTable q (order q) {R = Value} (refused n p) = subst (λ (o : Outcome Value). AsTable q (order q) o) e (degree-told recording text target) in

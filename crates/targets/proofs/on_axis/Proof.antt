@@ -11,7 +11,8 @@ use mir.Syntax.{w32, w64}
 use mir.Val.{Fits, SFits, toZ, ofZ}
 use mir.ValLaws.{toZ-ofZ}
 use Rattle.number.specs.Axis.{axis, whole, origin}
-use Rattle.targets.specs.Target.{lowest, highest, offAxis}
+use Rattle.targets.specs.Target.{offAxis}
+use Rattle.number.specs.Axis.{lowest, highest}
 use Rattle.targets.specs.laws.Target.{sub-above, sub-below}
 use Rattle.targets.proofs.on_axis.Statement.{statement}
 use Rattle.targets.proofs.on_axis.Tie as tie
