@@ -43,11 +43,11 @@ fn grade(d: u32) -> Nearness
 }
 
 // How near a set comes to the number at an index.
-fn near_set(set: RunSet, index: u32) -> Nearness
-    requires { ⌜ Valid set × (index < axis) ⌝ }
-    ensures { λ r. ⌜ outcomeOf r ≡ result (valueOf (member set) index) ⌝ }
+fn near_set(set: &[u32], index: u32) -> Nearness
+    requires { ⌜ Valid (now set) × (index < axis) ⌝ }
+    ensures { λ r. ⌜ outcomeOf r ≡ result (valueOf (member (now (set .entry))) index) ⌝ }
 {
-    let nearest = set.distance(index);
+    let nearest = RunSet::distance(set, index);
     match nearest {
         Nearest::At(d) => grade(d),
         Nearest::Nothing => Nearness::NoValue,
@@ -59,14 +59,11 @@ fn near_text(rec: &[u8], table: &[u32], count: usize, index: u32) -> Nearness
     requires { ⌜ Ready (now table) count (now rec) × (index < axis) ⌝ }
     ensures { λ r. ⌜ outcomeOf r ≡ judged (setLines (now (rec .entry)) (textOf (now (table .entry)) count)) (valueOf (λ n. val (coded (now (rec .entry))) n (textOf (now (table .entry)) count) 0) index) ⌝ }
 {
-    let answered = question::answered::set_of(rec, table, count);
-    let verdict = answered.verdict;
+    let mut set = [0u32; runset::SLOT];
+    let verdict = question::answered::set_of(rec, table, count, &mut set);
     match verdict {
         Verdict::Refused(x) => Nearness::Refused(x),
-        Verdict::Fine => {
-            let set = answered.set;
-            near_set(set, index)
-        }
+        Verdict::Fine => near_set(&set, index),
     }
 }
 

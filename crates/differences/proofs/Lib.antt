@@ -1,6 +1,6 @@
 pub mod SearchLaws
 pub mod WindowLaws
 pub mod StepLaws
-pub mod CutsLaws
+pub mod GatherLaws
 pub mod MomentLaws
 pub mod GapLaws

@@ -6,20 +6,12 @@ ghost use Prim.Native.Nat.{ℕ, suc, _+_, _-_, _<_, _≤_, min};
 ghost use lib.ListN.{getD, length};
 ghost use Rattle.number.specs.Axis.{origin, axis};
 ghost use Rattle.differences.specs.inner.Times.{Times, lagsOf, gapsOf, stepsOf, momentsOf};
-ghost use Rattle.differences.specs.inner.Search.{Least, Past, Follows, chosen, from, Better, Marked, Lead, Streak};
-ghost use Rattle.differences.specs.inner.Cuts.{Collects};
-use runset::CUTS;
+ghost use Rattle.differences.specs.inner.Search.{Least, Past, Follows, chosen, from, Better, Marked, Lead};
+ghost use Rattle.runset.specs.Set.{slotWords, Makes};
+use runset::RunSet;
 
 // How many numbers are looked at in one sweep over the times.
 const WINDOW: usize = 256;
-
-// A set by its cuts, ascending: the run low..high has the cuts low and high + 1. Behind the first n stand zeros.
-// Over, and then with no cut, where the set has too many runs.
-pub struct Cuts {
-    pub over: bool,
-    pub n: usize,
-    pub cuts: [u32; CUTS],
-}
 
 // Where a run ends, and where the next one starts.
 struct Run {
@@ -212,99 +204,60 @@ fn run_from(near: bool, a: &[u32], b: &[u32], d: u32) -> Run
     Run { end, next }
 }
 
-// The set of the differences from `low` on, run by run.
-fn collect(near: bool, a: &[u32], b: &[u32], low: u32) -> Cuts
-    requires { ⌜ Times (now a) × Times (now b) × (low ≤ axis) ⌝ }
-    ensures { λ r. ⌜ Collects (from low (chosen near (now (a .entry)) (now (b .entry)))) r ⌝ }
+// The set of the differences from `low` on, run by run. This and the functions below say whether there are too many runs.
+fn collect(near: bool, a: &[u32], b: &[u32], low: u32, set: &mut [u32]) -> bool
+    requires { ⌜ Times (now a) × Times (now b) × (low ≤ axis) × (length (now set) ≡ slotWords) ⌝ }
+    ensures { λ r. ⌜ Makes (from low (chosen near (now (a .entry)) (now (b .entry)))) (now (set .exit)) r ⌝ }
 {
-    let mut cuts = [0u32; CUTS];
-    let mut n: usize = 0;
+    RunSet::empty(set);
     let mut d = least_of(near, a, b, low);
     while d < number::AXIS {
-        if n == CUTS {
-            return Cuts {
-                over: true,
-                n: 0,
-                cuts: [0u32; CUTS],
-            };
-        }
         let r = run_from(near, a, b, d);
-        cuts[n] = d;
-        cuts[n + 1] = r.end;
-        n += 2;
+        if RunSet::add(set, d, r.end - 1) {
+            return true;
+        }
         d = r.next;
     }
-    Cuts {
-        over: false,
-        n,
-        cuts,
-    }
+    false
 }
 
 // `lag`: a time of b minus a time of a, any pair.
-pub fn lags(a: &[u32], b: &[u32]) -> Cuts
-    requires { ⌜ Times (now a) × Times (now b) ⌝ }
-    ensures { λ r. ⌜ Collects (lagsOf (now (a .entry)) (now (b .entry))) r ⌝ }
+pub fn lags(a: &[u32], b: &[u32], set: &mut [u32]) -> bool
+    requires { ⌜ Times (now a) × Times (now b) × (length (now set) ≡ slotWords) ⌝ }
+    ensures { λ r. ⌜ Makes (lagsOf (now (a .entry)) (now (b .entry))) (now (set .exit)) r ⌝ }
 {
-    collect(false, a, b, 0)
+    collect(false, a, b, 0, set)
 }
 
 // `gaps`: a later time minus an earlier one.
-pub fn gaps(t: &[u32]) -> Cuts
-    requires { ⌜ Times (now t) ⌝ }
-    ensures { λ r. ⌜ Collects (gapsOf (now (t .entry))) r ⌝ }
+pub fn gaps(t: &[u32], set: &mut [u32]) -> bool
+    requires { ⌜ Times (now t) × (length (now set) ≡ slotWords) ⌝ }
+    ensures { λ r. ⌜ Makes (gapsOf (now (t .entry))) (now (set .exit)) r ⌝ }
 {
-    collect(false, t, t, number::ORIGIN + 1)
+    collect(false, t, t, number::ORIGIN + 1, set)
 }
 
 // `steps`: a time minus the time before it.
-pub fn steps(t: &[u32]) -> Cuts
-    requires { ⌜ Times (now t) ⌝ }
-    ensures { λ r. ⌜ Collects (stepsOf (now (t .entry))) r ⌝ }
+pub fn steps(t: &[u32], set: &mut [u32]) -> bool
+    requires { ⌜ Times (now t) × (length (now set) ≡ slotWords) ⌝ }
+    ensures { λ r. ⌜ Makes (stepsOf (now (t .entry))) (now (set .exit)) r ⌝ }
 {
-    collect(true, t, t, 0)
-}
-
-// The place behind the times that follow one another by 1 from place i on.
-fn streak(t: &[u32], i: usize) -> usize
-    requires { ⌜ Times (now t) × (i < length (now t)) ⌝ }
-    ensures { λ r. ⌜ Streak (now (t .entry)) i r ⌝ }
-{
-    let mut j = i + 1;
-    while j < t.len() {
-        if t[j - 1] + 1 < t[j] {
-            return j;
-        }
-        j += 1;
-    }
-    j
+    collect(true, t, t, 0, set)
 }
 
 // `peaks` and `cross`: the times themselves.
-pub fn moments(t: &[u32]) -> Cuts
-    requires { ⌜ Times (now t) ⌝ }
-    ensures { λ r. ⌜ Collects (momentsOf (now (t .entry))) r ⌝ }
+pub fn moments(t: &[u32], set: &mut [u32]) -> bool
+    requires { ⌜ Times (now t) × (length (now set) ≡ slotWords) ⌝ }
+    ensures { λ r. ⌜ Makes (momentsOf (now (t .entry))) (now (set .exit)) r ⌝ }
 {
-    let mut cuts = [0u32; CUTS];
-    let mut n: usize = 0;
+    RunSet::empty(set);
     let mut i: usize = 0;
     while i < t.len() {
-        if n == CUTS {
-            return Cuts {
-                over: true,
-                n: 0,
-                cuts: [0u32; CUTS],
-            };
+        let at = t[i];
+        if RunSet::add(set, at, at) {
+            return true;
         }
-        let j = streak(t, i);
-        cuts[n] = t[i];
-        cuts[n + 1] = t[j - 1] + 1;
-        n += 2;
-        i = j;
+        i += 1;
     }
-    Cuts {
-        over: false,
-        n,
-        cuts,
-    }
+    false
 }

@@ -9,18 +9,16 @@ ghost use mathlib.Core.Path.{_≡_};
 ghost use mathlib.Core.Bool.{Bool, true, false};
 ghost use Prim.Native.Nat.{ℕ, _+_, _*_, _/_, _≤_, _<_};
 ghost use lib.ListN.{length};
-ghost use Rattle.runset.specs.Runs.{mostRuns};
+ghost use Rattle.runset.specs.Set.{slotWords, sharedWords};
 ghost use Rattle.meaning.specs.inner.Coded.{coded};
 ghost use Rattle.evaluation.specs.inner.Askable.{Askable};
 ghost use Rattle.grammar.specs.Size.{temporal};
 ghost use Rattle.evaluation.specs.inner.Evaluate.{Fit, Outcome};
 ghost use Rattle.evaluation.specs.inner.Evaluation.{textOf, Asking, Evaluates};
 use grammar::kinds;
-use runset::merge::Filled;
+use runset::RunSet;
+use runset::SHARED;
 use slots::TABLE;
-
-// Room for what two sets share.
-const SHARED: usize = 2 * runset::CUTS;
 
 // Evaluates node n of a text at record i, and the nodes under it: their sets go to their slots in `cur`. Says whether one has too many runs.
 fn eval(
@@ -35,14 +33,14 @@ fn eval(
     out: &mut [u32],
 ) -> bool
     requires { ⌜ Fit (now table) count (coded (now rec)) i n (now later) (now cur) × Askable (now table) n (now rec)
-        × (length (now shared) ≡ 4 * mostRuns) × (length (now out) ≡ 2 * mostRuns) ⌝ }
+        × (length (now shared) ≡ sharedWords) × (length (now out) ≡ slotWords) ⌝ }
     ensures { λ r. ⌜ Outcome (now (table .entry)) (coded (now (rec .entry))) i n (now (cur .entry)) (now (cur .exit)) r ⌝ }
 {
     let row = rows::row_at(table, n);
     let kind = row.kind;
     if kind < kinds::NOT {
-        let made = leaves::leaf(rec, i, row, out);
-        return slots::put(made, out, cur, n);
+        let over = leaves::leaf(rec, i, row, out);
+        return slots::put(over, out, cur, n);
     }
     let first = slots::size(row.first);
     if eval(table, count, rec, i, first, later, cur, shared, out) {
@@ -59,16 +57,9 @@ fn eval(
     node::two_at(kind, last, n, first, second, later, cur, shared, out)
 }
 
-// What is told where a set has too many runs.
-fn too_many() -> Filled
-    ensures { λ r. ⌜ r ≡ record { over = true; n = 0 } ⌝ }
-{
-    Filled { over: true, n: 0 }
-}
-
 // The set of a text without F, G, X, U and W: the first record is enough.
-fn at_first(table: &[u32], count: usize, rec: &[u8], out: &mut [u32]) -> Filled
-    requires { ⌜ Asking (now table) count (now rec) × (temporal (textOf (now table) count) ≡ false) × (length (now out) ≡ 2 * mostRuns) ⌝ }
+fn at_first(table: &[u32], count: usize, rec: &[u8], out: &mut [u32]) -> bool
+    requires { ⌜ Asking (now table) count (now rec) × (temporal (textOf (now table) count) ≡ false) × (length (now out) ≡ slotWords) ⌝ }
     ensures { λ r. ⌜ Evaluates (coded (now (rec .entry))) (textOf (now (table .entry)) count) (now (out .exit)) r ⌝ }
 {
     let later = [0u32; TABLE];
@@ -86,14 +77,15 @@ fn at_first(table: &[u32], count: usize, rec: &[u8], out: &mut [u32]) -> Filled
         &mut shared,
         out,
     ) {
-        return too_many();
+        return true;
     }
-    runset::lent::same(slots::cuts_in(&cur, root), out)
+    RunSet::copy(slots::set_in(&cur, root), out);
+    false
 }
 
 // The set of a text with F, G, X, U or W: all records, from the last to the first. The table written last is `a` where `flip` is set.
-fn walk(table: &[u32], count: usize, rec: &[u8], out: &mut [u32]) -> Filled
-    requires { ⌜ Asking (now table) count (now rec) × (temporal (textOf (now table) count) ≡ true) × (length (now out) ≡ 2 * mostRuns) ⌝ }
+fn walk(table: &[u32], count: usize, rec: &[u8], out: &mut [u32]) -> bool
+    requires { ⌜ Asking (now table) count (now rec) × (temporal (textOf (now table) count) ≡ true) × (length (now out) ≡ slotWords) ⌝ }
     ensures { λ r. ⌜ Evaluates (coded (now (rec .entry))) (textOf (now (table .entry)) count) (now (out .exit)) r ⌝ }
 {
     let mut a = [0u32; TABLE];
@@ -106,25 +98,27 @@ fn walk(table: &[u32], count: usize, rec: &[u8], out: &mut [u32]) -> Filled
         i -= 1;
         if flip {
             if eval(table, count, rec, i, root, &a, &mut b, &mut shared, out) {
-                return too_many();
+                return true;
             }
             flip = false;
         } else {
             if eval(table, count, rec, i, root, &b, &mut a, &mut shared, out) {
-                return too_many();
+                return true;
             }
             flip = true;
         }
     }
     if flip {
-        return runset::lent::same(slots::cuts_in(&a, root), out);
+        RunSet::copy(slots::set_in(&a, root), out);
+        return false;
     }
-    runset::lent::same(slots::cuts_in(&b, root), out)
+    RunSet::copy(slots::set_in(&b, root), out);
+    false
 }
 
 // The set of a text at the first record, or that some node's set has too many runs. A text of one node needs no table of sets.
-pub fn evaluate(table: &[u32], count: usize, deep: bool, rec: &[u8], out: &mut [u32]) -> Filled
-    requires { ⌜ Asking (now table) count (now rec) × (temporal (textOf (now table) count) ≡ deep) × (length (now out) ≡ 2 * mostRuns) ⌝ }
+pub fn evaluate(table: &[u32], count: usize, deep: bool, rec: &[u8], out: &mut [u32]) -> bool
+    requires { ⌜ Asking (now table) count (now rec) × (temporal (textOf (now table) count) ≡ deep) × (length (now out) ≡ slotWords) ⌝ }
     ensures { λ r. ⌜ Evaluates (coded (now (rec .entry))) (textOf (now (table .entry)) count) (now (out .exit)) r ⌝ }
 {
     if deep {

@@ -1,35 +1,35 @@
-// The set of a node at one record, from the sets of its children there and the sets of the next record.
+// The set of a node at one record, from the sets of its children there and the sets of the next record; whether it has too many runs is told.
 ghost use mathlib.Core.Path.{_≡_};
 ghost use mathlib.Core.Bool.{Bool, true, false};
-ghost use Prim.Native.Nat.{ℕ, _*_, _≤_, _<_};
+ghost use Prim.Native.Nat.{ℕ, _≤_, _<_};
 ghost use lib.ListN.{length};
-ghost use Rattle.runset.specs.Runs.{mostRuns};
-ghost use Rattle.runset.specs.Set.{inside};
-ghost use Rattle.runset.specs.inner.Lent.{Lent, Fills};
+ghost use Rattle.runset.specs.Set.{slotWords, sharedWords, member, Valid, Makes};
 ghost use Rattle.grammar.specs.inner.Kinds.{NOT, AND};
 ghost use Rattle.grammar.specs.inner.Table.{unaryFrom, binaryFrom, kinds};
 ghost use Rattle.evaluation.specs.inner.Step.{unaryOf, binaryOf};
 use grammar::kinds;
-use runset::merge::Filled;
+use runset::RunSet;
 
 // A node with one child: `!`, X, F, G. p is the child's set, own the node's and old the child's at the next record.
-pub fn one(kind: u32, last: bool, p: &[u32], own: &[u32], old: &[u32], out: &mut [u32]) -> Filled
-    requires { ⌜ (unaryFrom ≤ kind) × (kind < binaryFrom) × Lent (now p) × (last ≡ false → NOT < kind → Lent (now own) × Lent (now old)) × (length (now out) ≡ 2 * mostRuns) ⌝ }
-    ensures { λ r. ⌜ Fills (λ v. unaryOf kind last (inside (now (p .entry)) v) (inside (now (own .entry)) v) (inside (now (old .entry)) v)) (now (out .exit)) r ⌝ }
+pub fn one(kind: u32, last: bool, p: &[u32], own: &[u32], old: &[u32], out: &mut [u32]) -> bool
+    requires { ⌜ (unaryFrom ≤ kind) × (kind < binaryFrom) × Valid (now p) × (last ≡ false → NOT < kind → Valid (now own) × Valid (now old)) × (length (now out) ≡ slotWords) ⌝ }
+    ensures { λ r. ⌜ Makes (λ v. unaryOf kind last (member (now (p .entry)) v) (member (now (own .entry)) v) (member (now (old .entry)) v)) (now (out .exit)) r ⌝ }
 {
     if kind == kinds::NOT {
-        return runset::lent::not(p, out);
+        return RunSet::not(p, out);
     }
     if last {
-        return runset::lent::same(p, out);
+        RunSet::copy(p, out);
+        return false;
     }
     if kind == kinds::NEXT {
-        return runset::lent::same(old, out);
+        RunSet::copy(old, out);
+        return false;
     }
     if kind == kinds::FINALLY {
-        return runset::lent::or(p, own, out);
+        return RunSet::or(p, own, out);
     }
-    runset::lent::and(p, own, out)
+    RunSet::and(p, own, out)
 }
 
 // A node with two children: `|`, `&`, U, W. p and q are the children's sets, own the node's at the next record.
@@ -41,21 +41,22 @@ pub fn two(
     own: &[u32],
     shared: &mut [u32],
     out: &mut [u32],
-) -> Filled
-    requires { ⌜ (binaryFrom ≤ kind) × (kind < kinds) × Lent (now p) × Lent (now q) × (last ≡ false → AND < kind → Lent (now own)) × (length (now shared) ≡ 4 * mostRuns) × (length (now out) ≡ 2 * mostRuns) ⌝ }
-    ensures { λ r. ⌜ Fills (λ v. binaryOf kind last (inside (now (p .entry)) v) (inside (now (q .entry)) v) (inside (now (own .entry)) v)) (now (out .exit)) r ⌝ }
+) -> bool
+    requires { ⌜ (binaryFrom ≤ kind) × (kind < kinds) × Valid (now p) × Valid (now q) × (last ≡ false → AND < kind → Valid (now own)) × (length (now shared) ≡ sharedWords) × (length (now out) ≡ slotWords) ⌝ }
+    ensures { λ r. ⌜ Makes (λ v. binaryOf kind last (member (now (p .entry)) v) (member (now (q .entry)) v) (member (now (own .entry)) v)) (now (out .exit)) r ⌝ }
 {
     if kind == kinds::OR {
-        return runset::lent::or(p, q, out);
+        return RunSet::or(p, q, out);
     }
     if kind == kinds::AND {
-        return runset::lent::and(p, q, out);
+        return RunSet::and(p, q, out);
     }
     if last {
         if kind == kinds::UNTIL {
-            return runset::lent::same(q, out);
+            RunSet::copy(q, out);
+            return false;
         }
-        return runset::lent::or(p, q, out);
+        return RunSet::or(p, q, out);
     }
-    runset::lent::or_and(q, p, own, shared, out)
+    RunSet::or_and(q, p, own, shared, out)
 }

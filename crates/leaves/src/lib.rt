@@ -6,21 +6,17 @@ mod span;
 mod times;
 
 ghost use mathlib.Core.Path.{_≡_};
-ghost use Prim.Native.Nat.{_*_, _≤_, _<_};
-ghost use lib.ListN.{length, take};
-ghost use Rattle.runset.specs.Runs.{mostRuns};
-ghost use Rattle.runset.specs.Set.{inside};
-ghost use Rattle.runset.specs.inner.Lent.{Lent, Fills};
+ghost use Prim.Native.Nat.{_≤_, _<_};
+ghost use lib.ListN.{length};
+ghost use Rattle.runset.specs.Set.{slotWords, Makes};
 ghost use Rattle.meaning.specs.inner.Truth.{val};
-ghost use Rattle.differences.specs.inner.Cuts.{Collects};
 ghost use Rattle.grammar.specs.inner.Kinds.{PEAKS, AMPL};
 ghost use Rattle.meaning.specs.inner.Coded.{coded};
 ghost use Rattle.leaves.specs.inner.Leaf.{leafOf, Asked};
 ghost use Rattle.leaves.specs.inner.Span.{Spans};
-use differences::Cuts;
 use grammar::Row;
 use grammar::kinds;
-use runset::merge::Filled;
+use runset::RunSet;
 use span::Span;
 
 // Leaves with at most one run: the atoms, `high`, `low`, `lowafter` and `capafter`.
@@ -66,52 +62,42 @@ fn amplitude(rec: &[u8], i: usize, row: Row) -> Span
 }
 
 // Leaves on times: `peaks`, `cross`, `gaps`, `steps` and `lag`.
-fn timed(rec: &[u8], i: usize, row: Row) -> Cuts
-    requires { ⌜ Asked (now rec) i row × (PEAKS ≤ row .kind) × (row .kind ≡ AMPL → ⊥) ⌝ }
-    ensures { λ r. ⌜ Collects (λ v. val (coded (now (rec .entry))) v (leafOf row) i) r ⌝ }
+fn timed(rec: &[u8], i: usize, row: Row, set: &mut [u32]) -> bool
+    requires { ⌜ Asked (now rec) i row × (PEAKS ≤ row .kind) × (row .kind ≡ AMPL → ⊥) × (length (now set) ≡ slotWords) ⌝ }
+    ensures { λ r. ⌜ Makes (λ v. val (coded (now (rec .entry))) v (leafOf row) i) (now (set .exit)) r ⌝ }
 {
     let kind = row.kind;
     if kind == kinds::CROSS {
-        return times::cross(rec);
+        return times::cross(rec, set);
     }
     if kind == kinds::LAG {
-        return times::lag(rec);
+        return times::lag(rec, set);
     }
     let curve = recording::curve(row.first);
     if kind == kinds::PEAKS {
-        return times::peaks(rec, curve);
+        return times::peaks(rec, curve, set);
     }
     if kind == kinds::GAPS {
-        return times::gaps(rec, curve);
+        return times::gaps(rec, curve, set);
     }
-    times::steps(rec, curve)
+    times::steps(rec, curve, set)
 }
 
-// The set whose cuts are the first n.
-fn first(cuts: &[u32], n: usize, out: &mut [u32]) -> Filled
-    requires { ⌜ (n ≤ length (now cuts)) × Lent (take n (now cuts)) × (length (now out) ≡ 2 * mostRuns) ⌝ }
-    ensures { λ r. ⌜ Fills (inside (take n (now (cuts .entry)))) (now (out .exit)) r ⌝ }
-{
-    runset::lent::same(&cuts[..n], out)
-}
-
-// THE SET OF A LEAF at record i: its cuts go to the front of the output.
-pub fn leaf(rec: &[u8], i: usize, row: Row, out: &mut [u32]) -> Filled
-    requires { ⌜ Asked (now rec) i row × (length (now out) ≡ 2 * mostRuns) ⌝ }
-    ensures { λ r. ⌜ Fills (λ v. val (coded (now (rec .entry))) v (leafOf row) i) (now (out .exit)) r ⌝ }
+// THE SET OF A LEAF at record i. Says whether it has too many runs.
+pub fn leaf(rec: &[u8], i: usize, row: Row, set: &mut [u32]) -> bool
+    requires { ⌜ Asked (now rec) i row × (length (now set) ≡ slotWords) ⌝ }
+    ensures { λ r. ⌜ Makes (λ v. val (coded (now (rec .entry))) v (leafOf row) i) (now (set .exit)) r ⌝ }
 {
     let kind = row.kind;
     if kind < kinds::PEAKS {
         let s = spanned(rec, i, row);
-        return runset::lent::span(s.low, s.high, out);
+        RunSet::span(s.low, s.high, set);
+        return false;
     }
     if kind == kinds::AMPL {
         let s = amplitude(rec, i, row);
-        return runset::lent::span(s.low, s.high, out);
+        RunSet::span(s.low, s.high, set);
+        return false;
     }
-    let t = timed(rec, i, row);
-    if t.over {
-        return Filled { over: true, n: 0 };
-    }
-    first(&t.cuts, t.n, out)
+    timed(rec, i, row, set)
 }

@@ -3,6 +3,7 @@ ghost use Prim.Native.Nat.{_<_};
 ghost use lib.Dec.{leb, ltb};
 ghost use Rattle.number.specs.Axis.{axis};
 ghost use Rattle.leaves.specs.inner.Span.{Spans};
+use runset::RunSet;
 
 // The numbers from low to high; none where high < low.
 pub struct Span {
@@ -16,8 +17,8 @@ pub fn all_if(b: bool) -> Span
 {
     if b {
         return Span {
-            low: 0,
-            high: runset::RunSet::HIGH,
+            low: RunSet::LOW,
+            high: RunSet::HIGH,
         };
     }
     Span { low: 1, high: 0 }
@@ -29,7 +30,7 @@ pub fn from(low: u32) -> Span
 {
     Span {
         low,
-        high: runset::RunSet::HIGH,
+        high: RunSet::HIGH,
     }
 }
 
@@ -38,7 +39,10 @@ pub fn upto(high: u32) -> Span
     requires { ⌜ high < axis ⌝ }
     ensures { λ r. ⌜ Spans (λ v. leb v high) r ⌝ }
 {
-    Span { low: 0, high }
+    Span {
+        low: RunSet::LOW,
+        high,
+    }
 }
 
 // What is below x.
@@ -50,7 +54,7 @@ pub fn below(x: u32) -> Span
         return Span { low: 1, high: 0 };
     }
     Span {
-        low: 0,
+        low: RunSet::LOW,
         high: x - 1,
     }
 }

@@ -1,4 +1,5 @@
 // The sets of the listed questions on times: of tops and crossings, and of the differences between them.
+ghost use mathlib.Core.Path.{_≡_};
 ghost use Prim.Native.Nat.{_≤_, _<_};
 ghost use lib.ListN.{length};
 ghost use Rattle.recording.specs.Recording.{Accepted};
@@ -6,11 +7,10 @@ ghost use Rattle.grammar.specs.Syntax as asks;
 ghost use Rattle.meaning.specs.inner.Coded.{topTimes, crossingTimes};
 ghost use Rattle.tops.specs.Tops.{mostTops};
 ghost use Rattle.meaning.specs.inner.Truth.{truth};
-ghost use Rattle.differences.specs.inner.Cuts.{Collects};
+ghost use Rattle.runset.specs.Set.{slotWords, Makes};
 ghost use Rattle.meaning.specs.inner.Coded.{coded};
 ghost use Rattle.leaves.specs.inner.Stamps.{Early, Shifted, Stamped};
 ghost use Rattle.recording.specs.Reading.{curveOf};
-use differences::Cuts;
 
 // The most tops or crossings of a recording: half of its records.
 const MOST_EDGES: usize = recording::MOST_RECORDS / 2;
@@ -47,49 +47,49 @@ fn crossing_stamps(rec: &[u8], times: &mut [u32]) -> usize
     n
 }
 
-pub fn peaks(rec: &[u8], curve: usize) -> Cuts
-    requires { ⌜ Accepted (now rec) × (curve < 2) ⌝ }
-    ensures { λ r. ⌜ Collects (λ v. truth (asks.peaks (curveOf curve)) (coded (now (rec .entry))) v) r ⌝ }
+pub fn peaks(rec: &[u8], curve: usize, set: &mut [u32]) -> bool
+    requires { ⌜ Accepted (now rec) × (curve < 2) × (length (now set) ≡ slotWords) ⌝ }
+    ensures { λ r. ⌜ Makes (λ v. truth (asks.peaks (curveOf curve)) (coded (now (rec .entry))) v) (now (set .exit)) r ⌝ }
 {
     let mut times = [0u32; MOST_EDGES];
     let n = top_stamps(rec, curve, &mut times);
-    differences::moments(&times[..n])
+    differences::moments(&times[..n], set)
 }
 
-pub fn cross(rec: &[u8]) -> Cuts
-    requires { ⌜ Accepted (now rec) ⌝ }
-    ensures { λ r. ⌜ Collects (λ v. truth asks.cross (coded (now (rec .entry))) v) r ⌝ }
+pub fn cross(rec: &[u8], set: &mut [u32]) -> bool
+    requires { ⌜ Accepted (now rec) × (length (now set) ≡ slotWords) ⌝ }
+    ensures { λ r. ⌜ Makes (λ v. truth asks.cross (coded (now (rec .entry))) v) (now (set .exit)) r ⌝ }
 {
     let mut times = [0u32; MOST_EDGES];
     let n = crossing_stamps(rec, &mut times);
-    differences::moments(&times[..n])
+    differences::moments(&times[..n], set)
 }
 
-pub fn gaps(rec: &[u8], curve: usize) -> Cuts
-    requires { ⌜ Accepted (now rec) × (curve < 2) × (length (topTimes (curveOf curve) (coded (now rec))) ≤ mostTops) ⌝ }
-    ensures { λ r. ⌜ Collects (λ v. truth (asks.gaps (curveOf curve)) (coded (now (rec .entry))) v) r ⌝ }
+pub fn gaps(rec: &[u8], curve: usize, set: &mut [u32]) -> bool
+    requires { ⌜ Accepted (now rec) × (curve < 2) × (length (topTimes (curveOf curve) (coded (now rec))) ≤ mostTops) × (length (now set) ≡ slotWords) ⌝ }
+    ensures { λ r. ⌜ Makes (λ v. truth (asks.gaps (curveOf curve)) (coded (now (rec .entry))) v) (now (set .exit)) r ⌝ }
 {
     let mut times = [0u32; tops::MOST_TOPS];
     let n = top_stamps(rec, curve, &mut times);
-    differences::gaps(&times[..n])
+    differences::gaps(&times[..n], set)
 }
 
-pub fn steps(rec: &[u8], curve: usize) -> Cuts
-    requires { ⌜ Accepted (now rec) × (curve < 2) × (length (topTimes (curveOf curve) (coded (now rec))) ≤ mostTops) ⌝ }
-    ensures { λ r. ⌜ Collects (λ v. truth (asks.steps (curveOf curve)) (coded (now (rec .entry))) v) r ⌝ }
+pub fn steps(rec: &[u8], curve: usize, set: &mut [u32]) -> bool
+    requires { ⌜ Accepted (now rec) × (curve < 2) × (length (topTimes (curveOf curve) (coded (now rec))) ≤ mostTops) × (length (now set) ≡ slotWords) ⌝ }
+    ensures { λ r. ⌜ Makes (λ v. truth (asks.steps (curveOf curve)) (coded (now (rec .entry))) v) (now (set .exit)) r ⌝ }
 {
     let mut times = [0u32; tops::MOST_TOPS];
     let n = top_stamps(rec, curve, &mut times);
-    differences::steps(&times[..n])
+    differences::steps(&times[..n], set)
 }
 
-pub fn lag(rec: &[u8]) -> Cuts
-    requires { ⌜ Accepted (now rec) × (length (topTimes (curveOf 0) (coded (now rec))) ≤ mostTops) × (length (topTimes (curveOf 1) (coded (now rec))) ≤ mostTops) ⌝ }
-    ensures { λ r. ⌜ Collects (λ v. truth asks.lag (coded (now (rec .entry))) v) r ⌝ }
+pub fn lag(rec: &[u8], set: &mut [u32]) -> bool
+    requires { ⌜ Accepted (now rec) × (length (topTimes (curveOf 0) (coded (now rec))) ≤ mostTops) × (length (topTimes (curveOf 1) (coded (now rec))) ≤ mostTops) × (length (now set) ≡ slotWords) ⌝ }
+    ensures { λ r. ⌜ Makes (λ v. truth asks.lag (coded (now (rec .entry))) v) (now (set .exit)) r ⌝ }
 {
     let mut a = [0u32; tops::MOST_TOPS];
     let mut b = [0u32; tops::MOST_TOPS];
     let m = top_stamps(rec, 0, &mut a);
     let n = top_stamps(rec, 1, &mut b);
-    differences::lags(&a[..m], &b[..n])
+    differences::lags(&a[..m], &b[..n], set)
 }

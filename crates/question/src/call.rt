@@ -13,15 +13,15 @@ use refusal::Refusal;
 use runset::RunSet;
 
 // Writes a set, if the output is long enough.
-fn write_set(set: RunSet, out: &mut [u8]) -> Written
-    requires { ⌜ Valid set ⌝ }
-    ensures { λ r. ⌜ Answers (writtenOf (member set) (length (now (out .entry)))) (now (out .entry)) r (now (out .exit)) ⌝ }
+fn write_set(set: &[u32], out: &mut [u8]) -> Written
+    requires { ⌜ Valid (now set) ⌝ }
+    ensures { λ r. ⌜ Answers (writtenOf (member (now (set .entry))) (length (now (out .entry)))) (now (out .entry)) r (now (out .exit)) ⌝ }
 {
-    let size = 8 * set.count();
+    let size = 8 * RunSet::count(set);
     if out.len() < size {
         return Written::Refused(Refusal::ShortOutput);
     }
-    set.write(out);
+    RunSet::write(set, out);
     Written::Bytes(size)
 }
 
@@ -30,14 +30,11 @@ fn answer(rec: &[u8], table: &[u32], count: usize, out: &mut [u8]) -> Written
     requires { ⌜ Ready (now table) count (now rec) ⌝ }
     ensures { λ r. ⌜ Answers (answerOf (now (rec .entry)) (textOf (now (table .entry)) count) (length (now (out .entry)))) (now (out .entry)) r (now (out .exit)) ⌝ }
 {
-    let a = crate::answered::set_of(rec, table, count);
-    let verdict = a.verdict;
+    let mut set = [0u32; runset::SLOT];
+    let verdict = crate::answered::set_of(rec, table, count, &mut set);
     match verdict {
         Verdict::Refused(x) => Written::Refused(x),
-        Verdict::Fine => {
-            let set = a.set;
-            write_set(set, out)
-        }
+        Verdict::Fine => write_set(&set, out),
     }
 }
 

@@ -14,8 +14,7 @@ use Rattle.runset.specs.Runs.{mostRuns, lows, highs, runCount, numberByt
 use Rattle.runset.specs.Set.{cutsOf, inside, member, Ascending, Canonical, Valid}
 use Rattle.runset.specs.laws.Cuts.{lowCuts, highCuts, lone, rest-ended}
 use Rattle.runset.specs.laws.Runs.{lows-are, highs-are, lows-highs, runBytes-length, setBytes-length}
-use Rattle.runset.specs.laws.Set.{valid-cuts}
-use Rattle.runset.specs.declared.RunSet.{RunSet}
+use Rattle.runset.specs.laws.Set.{valid-cuts, cuts-length}
 
 -- run i of a list of cuts
 pub record RunAt (hi : ℕ) (l lows highs : List ℕ) (i : ℕ) : Type 0 where
@@ -40,21 +39,18 @@ run-at lo hi (c ∷ d ∷ r) a e (suc i) h =
       top = n .top;
     }
 
-module _ (s : RunSet) (v : Valid s) where
-  here : s .n ≤ length (s .cuts)
-  here = omega (arith, v .few, v .size)
-
-  pub run : (i : ℕ) → i < runCount (member s) → RunAt axis (s .cuts) (lows (member s)) (highs (member s)) i
+module _ (s : List ℕ) (v : Valid s) where
+  pub run : (i : ℕ) → i < runCount (member s) → RunAt axis s (lows (member s)) (highs (member s)) i
   unfolding member
   run i h =
       let n = valid-cuts s v in
-      let k : length (cutsOf s) ≡ s .n = length-take-le (s .n) (s .cuts) here in
+      let k = cuts-length s v in
       let r = run-at 0 axis (cutsOf s) (v .canonical .ascending) (v .canonical .ended) i (omega arith) in
       let l : lows (member s) ≡ lowCuts (cutsOf s) = lows-are (member s) (cutsOf s) (v .canonical) (λ w h. refl) in
       let u : highs (member s) ≡ highCuts (cutsOf s) = highs-are (member s) (cutsOf s) (v .canonical) (λ w h. refl) in
       record {
-        low = sym (getD-take (s .n) (s .cuts) (2 * i) 0 (omega arith)) ∙ r .low ∙ ap (λ (x : List ℕ). getD x i 0) (sym l);
-        end = sym (getD-take (s .n) (s .cuts) (2 * i + 1) 0 (omega arith)) ∙ r .end ∙ ap (λ (x : List ℕ). getD x i 0 + 1) (sym u);
+        low = sym (getD-take (getD s (2 * mostRuns) 0) s (2 * i) 0 (omega arith)) ∙ r .low ∙ ap (λ (x : List ℕ). getD x i 0) (sym l);
+        end = sym (getD-take (getD s (2 * mostRuns) 0) s (2 * i + 1) 0 (omega arith)) ∙ r .end ∙ ap (λ (x : List ℕ). getD x i 0 + 1) (sym u);
         order = subst (λ (x : List ℕ). getD x i 0 ≤ getD (highs (member s)) i 0) (sym l) (subst (λ (x : List ℕ). getD (lowCuts (cutsOf s)) i 0 ≤ getD x i 0) (sym u) (r .order));
         top = subst (λ (x : List ℕ). getD x i 0 < axis) (sym u) (r .top);
       }

@@ -1,4 +1,4 @@
--- Sets of numbers of the axis as this crate holds them, and what its operations promise, by membership alone.
+-- Sets of numbers of the axis as this crate holds them in words that are lent, and what its operations promise, by membership alone.
 use Prim.Native.Nat.{ℕ, _+_, _*_, _≤_, _<_}
 use mathlib.Core.Path.{_≡_}
 use mathlib.Core.Bool.{Bool, true, false, not, cond}
@@ -8,14 +8,19 @@ use lib.ListN.{length, take, getD}
 use Rattle.number.specs.Axis.{axis}
 use Rattle.runset.specs.Runs.{mostRuns, runCount}
 use Rattle.runset.specs.Distance.{distance}
-use Rattle.runset.specs.declared.RunSet.{RunSet}
-use Rattle.runset.specs.declared.Made.{Made}
 use Rattle.runset.specs.declared.Nearest.{Nearest}
 use Rattle.runset.specs.declared.Nearest.the-variants.{At, Nothing}
 
--- the cuts that a set is held by
-abbrev pub cutsOf : RunSet → List ℕ
-cutsOf s = take (s .n) (s .cuts)
+-- how many words hold a set, and how many what two sets share
+abbrev pub slotWords : ℕ
+slotWords = 2 * mostRuns + 1
+
+abbrev pub sharedWords : ℕ
+sharedWords = 4 * mostRuns
+
+-- the cuts that a set is held by: the last word says how many of the first there are
+abbrev pub cutsOf : List ℕ → List ℕ
+cutsOf words = take (getD words (2 * mostRuns) 0) words
 
 -- one of two, and not both
 abbrev pub xor : Bool → Bool → Bool
@@ -28,8 +33,8 @@ inside [] v = false
 inside (c ∷ cuts) v = xor (leb c v) (inside cuts v)
 
 -- V IS A MEMBER
-unfoldable pub member : RunSet → ℕ → Bool
-member s v = inside (cutsOf s) v
+unfoldable pub member : List ℕ → ℕ → Bool
+member words v = inside (cutsOf words) v
 
 -- strictly ascending, none below `low`, none above `high`
 abbrev pub Ascending : ℕ → ℕ → List ℕ → Type 0
@@ -41,23 +46,21 @@ pub record Canonical (cuts : List ℕ) : Type 0 where
   pub ascending : Ascending 0 axis cuts
   pub ended : inside cuts axis ≡ false
 
--- a set as every function of the crate gives it and every operation wants it; zeros stand behind its cuts
-pub record Valid (s : RunSet) : Type 0 where
-  pub size : length (s .cuts) ≡ 2 * mostRuns
-  pub few : s .n ≤ 2 * mostRuns
-  pub canonical : Canonical (cutsOf s)
-  pub clear : (k : ℕ) → s .n ≤ k → getD (s .cuts) k 0 ≡ 0
+-- words that hold a set, as every function of the crate leaves them and every operation wants them
+pub record Valid (words : List ℕ) : Type 0 where
+  pub size : length words ≡ slotWords
+  pub few : getD words (2 * mostRuns) 0 ≤ 2 * mostRuns
+  pub canonical : Canonical (cutsOf words)
 
--- the set has the members f
-pub record Represents (f : ℕ → Bool) (s : RunSet) : Type 0 where
-  pub valid : Valid s
-  pub members : (v : ℕ) → v < axis → member s v ≡ f v
+-- the words hold the set with the members f
+pub record Holds (f : ℕ → Bool) (words : List ℕ) : Type 0 where
+  pub valid : Valid words
+  pub members : (v : ℕ) → v < axis → member words v ≡ f v
 
--- WHAT AN OPERATION PROMISES: it is over if and only if the members f lie in too many maximal runs; else its set has these members
-pub record Makes (f : ℕ → Bool) (m : Made) : Type 0 where
-  pub valid : Valid (m .set)
-  pub over : m .over ≡ ltb mostRuns (runCount f)
-  pub members : m .over ≡ false → (v : ℕ) → v < axis → member (m .set) v ≡ f v
+-- WHAT AN OPERATION PROMISES: it is over if and only if the members f lie in too many maximal runs; else the words hold the set with these members
+pub record Makes (f : ℕ → Bool) (words : List ℕ) (over : Bool) : Type 0 where
+  pub flag : over ≡ ltb mostRuns (runCount f)
+  pub holds : over ≡ false → Holds f words
 
 -- the distance from v to the nearest member; nothing where there is no member, for then the distance is the size of the axis
 abbrev pub nearestOf : (ℕ → Bool) → ℕ → Nearest

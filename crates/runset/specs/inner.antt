@@ -1,4 +1,3 @@
 pub mod Merge
 pub mod OneRun
 pub mod Gap
-pub mod Lent

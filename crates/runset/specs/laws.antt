@@ -3,7 +3,7 @@ pub mod Merge
 pub mod OneRun
 pub mod Runs
 pub mod Set
-pub mod Lent
+pub mod Added
 pub mod Distance
 pub mod Written
 pub mod Examples

@@ -1,39 +1,35 @@
 // Sets of numbers of the axis, with at most MOST_RUNS runs. A number is carried as its index on the axis.
-pub mod lent;
-pub mod merge;
+// A set lies in SLOT words that the caller lends; how, nobody above this crate knows.
+mod merge;
 mod run;
 
 use merge::Op;
 ghost use mathlib.Core.Path.{_≡_};
 ghost use mathlib.Core.Bool.{Bool, true, false, not, _||_, _&&_};
 ghost use mathlib.Core.List.{_++_};
-ghost use Prim.Native.Nat.{ℕ, _+_, _*_, _≤_, _<_};
+ghost use Prim.Native.Nat.{ℕ, _+_, _-_, _*_, _≤_, _<_};
 ghost use lib.Dec.{leb};
-ghost use lib.ListN.{length, getD, take, drop};
+ghost use lib.ListN.{length, getD, drop};
 ghost use Rattle.number.specs.Axis.{axis};
-ghost use Rattle.runset.specs.Runs.{runCount, lows, highs, setBytes};
-ghost use Rattle.runset.specs.Set.{inside, member, Valid, Represents, Makes, nearestOf};
-ghost use Rattle.runset.specs.inner.Lent.{Lent};
-ghost use Rattle.runset.specs.inner.Merge.{opOf, Operand};
+ghost use Rattle.runset.specs.Runs.{mostRuns, runCount, lows, highs, setBytes};
+ghost use Rattle.runset.specs.Set.{cutsOf, inside, member, slotWords, sharedWords, Canonical, Valid, Holds, Makes, nearestOf};
+ghost use Rattle.runset.specs.inner.Merge.{opOf};
 ghost use Rattle.runset.specs.inner.Gap.{gapTo, nearerOf};
 
 // The most runs of a set.
 pub const MOST_RUNS: usize = 256;
 
 // The most cuts of a set: two for each run.
-pub const CUTS: usize = 2 * MOST_RUNS;
+const CUTS: usize = 2 * MOST_RUNS;
 
-// A set by its cuts, ascending: the run low..high has the cuts low and high + 1. Behind the first n stand zeros.
-pub struct RunSet {
-    pub cuts: [u32; CUTS],
-    pub n: usize,
-}
+// The words of a set: room for its cuts, and behind it their number. The cuts ascend: the run low..high has the cuts low and high + 1.
+pub const SLOT: usize = CUTS + 1;
 
-// What an operation makes: a set, unless it has too many runs.
-pub struct Made {
-    pub over: bool,
-    pub set: RunSet,
-}
+// The words that `or_and` is lent for what two sets share.
+pub const SHARED: usize = 2 * CUTS;
+
+// The sets of this crate, by what can be done with them.
+pub struct RunSet {}
 
 // How far the nearest member is.
 pub enum Nearest {
@@ -47,113 +43,129 @@ impl RunSet {
 
     pub const HIGH: u32 = 4_000_000_000;
 
-    pub fn empty() -> RunSet
-        ensures { λ r. ⌜ Represents (λ v. false) r ⌝ }
+    // The empty set.
+    pub fn empty(set: &mut [u32])
+        requires { ⌜ length (now set) ≡ slotWords ⌝ }
+        ensures { λ r. ⌜ Holds (λ v. false) (now (set .exit)) ⌝ }
     {
-        RunSet {
-            cuts: [0u32; CUTS],
-            n: 0,
-        }
-    }
-
-    // All numbers from low to high; none where high < low.
-    pub fn span(low: u32, high: u32) -> RunSet
-        requires { ⌜ high < axis ⌝ }
-        ensures { λ r. ⌜ Represents (λ v. leb low v && leb v high) r ⌝ }
-    {
-        if high < low {
-            return RunSet::empty();
-        }
-        let mut cuts = [0u32; CUTS];
-        cuts[0] = low;
-        cuts[1] = high + 1;
-        RunSet { cuts, n: 2 }
-    }
-
-    // The set whose cuts are lent.
-    pub fn from_cuts(lent: &[u32]) -> RunSet
-        requires { ⌜ Lent (now lent) ⌝ }
-        ensures { λ r. ⌜ Represents (inside (now (lent .entry))) r ⌝ }
-    {
-        let mut cuts = [0u32; CUTS];
-        let n = lent.len();
-        let mut i: usize = 0;
-        while i < n {
-            cuts[i] = lent[i];
-            i += 1;
-        }
-        RunSet { cuts, n }
+        set[CUTS] = 0;
     }
 
     // The whole axis.
-    pub fn whole() -> RunSet
-        ensures { λ r. ⌜ Represents (λ v. true) r ⌝ }
+    pub fn whole(set: &mut [u32])
+        requires { ⌜ length (now set) ≡ slotWords ⌝ }
+        ensures { λ r. ⌜ Holds (λ v. true) (now (set .exit)) ⌝ }
     {
-        RunSet::span(RunSet::LOW, RunSet::HIGH)
+        RunSet::span(RunSet::LOW, RunSet::HIGH, set);
     }
 
-    pub fn or(self, t: RunSet) -> Made
-        requires { ⌜ Valid self × Valid t ⌝ }
-        ensures { λ r. ⌜ Makes (λ v. member self v || member t v) r ⌝ }
+    // All numbers from low to high; none where high < low.
+    pub fn span(low: u32, high: u32, set: &mut [u32])
+        requires { ⌜ (high < axis) × (length (now set) ≡ slotWords) ⌝ }
+        ensures { λ r. ⌜ Holds (λ v. leb low v && leb v high) (now (set .exit)) ⌝ }
     {
-        limited(Op::Or, &self.cuts, self.n, &t.cuts, t.n)
+        if high < low {
+            RunSet::empty(set);
+            return;
+        }
+        set[0] = low;
+        set[1] = high + 1;
+        set[CUTS] = 2;
     }
 
-    pub fn and(self, t: RunSet) -> Made
-        requires { ⌜ Valid self × Valid t ⌝ }
-        ensures { λ r. ⌜ Makes (λ v. member self v && member t v) r ⌝ }
+    // The numbers from low to high more, where all members lie below low. Says whether there are too many runs.
+    pub fn add(set: &mut [u32], low: u32, high: u32) -> bool
+        requires { ⌜ Valid (now set) × ((v : ℕ) → v < axis → member (now set) v ≡ true → v < low) × (low ≤ high) × (high < axis) ⌝ }
+        ensures { λ r. ⌜ Makes (λ v. member (now (set .entry)) v || (leb low v && leb v high)) (now (set .exit)) r ⌝ }
     {
-        limited(Op::And, &self.cuts, self.n, &t.cuts, t.n)
+        let n = cuts_in(set);
+        if ends_at(set, n, low) {
+            set[n - 1] = high + 1;
+            return false;
+        }
+        if n == CUTS {
+            return true;
+        }
+        set[n] = low;
+        set[n + 1] = high + 1;
+        set[CUTS] = (n + 2) as u32;
+        false
+    }
+
+    // The same set.
+    pub fn copy(a: &[u32], set: &mut [u32])
+        requires { ⌜ Valid (now a) × (length (now set) ≡ slotWords) ⌝ }
+        ensures { λ r. ⌜ Holds (member (now (a .entry))) (now (set .exit)) ⌝ }
+    {
+        let n = cuts_in(a);
+        let mut i: usize = 0;
+        while i < n {
+            set[i] = a[i];
+            i += 1;
+        }
+        set[CUTS] = n as u32;
+    }
+
+    // What is in a or in b. This and the next three say whether there are too many runs.
+    pub fn or(a: &[u32], b: &[u32], set: &mut [u32]) -> bool
+        requires { ⌜ Valid (now a) × Valid (now b) × (length (now set) ≡ slotWords) ⌝ }
+        ensures { λ r. ⌜ Makes (λ v. member (now (a .entry)) v || member (now (b .entry)) v) (now (set .exit)) r ⌝ }
+    {
+        combine(Op::Or, cuts_of(a), cuts_of(b), set)
+    }
+
+    // What is in a and in b.
+    pub fn and(a: &[u32], b: &[u32], set: &mut [u32]) -> bool
+        requires { ⌜ Valid (now a) × Valid (now b) × (length (now set) ≡ slotWords) ⌝ }
+        ensures { λ r. ⌜ Makes (λ v. member (now (a .entry)) v && member (now (b .entry)) v) (now (set .exit)) r ⌝ }
+    {
+        combine(Op::And, cuts_of(a), cuts_of(b), set)
     }
 
     // The complement on the axis.
-    pub fn not(self) -> Made
-        requires { ⌜ Valid self ⌝ }
-        ensures { λ r. ⌜ Makes (λ v. not (member self v)) r ⌝ }
+    pub fn not(a: &[u32], set: &mut [u32]) -> bool
+        requires { ⌜ Valid (now a) × (length (now set) ≡ slotWords) ⌝ }
+        ensures { λ r. ⌜ Makes (λ v. not (member (now (a .entry)) v)) (now (set .exit)) r ⌝ }
     {
         let whole = [RunSet::LOW, number::AXIS];
-        limited(Op::Xor, &whole, 2, &self.cuts, self.n)
+        combine(Op::Xor, &whole, cuts_of(a), set)
     }
 
-    // self or (p and r). Only the result is limited: what p and r share may have more runs.
-    pub fn or_and(self, p: RunSet, r: RunSet) -> Made
-        requires { ⌜ Valid self × Valid p × Valid r ⌝ }
-        ensures { λ m. ⌜ Makes (λ v. member self v || (member p v && member r v)) m ⌝ }
+    // What is in q, or in p and in r. Only the result is limited: what p and r share has room in `shared`.
+    pub fn or_and(q: &[u32], p: &[u32], r: &[u32], shared: &mut [u32], set: &mut [u32]) -> bool
+        requires { ⌜ Valid (now q) × Valid (now p) × Valid (now r) × (length (now shared) ≡ sharedWords) × (length (now set) ≡ slotWords) ⌝ }
+        ensures { λ m. ⌜ Makes (λ v. member (now (q .entry)) v || (member (now (p .entry)) v && member (now (r .entry)) v)) (now (set .exit)) m ⌝ }
     {
-        let mut shared = [0u32; 2 * CUTS];
-        let both = merge::merge(Op::And, &p.cuts, p.n, &r.cuts, r.n, &mut shared);
-        limited(Op::Or, &self.cuts, self.n, &shared, both.n)
+        let both = run::merge(Op::And, cuts_of(p), cuts_of(r), shared);
+        let n = both.n;
+        combine(Op::Or, cuts_of(q), &shared[..n], set)
     }
 
-    pub fn has(self, v: u32) -> bool
-        requires { ⌜ Valid self ⌝ }
-        ensures { λ r. ⌜ r ≡ member self v ⌝ }
+    pub fn has(set: &[u32], v: u32) -> bool
+        requires { ⌜ Valid (now set) ⌝ }
+        ensures { λ r. ⌜ r ≡ member (now (set .entry)) v ⌝ }
     {
-        let n = self.n;
+        let n = cuts_in(set);
         let mut inside = false;
         let mut i: usize = 0;
         while i < n {
-            let c = self.cuts[i];
-            inside = merge::differ(inside, c <= v);
+            inside = merge::differ(inside, set[i] <= v);
             i += 1;
         }
         inside
     }
 
     // The distance from v to the nearest member.
-    pub fn distance(self, v: u32) -> Nearest
-        requires { ⌜ Valid self × (v < axis) ⌝ }
-        ensures { λ r. ⌜ r ≡ nearestOf (member self) v ⌝ }
+    pub fn distance(set: &[u32], v: u32) -> Nearest
+        requires { ⌜ Valid (now set) × (v < axis) ⌝ }
+        ensures { λ r. ⌜ r ≡ nearestOf (member (now (set .entry))) v ⌝ }
     {
-        let mut i = self.n;
+        let mut i = cuts_in(set);
         let mut any = false;
         let mut d: u32 = 0;
         while 0 < i {
             i -= 2;
-            let k = i + 1;
-            let low = self.cuts[i];
-            let end = self.cuts[k];
-            d = nearer(any, d, gap(low, end, v));
+            d = nearer(any, d, gap(set[i], set[i + 1], v));
             any = true;
         }
         if any {
@@ -163,66 +175,88 @@ impl RunSet {
     }
 
     // The number of maximal runs.
-    pub fn count(self) -> usize
-        requires { ⌜ Valid self ⌝ }
-        ensures { λ r. ⌜ r ≡ runCount (member self) ⌝ }
+    pub fn count(set: &[u32]) -> usize
+        requires { ⌜ Valid (now set) ⌝ }
+        ensures { λ r. ⌜ r ≡ runCount (member (now (set .entry))) ⌝ }
     {
-        self.n / 2
+        cuts_in(set) / 2
     }
 
     // The lowest and the highest number of a run.
-    pub fn low(self, run: usize) -> u32
-        requires { ⌜ Valid self × (run < runCount (member self)) ⌝ }
-        ensures { λ r. ⌜ r ≡ getD (lows (member self)) run 0 ⌝ }
+    pub fn low(set: &[u32], run: usize) -> u32
+        requires { ⌜ Valid (now set) × (run < runCount (member (now set))) ⌝ }
+        ensures { λ r. ⌜ r ≡ getD (lows (member (now (set .entry)))) run 0 ⌝ }
     {
-        let at = 2 * run;
-        self.cuts[at]
+        set[2 * run]
     }
 
-    pub fn high(self, run: usize) -> u32
-        requires { ⌜ Valid self × (run < runCount (member self)) ⌝ }
-        ensures { λ r. ⌜ r ≡ getD (highs (member self)) run 0 ⌝ }
+    pub fn high(set: &[u32], run: usize) -> u32
+        requires { ⌜ Valid (now set) × (run < runCount (member (now set))) ⌝ }
+        ensures { λ r. ⌜ r ≡ getD (highs (member (now (set .entry)))) run 0 ⌝ }
     {
-        let at = 2 * run + 1;
-        self.cuts[at] - 1
+        set[2 * run + 1] - 1
     }
 
     // Writes low and high of each run to the front of `out`.
-    pub fn write(self, out: &mut [u8])
-        requires { ⌜ Valid self × (8 * runCount (member self) ≤ length (now out)) ⌝ }
-        ensures { λ r. ⌜ now (out .exit) ≡ setBytes (member self) ++ drop (length (setBytes (member self))) (now (out .entry)) ⌝ }
+    pub fn write(set: &[u32], out: &mut [u8])
+        requires { ⌜ Valid (now set) × (8 * runCount (member (now set)) ≤ length (now out)) ⌝ }
+        ensures { λ r. ⌜ now (out .exit) ≡ setBytes (member (now (set .entry))) ++ drop (length (setBytes (member (now (set .entry))))) (now (out .entry)) ⌝ }
     {
-        let n = self.n / 2;
+        let n = RunSet::count(set);
         let mut i: usize = 0;
         while i < n {
-            let at = 2 * i;
-            let end = at + 1;
-            let low = self.cuts[at];
-            let high = self.cuts[end] - 1;
-            number::put_word(out, 8 * i, number::bits_at(low));
-            number::put_word(out, 8 * i + 4, number::bits_at(high));
+            number::put_word(out, 8 * i, number::bits_at(RunSet::low(set, i)));
+            number::put_word(out, 8 * i + 4, number::bits_at(RunSet::high(set, i)));
             i += 1;
         }
     }
 }
 
-// The set of an operation on two lists of cuts.
-fn limited(op: Op, a: &[u32], na: usize, b: &[u32], nb: usize) -> Made
-    requires { ⌜ Operand (now a) na × Operand (now b) nb ⌝ }
-    ensures { λ r. ⌜ Makes (λ v. opOf op (inside (take na (now (a .entry))) v) (inside (take nb (now (b .entry))) v)) r ⌝ }
+fn size(n: u32) -> usize
+    ensures { λ r. ⌜ r ≡ n ⌝ }
 {
-    let mut cuts = [0u32; CUTS];
-    let filled = merge::merge(op, a, na, b, nb, &mut cuts);
+    n as usize
+}
+
+// The number of cuts.
+fn cuts_in(set: &[u32]) -> usize
+    requires { ⌜ length (now set) ≡ slotWords ⌝ }
+    ensures { λ r. ⌜ r ≡ getD (now (set .entry)) (2 * mostRuns) 0 ⌝ }
+{
+    size(set[CUTS])
+}
+
+// The cuts.
+fn cuts_of(set: &[u32]) -> &[u32]
+    requires { ⌜ Valid (now set) ⌝ }
+    ensures { λ r. ⌜ now r ≡ cutsOf (now (set .entry)) ⌝ }
+{
+    let n = cuts_in(set);
+    &set[..n]
+}
+
+// Whether the last of n cuts is at low.
+fn ends_at(set: &[u32], n: usize, low: u32) -> bool
+    requires { ⌜ n ≤ length (now set) ⌝ }
+    ensures { λ r. ⌜ (r ≡ true → (0 < n) × (getD (now (set .entry)) (n - 1) 0 ≡ low)) × (r ≡ false → 0 < n → getD (now (set .entry)) (n - 1) 0 ≡ low → ⊥) ⌝ }
+{
+    if n == 0 {
+        return false;
+    }
+    set[n - 1] == low
+}
+
+// The set of an operation on two lists of cuts.
+fn combine(op: Op, a: &[u32], b: &[u32], set: &mut [u32]) -> bool
+    requires { ⌜ Canonical (now a) × Canonical (now b) × (length (now a) ≤ sharedWords) × (length (now b) ≤ sharedWords) × (length (now set) ≡ slotWords) ⌝ }
+    ensures { λ r. ⌜ Makes (λ v. opOf op (inside (now (a .entry)) v) (inside (now (b .entry)) v)) (now (set .exit)) r ⌝ }
+{
+    let filled = run::merge(op, a, b, &mut set[..CUTS]);
     if filled.over {
-        return Made {
-            over: true,
-            set: RunSet::empty(),
-        };
+        return true;
     }
-    Made {
-        over: false,
-        set: RunSet { cuts, n: filled.n },
-    }
+    set[CUTS] = filled.n as u32;
+    false
 }
 
 // From v to the run that begins at low and stops before end.

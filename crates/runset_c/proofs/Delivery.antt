@@ -14,7 +14,6 @@ use Rattle.runset.specs.laws.Distance.{distance-ext}
 use Rattle.runset.specs.Set.{member, Valid, Makes}
 use Rattle.runset.specs.laws.Runs.{runCount-ext, setBytes-ext}
 use Rattle.runset.specs.laws.Set.{makes-ext}
-use Rattle.runset.specs.declared.Made.{Made}
 use Rattle.runset_c.specs.Bytes.{chosen, asked, setOf, unfit, unfitAny, replyOf, outputOf, memberReply, distanceReply}
 use Rattle.runset_c.specs.Promises.{Loaded, Delivered}
 
@@ -50,29 +49,29 @@ chosen-ext op f g h f' g' h' v p q r =
 
 -- ---- what is delivered
 
-module _ (f : ℕ → Bool) (m : Made) (k : Makes f m) where
-  reply-over : (room : ℕ) → m .over ≡ true → replyOf false f room ≡ 4294967294
+module _ (f : ℕ → Bool) (words : List ℕ) (over : Bool) (k : Makes f words over) where
+  reply-over : (room : ℕ) → over ≡ true → replyOf false f room ≡ 4294967294
   unfolding replyOf
-  reply-over room o = ap (λ (b : Bool). cond b 4294967294 (cond (ltb room (8 * runCount f)) 4294967293 (runCount f))) (sym (k .over) ∙ o)
+  reply-over room o = ap (λ (b : Bool). cond b 4294967294 (cond (ltb room (8 * runCount f)) 4294967293 (runCount f))) (sym (k .flag) ∙ o)
 
-  no-over : (room : ℕ) → m .over ≡ false → replyOf false f room ≡ cond (ltb room (8 * runCount f)) 4294967293 (runCount f)
+  no-over : (room : ℕ) → over ≡ false → replyOf false f room ≡ cond (ltb room (8 * runCount f)) 4294967293 (runCount f)
   unfolding replyOf
-  no-over room o = ap (λ (b : Bool). cond b 4294967294 (cond (ltb room (8 * runCount f)) 4294967293 (runCount f))) (sym (k .over) ∙ o)
+  no-over room o = ap (λ (b : Bool). cond b 4294967294 (cond (ltb room (8 * runCount f)) 4294967293 (runCount f))) (sym (k .flag) ∙ o)
 
-  same-count : m .over ≡ false → runCount (member (m .set)) ≡ runCount f
-  same-count o = runCount-ext (member (m .set)) f (k .members o)
+  same-count : over ≡ false → runCount (member words) ≡ runCount f
+  same-count o = runCount-ext (member words) f (k .holds o .members)
 
-  reply-short : (room n : ℕ) → m .over ≡ false → n ≡ runCount (member (m .set)) → room < 8 * n → replyOf false f room ≡ 4294967293
+  reply-short : (room n : ℕ) → over ≡ false → n ≡ runCount (member words) → room < 8 * n → replyOf false f room ≡ 4294967293
   reply-short room n o e h =
       no-over room o ∙ ap (λ (b : Bool). cond b 4294967293 (runCount f)) (lt-ltb room (8 * runCount f) (let q : n ≡ runCount f = e ∙ same-count o in omega arith))
 
-  reply-count : (room n : ℕ) → m .over ≡ false → n ≡ runCount (member (m .set)) → 8 * n ≤ room → replyOf false f room ≡ n
+  reply-count : (room n : ℕ) → over ≡ false → n ≡ runCount (member words) → 8 * n ≤ room → replyOf false f room ≡ n
   reply-count room n o e h =
       let q : n ≡ runCount f = e ∙ same-count o in
       no-over room o ∙ ap (λ (b : Bool). cond b 4294967293 (runCount f)) (le-ltb room (8 * runCount f) (omega arith)) ∙ sym q
 
-  few-runs : m .over ≡ false → runCount f ≤ mostRuns
-  few-runs o = ltb-false mostRuns (runCount f) (sym (k .over) ∙ o)
+  few-runs : over ≡ false → runCount f ≤ mostRuns
+  few-runs o = ltb-false mostRuns (runCount f) (sym (k .flag) ∙ o)
 
 pub untouched : (refused : Bool) (f : ℕ → Bool) (before : List ℕ) (r : ℕ) → replyOf refused f (length before) ≡ r → 4294967293 ≤ r → before ≡ outputOf refused f before
 unfolding outputOf
@@ -84,28 +83,28 @@ unfolding outputOf
 put f before r e h =
     sym (ap (λ (b : Bool). cond b (setBytes f ++ drop (length (setBytes f)) before) before) (ap (λ (n : ℕ). ltb n 4294967293) e ∙ lt-ltb r 4294967293 h))
 
-pub delivered-over : (m : Made) (out : List ℕ) → m .over ≡ true → Delivered m out out 4294967294
-delivered-over m out o =
+pub delivered-over : (words : List ℕ) (over : Bool) (out : List ℕ) → over ≡ true → Delivered words over out out 4294967294
+delivered-over words over out o =
     record {
-      reply = λ f k. sym (reply-over f m k (length out) o);
-      output = λ f k. untouched false f out 4294967294 (reply-over f m k (length out) o) (omega arith);
+      reply = λ f k. sym (reply-over f words over k (length out) o);
+      output = λ f k. untouched false f out 4294967294 (reply-over f words over k (length out) o) (omega arith);
     }
 
-pub delivered-short : (m : Made) (out : List ℕ) (n : ℕ) → m .over ≡ false → n ≡ runCount (member (m .set)) → length out < 8 * n → Delivered m out out 4294967293
-delivered-short m out n o e h =
+pub delivered-short : (words : List ℕ) (over : Bool) (out : List ℕ) (n : ℕ) → over ≡ false → n ≡ runCount (member words) → length out < 8 * n → Delivered words over out out 4294967293
+delivered-short words over out n o e h =
     record {
-      reply = λ f k. sym (reply-short f m k (length out) n o e h);
-      output = λ f k. untouched false f out 4294967293 (reply-short f m k (length out) n o e h) (omega arith);
+      reply = λ f k. sym (reply-short f words over k (length out) n o e h);
+      output = λ f k. untouched false f out 4294967293 (reply-short f words over k (length out) n o e h) (omega arith);
     }
 
-pub delivered-set : (m : Made) (before after : List ℕ) (n : ℕ) → m .over ≡ false → n ≡ runCount (member (m .set)) → 8 * n ≤ length before
-    → after ≡ setBytes (member (m .set)) ++ drop (length (setBytes (member (m .set)))) before → Delivered m before after n
-delivered-set m before after n o e h w =
+pub delivered-set : (words : List ℕ) (over : Bool) (before after : List ℕ) (n : ℕ) → over ≡ false → n ≡ runCount (member words) → 8 * n ≤ length before
+    → after ≡ setBytes (member words) ++ drop (length (setBytes (member words))) before → Delivered words over before after n
+delivered-set words over before after n o e h w =
     record {
-      reply = λ f k. sym (reply-count f m k (length before) n o e h);
+      reply = λ f k. sym (reply-count f words over k (length before) n o e h);
       output = λ f k.
-          w ∙ ap (λ (l : List ℕ). l ++ drop (length l) before) (setBytes-ext (member (m .set)) f (k .members o))
-          ∙ put f before n (reply-count f m k (length before) n o e h) (let q : n ≡ runCount f = e ∙ same-count f m k o in omega (arith, few-runs f m k o));
+          w ∙ ap (λ (l : List ℕ). l ++ drop (length l) before) (setBytes-ext (member words) f (k .holds o .members))
+          ∙ put f before n (reply-count f words over k (length before) n o e h) (let q : n ≡ runCount f = e ∙ same-count f words over k o in omega (arith, few-runs f words over k o));
     }
 
 -- ---- bytes that are refused
@@ -120,15 +119,19 @@ refused-both refused f out e = (sym (refused-reply refused f (length out) e), un
 
 -- ---- all three sets are there
 
-pub asked-is : (op : ℕ) (a b c : List ℕ) (p q r : Made) → Loaded a p → Loaded b q → Loaded c r → p .over ≡ false → q .over ≡ false → r .over ≡ false
-    → (v : ℕ) → v < axis → chosen op (member (p .set)) (member (q .set)) (member (r .set)) v ≡ asked op a b c v
-asked-is op a b c p q r lp lq lr op' oq or' v h =
-    chosen-ext op (member (p .set)) (member (q .set)) (member (r .set)) (setOf a) (setOf b) (setOf c) v (lp .members op' v h) (lq .members oq v h) (lr .members or' v h)
+-- bytes that were not refused
+pub fine : (bytes words : List ℕ) (over : Bool) → Loaded bytes words over → over ≡ false → Loaded bytes words false
+fine bytes words over l o = subst (Loaded bytes words) o l
 
-pub made-asked : (op : ℕ) (a b c : List ℕ) (p q r m : Made) → Loaded a p → Loaded b q → Loaded c r → p .over ≡ false → q .over ≡ false → r .over ≡ false
-    → Makes (chosen op (member (p .set)) (member (q .set)) (member (r .set))) m → Makes (asked op a b c) m
-made-asked op a b c p q r m lp lq lr op' oq or' k =
-    makes-ext (chosen op (member (p .set)) (member (q .set)) (member (r .set))) (asked op a b c) m (asked-is op a b c p q r lp lq lr op' oq or') k
+pub asked-is : (op : ℕ) (a b c : List ℕ) (p q r : List ℕ) → Loaded a p false → Loaded b q false → Loaded c r false
+    → (v : ℕ) → v < axis → chosen op (member p) (member q) (member r) v ≡ asked op a b c v
+asked-is op a b c p q r lp lq lr v h =
+    chosen-ext op (member p) (member q) (member r) (setOf a) (setOf b) (setOf c) v (lp .holds refl .members v h) (lq .holds refl .members v h) (lr .holds refl .members v h)
+
+pub made-asked : (op : ℕ) (a b c : List ℕ) (p q r words : List ℕ) (over : Bool) → Loaded a p false → Loaded b q false → Loaded c r false
+    → Makes (chosen op (member p) (member q) (member r)) words over → Makes (asked op a b c) words over
+made-asked op a b c p q r words over lp lq lr k =
+    makes-ext (chosen op (member p) (member q) (member r)) (asked op a b c) words over (asked-is op a b c p q r lp lq lr) k
 
 -- one of three that is refused
 pub first-refused : (x y z : Bool) → x ≡ true → (x || (y || z)) ≡ true
@@ -143,39 +146,39 @@ third-refused true y z e = refl
 third-refused false true z e = refl
 third-refused false false z e = e
 
-pub none-refused : (a b c : List ℕ) (p q r : Made) → Loaded a p → Loaded b q → Loaded c r → p .over ≡ false → q .over ≡ false → r .over ≡ false → unfitAny a b c ≡ false
-none-refused a b c p q r lp lq lr op oq or' =
-    ap₂ (λ (x y : Bool). x || (y || unfit c)) (sym (lp .over) ∙ op) (sym (lq .over) ∙ oq) ∙ sym (lr .over) ∙ or'
+pub none-refused : (a b c : List ℕ) (p q r : List ℕ) → Loaded a p false → Loaded b q false → Loaded c r false → unfitAny a b c ≡ false
+none-refused a b c p q r lp lq lr =
+    ap₂ (λ (x y : Bool). x || (y || unfit c)) (sym (lp .flag)) (sym (lq .flag)) ∙ sym (lr .flag)
 
-pub all-delivered : (refused : Bool) (f : ℕ → Bool) (m : Made) (before after : List ℕ) (n : ℕ) → refused ≡ false → Makes f m → Delivered m before after n
+pub all-delivered : (refused : Bool) (f : ℕ → Bool) (words : List ℕ) (over : Bool) (before after : List ℕ) (n : ℕ) → refused ≡ false → Makes f words over → Delivered words over before after n
     → (n ≡ replyOf refused f (length before)) × (after ≡ outputOf refused f before)
-all-delivered refused f m before after n e k d =
+all-delivered refused f words over before after n e k d =
     (d .reply f k ∙ ap (λ (b : Bool). replyOf b f (length before)) (sym e), d .output f k ∙ ap (λ (b : Bool). outputOf b f before) (sym e))
 
 -- ---- one set and a number
 
-module _ (a : List ℕ) (p : Made) (l : Loaded a p) (v : ℕ) where
-  refused-is : (b : Bool) → p .over ≡ b → unfit a ≡ b
-  refused-is b o = sym (l .over) ∙ o
+module _ (a p : List ℕ) (over : Bool) (l : Loaded a p over) (v : ℕ) where
+  refused-is : (b : Bool) → over ≡ b → unfit a ≡ b
+  refused-is b o = sym (l .flag) ∙ o
 
-  pub member-refused : p .over ≡ true → 2 ≡ memberReply (unfit a) (setOf a) v
+  pub member-refused : over ≡ true → 2 ≡ memberReply (unfit a) (setOf a) v
   member-refused o = sym (ap (λ (b : Bool). memberReply b (setOf a) v) (refused-is true o))
 
-  pub member-off : p .over ≡ false → axis ≤ v → 3 ≡ memberReply (unfit a) (setOf a) v
+  pub member-off : over ≡ false → axis ≤ v → 3 ≡ memberReply (unfit a) (setOf a) v
   member-off o h = sym (ap₂ (λ (b c : Bool). cond b 2 (cond c 3 (cond (setOf a v) 1 0))) (refused-is false o) (le-leb axis v h))
 
-  pub member-said : p .over ≡ false → v < axis → (b : Bool) → b ≡ member (p .set) v → cond b 1 0 ≡ memberReply (unfit a) (setOf a) v
+  pub member-said : over ≡ false → v < axis → (b : Bool) → b ≡ member p v → cond b 1 0 ≡ memberReply (unfit a) (setOf a) v
   member-said o h b e =
-      ap (λ (x : Bool). cond x 1 0) (e ∙ l .members o v h)
+      ap (λ (x : Bool). cond x 1 0) (e ∙ l .holds o .members v h)
       ∙ sym (ap₂ (λ (b c : Bool). cond b 2 (cond c 3 (cond (setOf a v) 1 0))) (refused-is false o) (lt-leb axis v h))
 
-  pub distance-refused : p .over ≡ true → 4294967295 ≡ distanceReply (unfit a) (setOf a) v
+  pub distance-refused : over ≡ true → 4294967295 ≡ distanceReply (unfit a) (setOf a) v
   distance-refused o = sym (ap (λ (b : Bool). distanceReply b (setOf a) v) (refused-is true o))
 
-  pub distance-off : p .over ≡ false → axis ≤ v → 4294967294 ≡ distanceReply (unfit a) (setOf a) v
+  pub distance-off : over ≡ false → axis ≤ v → 4294967294 ≡ distanceReply (unfit a) (setOf a) v
   distance-off o h = sym (ap₂ (λ (b c : Bool). cond b 4294967295 (cond c 4294967294 (distance (setOf a) v))) (refused-is false o) (le-leb axis v h))
 
-  pub distance-said : p .over ≡ false → v < axis → (d : ℕ) → d ≡ distance (member (p .set)) v → d ≡ distanceReply (unfit a) (setOf a) v
+  pub distance-said : over ≡ false → v < axis → (d : ℕ) → d ≡ distance (member p) v → d ≡ distanceReply (unfit a) (setOf a) v
   distance-said o h d e =
-      e ∙ distance-ext (member (p .set)) (setOf a) v h (l .members o)
+      e ∙ distance-ext (member p) (setOf a) v h (l .holds o .members)
       ∙ sym (ap₂ (λ (b c : Bool). cond b 4294967295 (cond c 4294967294 (distance (setOf a) v))) (refused-is false o) (lt-leb axis v h))

@@ -12,7 +12,6 @@ use Rattle.number.specs.Axis.{axis}
 use Rattle.runset.specs.Runs.{mostRuns, runCount, lows}
 use Rattle.runset.specs.Set.{member, Makes}
 use Rattle.runset.specs.laws.Runs.{runCount-ext, lows-ext}
-use Rattle.runset.specs.declared.Made.{Made}
 use Rattle.runset_c.specs.Bytes.{sumOf, repeatReply}
 
 pub no-turn : (f : ℕ → Bool) → 0 ≡ repeatReply false f 0
@@ -24,34 +23,34 @@ no-turn f = by (ltb mostRuns (runCount f)) (eqb (runCount f) 0)
     by false true = refl
     by false false = refl
 
-module _ (f : ℕ → Bool) (m : Made) (k : Makes f m) (times : ℕ) where
-  pub over-reply : m .over ≡ true → 0 ≡ repeatReply false f times
+module _ (f : ℕ → Bool) (words : List ℕ) (over : Bool) (k : Makes f words over) (times : ℕ) where
+  pub over-reply : over ≡ true → 0 ≡ repeatReply false f times
   unfolding repeatReply
-  over-reply o = sym (ap (λ (b : Bool). cond b 0 (cond (eqb (runCount f) 0) 0 (sumOf f times))) (sym (k .over) ∙ o))
+  over-reply o = sym (ap (λ (b : Bool). cond b 0 (cond (eqb (runCount f) 0) 0 (sumOf f times))) (sym (k .flag) ∙ o))
 
-  pub same-runs : m .over ≡ false → runCount (member (m .set)) ≡ runCount f
-  same-runs o = runCount-ext (member (m .set)) f (k .members o)
+  pub same-runs : over ≡ false → runCount (member words) ≡ runCount f
+  same-runs o = runCount-ext (member words) f (k .holds o .members)
 
-  pub empty-reply : m .over ≡ false → (n : ℕ) → n ≡ runCount (member (m .set)) → n ≡ 0 → 0 ≡ repeatReply false f times
+  pub empty-reply : over ≡ false → (n : ℕ) → n ≡ runCount (member words) → n ≡ 0 → 0 ≡ repeatReply false f times
   unfolding repeatReply
   empty-reply o n e z =
-      sym (ap₂ (λ (a b : Bool). cond a 0 (cond b 0 (sumOf f times))) (sym (k .over) ∙ o) (eq-eqb (runCount f) 0 (sym (e ∙ same-runs o) ∙ z)))
+      sym (ap₂ (λ (a b : Bool). cond a 0 (cond b 0 (sumOf f times))) (sym (k .flag) ∙ o) (eq-eqb (runCount f) 0 (sym (e ∙ same-runs o) ∙ z)))
 
-  sum-reply : m .over ≡ false → (n : ℕ) → n ≡ runCount (member (m .set)) → (n ≡ 0 → ⊥) → repeatReply false f times ≡ sumOf f times
+  sum-reply : over ≡ false → (n : ℕ) → n ≡ runCount (member words) → (n ≡ 0 → ⊥) → repeatReply false f times ≡ sumOf f times
   unfolding repeatReply
   sum-reply o n e z =
-      ap₂ (λ (a b : Bool). cond a 0 (cond b 0 (sumOf f times))) (sym (k .over) ∙ o) (ne-eqb (runCount f) 0 (λ q. z (e ∙ same-runs o ∙ q)))
+      ap₂ (λ (a b : Bool). cond a 0 (cond b 0 (sumOf f times))) (sym (k .flag) ∙ o) (ne-eqb (runCount f) 0 (λ q. z (e ∙ same-runs o ∙ q)))
 
 -- one more turn
-pub one-more : (f : ℕ → Bool) (m : Made) (k : Makes f m) (i total n low r : ℕ) → m .over ≡ false → n ≡ runCount (member (m .set)) → (n ≡ 0 → ⊥)
-    → total ≡ repeatReply false f i → low ≡ getD (lows (member (m .set))) (total % n) 0 → r ≡ (total + low) % 2 ^ 64 → r ≡ repeatReply false f (i + 1)
+pub one-more : (f : ℕ → Bool) (words : List ℕ) (over : Bool) (k : Makes f words over) (i total n low r : ℕ) → over ≡ false → n ≡ runCount (member words) → (n ≡ 0 → ⊥)
+    → total ≡ repeatReply false f i → low ≡ getD (lows (member words)) (total % n) 0 → r ≡ (total + low) % 2 ^ 64 → r ≡ repeatReply false f (i + 1)
 unfolding sumOf
-one-more f m k i total n low r o e z t l s =
-    let q : total ≡ sumOf f i = t ∙ sum-reply f m k i o n e z in
-    let c : n ≡ runCount f = e ∙ same-runs f m k i o in
+one-more f words over k i total n low r o e z t l s =
+    let q : total ≡ sumOf f i = t ∙ sum-reply f words over k i o n e z in
+    let c : n ≡ runCount f = e ∙ same-runs f words over k i o in
     let w : low ≡ getD (lows f) (sumOf f i % runCount f) 0 =
-    l ∙ ap₂ (λ (x : List ℕ) (y : ℕ). getD x y 0) (lows-ext (member (m .set)) f (k .members o)) (ap₂ _%_ q c) in
-    s ∙ ap₂ (λ (x y : ℕ). (x + y) % 2 ^ 64) q w ∙ sym (ap (sumOf f) (add-one i)) ∙ sym (sum-reply f m k (i + 1) o n e z)
+    l ∙ ap₂ (λ (x : List ℕ) (y : ℕ). getD x y 0) (lows-ext (member words) f (k .holds o .members)) (ap₂ _%_ q c) in
+    s ∙ ap₂ (λ (x y : ℕ). (x + y) % 2 ^ 64) q w ∙ sym (ap (sumOf f) (add-one i)) ∙ sym (sum-reply f words over k (i + 1) o n e z)
 
 pub refused-repeat : (refused : Bool) (f : ℕ → Bool) (times : ℕ) → refused ≡ true → 0 ≡ repeatReply refused f times
 unfolding repeatReply

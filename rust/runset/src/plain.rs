@@ -1,22 +1,18 @@
-//! The same sets in plain Rust: the ascending cuts by value, one merge for every operation.
+//! The same sets in plain Rust, held alike: the ascending cuts in words that are lent, and their number in the last word. One merge for every operation.
 
 pub const AXIS: u32 = 4_000_000_001;
 pub const MOST_RUNS: usize = 256;
 pub const CUTS: usize = 2 * MOST_RUNS;
+pub const SLOT: usize = CUTS + 1;
+pub const SHARED: usize = 2 * CUTS;
 
-#[derive(Clone, Copy, PartialEq, Debug)]
-pub struct RunSet {
-    pub cuts: [u32; CUTS],
-    pub n: usize,
+pub type Slot = [u32; SLOT];
+
+pub const EMPTY: Slot = [0; SLOT];
+
+fn cuts(a: &[u32]) -> &[u32] {
+    &a[..a[CUTS] as usize]
 }
-
-#[derive(Clone, Copy, PartialEq, Debug)]
-pub struct Made {
-    pub over: bool,
-    pub set: RunSet,
-}
-
-pub const EMPTY: RunSet = RunSet { cuts: [0; CUTS], n: 0 };
 
 fn merge(f: impl Fn(bool, bool) -> bool, a: &[u32], b: &[u32], out: &mut [u32]) -> Option<usize> {
     let (mut i, mut j, mut n) = (0, 0, 0);
@@ -49,34 +45,29 @@ fn merge(f: impl Fn(bool, bool) -> bool, a: &[u32], b: &[u32], out: &mut [u32]) 
     Some(n)
 }
 
-fn limited(f: impl Fn(bool, bool) -> bool, a: &[u32], b: &[u32]) -> Made {
-    let mut cuts = [0; CUTS];
-    match merge(f, a, b, &mut cuts) {
-        None => Made { over: true, set: EMPTY },
-        Some(n) => Made { over: false, set: RunSet { cuts, n } },
+fn limited(f: impl Fn(bool, bool) -> bool, a: &[u32], b: &[u32], set: &mut [u32]) -> bool {
+    match merge(f, a, b, &mut set[..CUTS]) {
+        None => true,
+        Some(n) => {
+            set[CUTS] = n as u32;
+            false
+        }
     }
 }
 
-impl RunSet {
-    fn list(&self) -> &[u32] {
-        &self.cuts[..self.n]
-    }
+pub fn or(a: &[u32], b: &[u32], set: &mut [u32]) -> bool {
+    limited(|p, q| p || q, cuts(a), cuts(b), set)
+}
 
-    pub fn or(self, t: RunSet) -> Made {
-        limited(|p, q| p || q, self.list(), t.list())
-    }
+pub fn and(a: &[u32], b: &[u32], set: &mut [u32]) -> bool {
+    limited(|p, q| p && q, cuts(a), cuts(b), set)
+}
 
-    pub fn and(self, t: RunSet) -> Made {
-        limited(|p, q| p && q, self.list(), t.list())
-    }
+pub fn not(a: &[u32], set: &mut [u32]) -> bool {
+    limited(|p, q| p != q, &[0, AXIS], cuts(a), set)
+}
 
-    pub fn not(self) -> Made {
-        limited(|p, q| p != q, &[0, AXIS], self.list())
-    }
-
-    pub fn or_and(self, p: RunSet, r: RunSet) -> Made {
-        let mut shared = [0; 2 * CUTS];
-        let n = merge(|p, q| p && q, p.list(), r.list(), &mut shared).unwrap();
-        limited(|p, q| p || q, self.list(), &shared[..n])
-    }
+pub fn or_and(a: &[u32], p: &[u32], r: &[u32], shared: &mut [u32], set: &mut [u32]) -> bool {
+    let n = merge(|p, q| p && q, cuts(p), cuts(r), shared).unwrap();
+    limited(|p, q| p || q, cuts(a), &shared[..n], set)
 }

@@ -226,10 +226,10 @@ fn plain_is_the_same() {
     let set = |list: &[Run]| {
         let mut s = plain::EMPTY;
         for (k, q) in list.iter().enumerate() {
-            s.cuts[2 * k] = index(q.0);
-            s.cuts[2 * k + 1] = index(q.1) + 1;
+            s[2 * k] = index(q.0);
+            s[2 * k + 1] = index(q.1) + 1;
         }
-        s.n = 2 * list.len();
+        s[plain::CUTS] = 2 * list.len() as u32;
         s
     };
     for _ in 0..2000 {
@@ -238,15 +238,18 @@ fn plain_is_the_same() {
         for op in OPS {
             let want = expected(op, &a, &b, &c);
             let (x, y, z) = (set(&a), set(&b), set(&c));
-            let made = match op {
-                Op::Or => x.or(y),
-                Op::And => x.and(y),
-                Op::Not => x.not(),
-                Op::OrAnd => x.or_and(y, z),
+            let (mut shared, mut made) = ([0; plain::SHARED], plain::EMPTY);
+            let over = match op {
+                Op::Or => plain::or(&x, &y, &mut made),
+                Op::And => plain::and(&x, &y, &mut made),
+                Op::Not => plain::not(&x, &mut made),
+                Op::OrAnd => plain::or_and(&x, &y, &z, &mut shared, &mut made),
             };
-            assert_eq!(made.over, want.len() > MOST_RUNS);
-            if !made.over {
-                assert_eq!(made.set, set(&want));
+            assert_eq!(over, want.len() > MOST_RUNS);
+            if !over {
+                let (n, want) = (2 * want.len(), set(&want));
+                assert_eq!(made[..n], want[..n]);
+                assert_eq!(made[plain::CUTS], want[plain::CUTS]);
             }
         }
     }

@@ -24,13 +24,13 @@ enum-told c = search needs
 
 returns : tie.Need-returns
 returns c =
-    let a = c .before .before .before .before .before .args in
-    near-at (member (a .set)) (a .index) _ (sym (c .before .before .nearest .given .1) ∙ c .before .before .before .before .distance .ensures) _ (c .grade .ensures)
+    let a = c .before .before .before .before .before .before .args in
+    near-at (member (a .set .now)) (a .index) _ (sym (c .before .before .nearest .given .1) ∙ c .before .before .before .before .distance .ensures) _ (c .grade .ensures)
 
 returns-2 : tie.Need-returns-2
 returns-2 c =
-    let a = c .before .before .before .args in
-    near-nothing (member (a .set)) (a .index) (sym (c .enum-told .given .1) ∙ c .before .before .distance .ensures)
+    let a = c .before .before .before .before .args in
+    near-nothing (member (a .set .now)) (a .index) (sym (c .enum-told .given .1) ∙ c .before .before .distance .ensures)
 
 pub near-set-spec : {M : Type 1} → statement M
 near-set-spec =

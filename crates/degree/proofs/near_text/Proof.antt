@@ -4,14 +4,12 @@ use Rattle.degree.specs.laws.Call.{text-refused, text-near}
 use borrow.Author.Needs.{needs}
 use Rattle.degree.proofs.near_text.Statement.{statement}
 use Rattle.degree.proofs.near_text.Tie as tie
-use Rattle.degree.proofs.near_text.Reads as reads
-use Rattle.degree.proofs.near_text.Lts as lts
-use Rattle.degree.proofs.near_set.Reads as near-set-reads
-use Rattle.question.proofs.answered.set_of.Reads as set-of-reads
+
+slice-aggregate-set-of : tie.Need-slice-aggregate-set-of
+slice-aggregate-set-of c = search needs
 
 set-of-requires : tie.Need-set-of-requires
-set-of-requires c κs =
-    c .before .before .pre .0
+set-of-requires c κs = search needs
 
 enum-known-verdict : tie.Need-enum-known-verdict
 enum-known-verdict c = search needs
@@ -19,22 +17,30 @@ enum-known-verdict c = search needs
 enum-told : tie.Need-enum-told
 enum-told c = search needs
 
+slice-aggregate-near-set : tie.Need-slice-aggregate-near-set
+slice-aggregate-near-set c = search needs
+
 near-set-requires : tie.Need-near-set-requires
-near-set-requires c κs =
-    (c .before .before .before .set-of .ensures .set (c .before .enum-told .given .1) .valid, c .before .before .before .before .before .before .pre .1)
+near-set-requires c κs = (c .before .before .before .before .set-of .ensures .set (c .before .enum-told .given .1) .valid, c .before .before .before .before .before .before .before .before .pre .1)
 
 returns : tie.Need-returns
-returns c =
-    let a = c .before .before .before .before .before .before .args in
-    text-refused (a .rec .now) (textOf (a .table .now) (a .count)) _ (c .before .before .before .set-of .ensures) (a .index) _ (c .before .verdict .given .1)
+returns c = let a = c .before .before .before .before .before .before .before .before .args in text-refused (a .rec .now) (textOf (a .table .now) (a .count)) _ _ (c .before .before .before .before .set-of .ensures) (a .index) _ (c .before .verdict .given .1)
 
 returns-2 : tie.Need-returns-2
 returns-2 c =
-    let s = c .before .before .before .before .before .before .before in
+    let s = c .before .before .before .before .before .before .before .before .before in
     let a = s .args in
-    text-near (a .rec .now) (textOf (a .table .now) (a .count)) _ (c .before .before .before .before .set-of .ensures) (a .index) (c .before .before .enum-told .given .1) (s .pre .1) _ (c .near-set .ensures)
+    text-near (a .rec .now) (textOf (a .table .now) (a .count)) _ _ (c .before .before .before .before .before .set-of .ensures) (a .index) (c .before .before .enum-told .given .1) (s .pre .1) _ (c .near-set .ensures)
 
 pub near-text-spec : {M : Type 1} → statement M
 near-text-spec =
     tie.close
-    (tie.spec set-of-requires enum-known-verdict enum-told near-set-requires returns returns-2)
+    (tie.spec
+    slice-aggregate-set-of
+    set-of-requires
+    enum-known-verdict
+    enum-told
+    slice-aggregate-near-set
+    near-set-requires
+    returns
+    returns-2)

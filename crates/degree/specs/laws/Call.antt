@@ -31,7 +31,7 @@ use Rattle.question.specs.inner.Answered.{Gives}
 use Rattle.question.specs.declared.prepare.Prepared.{Prepared}
 use Rattle.question.specs.declared.prepare.Prepared.the-variants as prepared
 use Rattle.question.specs.declared.answered.Verdict.the-variants.{Fine, Refused}
-use Rattle.question.specs.declared.answered.Answered.{Answered}
+use Rattle.question.specs.declared.answered.Verdict.{Verdict}
 use Rattle.ratio.specs.Degree.{distanceOf, degreeOf}
 use Rattle.ratio.specs.laws.Degree.{distance-number, degree-number}
 use Rattle.targets.specs.Target.{Placed}
@@ -83,15 +83,15 @@ value-ext f g v h e = ap (λ (d : ℕ). cond (ltb d axis) (graded d) noValue) (d
 
 -- ---- a text that was read
 
-module _ (bytes : List ℕ) (p : Text) (a : Answered) (g : Gives bytes p a) (v : ℕ) where
-  pub text-refused : (x : Refusal) → a .verdict ≡ Refused x
+module _ (bytes : List ℕ) (p : Text) (words : List ℕ) (a : Verdict) (g : Gives bytes p words a) (v : ℕ) where
+  pub text-refused : (x : Refusal) → a ≡ Refused x
       → refused (numberOf x) (placeOf x) ≡ judged (setLines bytes p) (valueOf (λ n. val (coded bytes) n p 0) v)
   text-refused x e = sym (refusal-stands (setLines bytes p) [] tt (valueOf (λ n. val (coded bytes) n p 0) v) (numberOf x) (placeOf x) (g .refusal x e))
 
-  pub text-near : a .verdict ≡ Fine → v < axis → (o : Outcome Value) → o ≡ result (valueOf (member (a .set)) v)
+  pub text-near : a ≡ Fine → v < axis → (o : Outcome Value) → o ≡ result (valueOf (member words) v)
       → o ≡ judged (setLines bytes p) (valueOf (λ n. val (coded bytes) n p 0) v)
   text-near e h o q =
-      q ∙ ap result (value-ext (member (a .set)) (λ n. val (coded bytes) n p 0) v h (g .set e .members))
+      q ∙ ap result (value-ext (member words) (λ n. val (coded bytes) n p 0) v h (g .set e .members))
       ∙ sym (judged-none (setLines bytes p) (valueOf (λ n. val (coded bytes) n p 0) v) (g .none e))
 
 -- ---- a target

@@ -1,132 +1,134 @@
--- `collect` meets its contract. The invariant: the cuts are those of the part below some x, and d is the least difference from x on.
-use Prim.Native.Nat.{ℕ, _≤_, _<_, _-_, _+_, _*_}
+-- `collect` meets its contract. The invariant: the set holds the part below some x, and d is the least difference from x on.
+use Prim.Native.Nat.{ℕ, _≤_, _<_, _-_, _+_}
 use native.Mathlib.Omega.{arith}
-use mathlib.Core.Path.{_≡_}
-use mathlib.Core.Bool.{Bool, true, false}
+use mathlib.Core.Path.{_≡_, sym, _∙_}
+use mathlib.Core.Bool.{Bool, true, false, _&&_, _||_}
 use mathlib.Core.List.{List}
-use lib.ListN.{set, replicate}
+use lib.Dec.{leb}
 use borrow.Author.Tests.{lt-leb}
 use Rattle.number.specs.Axis.{axis}
-use Rattle.runset.specs.Runs.{mostRuns}
+use Rattle.runset.specs.Set.{member, Holds, Makes}
 use Rattle.differences.specs.inner.Search.{Least, Follows, from, chosen}
-use Rattle.differences.specs.inner.Cuts.{Collects}
-use Rattle.differences.proofs.CutsLaws.{least-from, past-from, Gathered, gathered-none, gathered-room, gathered-run, run-grows, gathered-end, gathered-over}
+use Rattle.differences.proofs.GatherLaws.{Gathered, gathered-none, gathered-end, gathered-behind, gathered-run, gathered-over, run-grows, least-from, past-from}
 use borrow.Author.Needs.{needs}
 use Rattle.differences.proofs.collect.Statement.{statement}
 use Rattle.differences.proofs.collect.Tie as tie
 
-record Loop (f : ℕ → Bool) (low : ℕ) (o : List ℕ) (n d : ℕ) : Type 0 where
+record Loop (f : ℕ → Bool) (low : ℕ) (words : List ℕ) (d : ℕ) : Type 0 where
   pub x : ℕ
   pub begun : low ≤ x
-  pub gathered : Gathered (from low f) x o n
+  pub gathered : Gathered (from low f) x words
   pub least : Least f x d
 
-start : (f : ℕ → Bool) (low d : ℕ) → low ≤ axis → Least f low d → Loop f low (replicate (2 * mostRuns) 0) 0 d
-start f low d h l = record {
+start : (f : ℕ → Bool) (low d : ℕ) (words : List ℕ) → low ≤ axis → Holds (λ v. false) words → Least f low d → Loop f low words d
+start f low d words h w l = record {
   x = low;
   begun = omega arith;
-  gathered = gathered-none (from low f) low h (λ w k. rw (lt-leb low w k));
+  gathered = gathered-none (from low f) low words h (λ w k. rw (lt-leb low w k)) w;
   least = l;
 }
 
-module _ (f : ℕ → Bool) (low : ℕ) (o : List ℕ) (n d : ℕ) (h : Loop f low o n d) where
+module _ (f : ℕ → Bool) (low : ℕ) (words : List ℕ) (d : ℕ) (h : Loop f low words d) where
   first : Least (from low f) (h .x) d
   first = least-from f low (h .x) (h .begun) d (h .least)
 
-  full : n ≡ 2 * mostRuns → d < axis → Collects (from low f) (record { over = true; n = 0; cuts = replicate (2 * mostRuns) 0 })
-  full e here = gathered-over (from low f) (h .x) o n (h .gathered) e d first here
-
-  done : axis ≤ d → Collects (from low f) (record { over = false; n = n; cuts = o })
-  done k = gathered-end (from low f) (h .x) o n (h .gathered) (λ w u v. first .gap w u (omega arith))
+  done : axis ≤ d → Makes (from low f) words false
+  done k = gathered-end (from low f) (h .x) words (h .gathered) (λ w u v. first .gap w u (omega arith))
 
   module _ (here : d < axis) (e next : ℕ) (r : Follows f d e next) where
     d-low : low ≤ d
     d-low = omega (arith, h .begun, h .least .low)
 
     d-less : d < e
-    d-less = run-grows (from low f) (h .x) o n (h .gathered) d e first here (past-from f low d d-low e (r .past))
+    d-less = run-grows f (h .x) d e (h .least) here (r .past)
+
+    full : (v : ℕ) → d ≤ v → v < e → from low f v ≡ true
+    full = past-from f low d d-low e (r .past) .full
+
+    behind : e ≡ (e - 1) + 1
+    behind = let g = d-less in omega arith
 
     less : axis - next < axis - d
     less = omega (arith, d-less, r .least .low)
 
-    turn : (n ≡ 2 * mostRuns → ⊥) → Loop f low (set (set o n d) (n + 1) e) (n + 2) next
-    turn room = record {
-      x = e;
-      begun = omega (arith, d-low, d-less);
-      gathered = gathered-run (from low f) (h .x) o n (h .gathered) d e first here (past-from f low d d-low e (r .past)) room;
-      least = r .least;
-    }
+    below : (v : ℕ) → v < axis → member words v ≡ true → v < d
+    below = gathered-behind (from low f) (h .x) words (h .gathered) d (e - 1) e behind first d-less (r .past .end) full
+
+    module _ (after : List ℕ) (over : Bool) (m : Makes (λ v. member words v || (leb d v && leb v (e - 1))) after over) where
+      turn : over ≡ false → Loop f low after next
+      turn o = record {
+        x = e;
+        begun = omega (arith, d-low, d-less);
+        gathered = gathered-run (from low f) (h .x) words (h .gathered) d (e - 1) e behind first d-less (r .past .end) full after over m o;
+        least = r .least;
+      }
+
+      too-many : over ≡ true → Makes (from low f) after true
+      too-many o = gathered-over (from low f) (h .x) words (h .gathered) d (e - 1) e behind first d-less (r .past .end) full after over m o
 
 abbrev Inv-loop : tie.InvT-loop
-Inv-loop near a b low cuts₀ n₀ d₀ cuts n d = (n ≤ 2 * mostRuns) × Loop (chosen near a b) low cuts n d
+Inv-loop near a b low set₀ d₀ set d = Loop (chosen near a b) low set d
 
 abbrev μ-loop : tie.MeasureT-loop
-μ-loop near a b low cuts₀ n₀ d₀ cuts n d = axis - d
+μ-loop near a b low set₀ d₀ set d = axis - d
+
+empty-requires : tie.Need-empty-requires Inv-loop μ-loop
+empty-requires c κs = c .before .before .before .before .pre .3
 
 least-of-requires : tie.Need-least-of-requires Inv-loop μ-loop
 least-of-requires c κs = search needs
 
 loop-holds : tie.Need-loop-holds Inv-loop μ-loop
-loop-holds c =
-    let s = c .before .before .before in
-    (omega arith, start (chosen (s .args .near) (s .args .a .now) (s .args .b .now)) (s .args .low) (c .least-of .result) (s .pre .2) (c .least-of .ensures))
-
-returns : tie.Need-returns Inv-loop μ-loop
-returns c =
-    let h = c .before .before in
-    let s = h .before .before .before .before in
-    full (chosen (s .args .near) (s .args .a .now) (s .args .b .now)) (s .args .low) (h .loop .cuts) (h .loop .n) (h .loop .d) (h .loop .inv .1)
-    (c .if1 .taken) (c .before .loop-test .taken)
+loop-holds c = let s = c .before .before .before .before .before .before .before .before in start (chosen (s .args .near) (s .args .a .now) (s .args .b .now)) (s .args .low) (c .least-of .result) _ (s .pre .2) (c .before .before .before .empty .ensures) (c .least-of .ensures)
 
 run-from-requires : tie.Need-run-from-requires Inv-loop μ-loop
 run-from-requires c κs =
-    let h = c .before .before in
-    let s = h .before .before .before .before in
-    let here = c .before .loop-test .taken in
-    (s .pre .0, s .pre .1, here, h .loop .inv .1 .least .here here)
+    let s = c .before .before .before .before .before .before .before .before .before .before in
+    let here = c .loop-test .taken in
+    (s .pre .0, s .pre .1, here, c .before .loop .inv .least .here here)
 
-mul-cuts : tie.Need-mul-cuts Inv-loop μ-loop
-mul-cuts c = search needs
+sub-add : tie.Need-sub-add Inv-loop μ-loop
+sub-add c =
+    let s = c .before .before .before .before .before .before .before .before .before .before .before .before .before in
+    let l = c .before .before .before .before .loop in
+    omega (arith, d-less (chosen (s .args .near) (s .args .a .now) (s .args .b .now)) (s .args .low) (l .set) (l .d) (l .inv) (c .before .before .before .loop-test .taken) (c .before .before .run-from .result .end) (c .before .before .run-from .result .next) (c .before .before .run-from .ensures))
 
-array-write-cuts : tie.Need-array-write-cuts Inv-loop μ-loop
-array-write-cuts c = search needs
+add-requires : tie.Need-add-requires Inv-loop μ-loop
+add-requires c κs =
+    let s = c .before .before .before .before .before .before .before .before .before .before .before .before .before in
+    let l = c .before .before .before .before .loop in
+    let g = d-less (chosen (s .args .near) (s .args .a .now) (s .args .b .now)) (s .args .low) (l .set) (l .d) (l .inv) (c .before .before .before .loop-test .taken) (c .before .before .run-from .result .end) (c .before .before .run-from .result .next) (c .before .before .run-from .ensures) in
+    ((l .inv .gathered .held .valid), below (chosen (s .args .near) (s .args .a .now) (s .args .b .now)) (s .args .low) (l .set) (l .d) (l .inv) (c .before .before .before .loop-test .taken) (c .before .before .run-from .result .end) (c .before .before .run-from .result .next) (c .before .before .run-from .ensures), omega arith, omega (arith, c .before .before .run-from .ensures .past .end))
 
-add-cuts : tie.Need-add-cuts Inv-loop μ-loop
-add-cuts c = search needs
+same-length : tie.Need-same-length Inv-loop μ-loop
+same-length c = let s = c .before .before .before .before .before .before .before .before .before .before .before .before .before .before .before .before .before in c .before .before .before .add .kept .0 ∙ c .before .before .before .before .before .before .before .before .loop .inv .gathered .held .valid .size ∙ sym (s .pre .3)
 
-mul-cuts-2 : tie.Need-mul-cuts-2 Inv-loop μ-loop
-mul-cuts-2 c = search needs
-
-array-write-cuts-2 : tie.Need-array-write-cuts-2 Inv-loop μ-loop
-array-write-cuts-2 c =
-    let h = c .before .before .before in
-    let r = gathered-room _ _ _ _ (h .loop .inv .1 .gathered) (c .before .if1 .left) in
-    omega arith
-
-add-n : tie.Need-add-n Inv-loop μ-loop
-add-n c = search needs
+returns : tie.Need-returns Inv-loop μ-loop
+returns c =
+    let s = c .before .before .before .before .before .before .before .before .before .before .before .before .before .before .before .before .before in
+    let l = c .before .before .before .before .before .before .before .before .loop in
+    too-many (chosen (s .args .near) (s .args .a .now) (s .args .b .now)) (s .args .low) (l .set) (l .d) (l .inv) (c .before .before .before .before .before .before .before .loop-test .taken) (c .before .before .before .before .before .before .run-from .result .end) (c .before .before .before .before .before .before .run-from .result .next) (c .before .before .before .before .before .before .run-from .ensures) _ _ (c .before .before .before .add .ensures) (c .if1 .taken)
 
 loop-less : tie.Need-loop-less Inv-loop μ-loop
 loop-less c =
-    let h = c .before .before .before in
-    let s = h .before .before .before .before in
-    less (chosen (s .args .near) (s .args .a .now) (s .args .b .now)) (s .args .low) (h .loop .cuts) (h .loop .n) (h .loop .d) (h .loop .inv .1)
-    (c .before .before .loop-test .taken) (c .run-from .result .end) (c .run-from .result .next) (c .run-from .ensures)
+    let s = c .before .before .before .before .before .before .before .before .before .before .before .before .before .before .before .before .before in
+    let l = c .before .before .before .before .before .before .before .before .loop in
+    less (chosen (s .args .near) (s .args .a .now) (s .args .b .now)) (s .args .low) (l .set) (l .d) (l .inv) (c .before .before .before .before .before .before .before .loop-test .taken) (c .before .before .before .before .before .before .run-from .result .end) (c .before .before .before .before .before .before .run-from .result .next) (c .before .before .before .before .before .before .run-from .ensures)
 
 loop-again : tie.Need-loop-again Inv-loop μ-loop
 loop-again c =
-    let h = c .before .before .before in
-    let s = h .before .before .before .before in (
-      gathered-room _ _ _ _ (h .loop .inv .1 .gathered) (c .before .if1 .left),
-      turn (chosen (s .args .near) (s .args .a .now) (s .args .b .now)) (s .args .low) (h .loop .cuts) (h .loop .n) (h .loop .d) (h .loop .inv .1)
-          (c .before .before .loop-test .taken) (c .run-from .result .end) (c .run-from .result .next) (c .run-from .ensures) (c .before .if1 .left),
-    )
+    let s = c .before .before .before .before .before .before .before .before .before .before .before .before .before .before .before .before .before in
+    let l = c .before .before .before .before .before .before .before .before .loop in
+    turn (chosen (s .args .near) (s .args .a .now) (s .args .b .now)) (s .args .low) (l .set) (l .d) (l .inv) (c .before .before .before .before .before .before .before .loop-test .taken) (c .before .before .before .before .before .before .run-from .result .end) (c .before .before .before .before .before .before .run-from .result .next) (c .before .before .before .before .before .before .run-from .ensures) _ _ (c .before .before .before .add .ensures) (c .if1 .left)
+
+same-length-2 : tie.Need-same-length-2 Inv-loop μ-loop
+same-length-2 c = let s = c .before .before .before .before .before .before .before .before .before .before in c .before .loop .inv .gathered .held .valid .size ∙ sym (s .pre .3)
 
 returns-2 : tie.Need-returns-2 Inv-loop μ-loop
 returns-2 c =
-    let h = c .before in
-    let s = h .before .before .before .before in
-    done (chosen (s .args .near) (s .args .a .now) (s .args .b .now)) (s .args .low) (h .loop .cuts) (h .loop .n) (h .loop .d) (h .loop .inv .1) (c .loop-test .left)
+    let s = c .before .before .before .before .before .before .before .before .before .before in
+    let l = c .before .loop in
+    done (chosen (s .args .near) (s .args .a .now) (s .args .b .now)) (s .args .low) (l .set) (l .d) (l .inv) (c .loop-test .left)
 
 pub collect-spec : {M : Type 1} → statement M
 collect-spec =
@@ -134,16 +136,15 @@ collect-spec =
     (tie.spec
     Inv-loop
     μ-loop
+    empty-requires
     least-of-requires
     loop-holds
-    returns
     run-from-requires
-    mul-cuts
-    array-write-cuts
-    add-cuts
-    mul-cuts-2
-    array-write-cuts-2
-    add-n
+    sub-add
+    add-requires
+    same-length
+    returns
     loop-less
     loop-again
+    same-length-2
     returns-2)

@@ -1,125 +1,111 @@
--- `moments` meets its contract. The invariant: the cuts are those of the part below some x, and x parts the times before place i from the others.
-use Prim.Native.Nat.{ℕ, _≤_, _<_, _-_, _+_, _*_}
+-- `moments` meets its contract. The invariant: the set holds the times passed.
+use Prim.Native.Nat.{ℕ, _≤_, _<_, _-_, _+_}
 use native.Mathlib.Omega.{arith}
-use mathlib.Core.Path.{_≡_}
-use mathlib.Core.Bool.{true, false}
+use mathlib.Core.Path.{_≡_, refl, sym, _∙_}
+use mathlib.Core.Bool.{Bool, true, false, _&&_, _||_}
 use mathlib.Core.List.{List}
-use lib.ListN.{length, getD, set, replicate}
-use Rattle.runset.specs.Runs.{mostRuns}
+use lib.Dec.{leb}
+use lib.ListN.{length, getD}
+use Rattle.number.specs.Axis.{axis}
+use Rattle.runset.specs.Set.{member, Holds, Makes}
+use Rattle.differences.specs.inner.Search.{Least}
 use Rattle.differences.specs.inner.Times.{Times, momentsOf}
-use Rattle.differences.specs.inner.Search.{Streak}
-use Rattle.differences.specs.inner.Cuts.{Collects}
-use Rattle.differences.proofs.CutsLaws.{Gathered, gathered-none, gathered-room, gathered-run, gathered-end, gathered-over}
-use Rattle.differences.proofs.MomentLaws.{Parted, parted-start, parted-on, moment-least, moment-past, on-axis, nothing-left}
+use Rattle.differences.proofs.GatherLaws.{Gathered, gathered-none, gathered-end, gathered-behind, gathered-run, gathered-over}
+use Rattle.differences.proofs.MomentLaws.{Parted, parted-start, nothing-left, on-axis, moment-least, alone, parted-on}
 use borrow.Author.Needs.{needs}
 use Rattle.differences.proofs.moments.Statement.{statement}
 use Rattle.differences.proofs.moments.Tie as tie
 
-record Loop (t : List ℕ) (o : List ℕ) (n i : ℕ) : Type 0 where
+record Loop (l : List ℕ) (i : ℕ) (words : List ℕ) : Type 0 where
   pub x : ℕ
-  pub gathered : Gathered (momentsOf t) x o n
-  pub parted : Parted t i x
+  pub parted : Parted l i x
+  pub gathered : Gathered (momentsOf l) x words
 
-start : (t : List ℕ) → Loop t (replicate (2 * mostRuns) 0) 0 0
-start t = record { x = 0; gathered = gathered-none (momentsOf t) 0 (omega arith) (λ w k. absurd (omega arith)); parted = parted-start t }
+start : (l words : List ℕ) → Holds (λ v. false) words → Loop l 0 words
+start l words w = record { x = 0; parted = parted-start l; gathered = gathered-none (momentsOf l) 0 words (omega arith) (λ v k. absurd (omega arith)) w }
 
-module _ (t : List ℕ) (times : Times t) (o : List ℕ) (n i : ℕ) (h : Loop t o n i) where
-  done : length t ≤ i → Collects (momentsOf t) (record { over = false; n = n; cuts = o })
-  done k = gathered-end (momentsOf t) (h .x) o n (h .gathered) (nothing-left t i (h .x) (h .parted) k)
+module _ (l : List ℕ) (t : Times l) (i : ℕ) (words : List ℕ) (h : Loop l i words) where
+  done : length l ≤ i → Makes (momentsOf l) words false
+  done k = gathered-end (momentsOf l) (h .x) words (h .gathered) (nothing-left l i (h .x) (h .parted) k)
 
-  module _ (k : i < length t) where
-    full : n ≡ 2 * mostRuns → Collects (momentsOf t) (record { over = true; n = 0; cuts = replicate (2 * mostRuns) 0 })
-    full e = gathered-over (momentsOf t) (h .x) o n (h .gathered) e (getD t i 0) (moment-least t times i (h .x) (h .parted) k) (on-axis t times i (h .x) (h .parted) k)
+  module _ (k : i < length l) where
+    first : Least (momentsOf l) (h .x) (getD l i 0)
+    first = moment-least l t i (h .x) (h .parted) k
 
-    turn : (n ≡ 2 * mostRuns → ⊥) → (j : ℕ) → Streak t i j → Loop t (set (set o n (getD t i 0)) (n + 1) (getD t (j - 1) 0 + 1)) (n + 2) j
-    turn room j s = record {
-      x = getD t (j - 1) 0 + 1;
-      gathered = gathered-run (momentsOf t) (h .x) o n (h .gathered) (getD t i 0) (getD t (j - 1) 0 + 1)
-          (moment-least t times i (h .x) (h .parted) k) (on-axis t times i (h .x) (h .parted) k) (moment-past t times i (h .x) (h .parted) k j s) room;
-      parted = parted-on t times i (h .x) (h .parted) k j s;
-    }
+    here : getD l i 0 < axis
+    here = on-axis l t i (h .x) (h .parted) k
+
+    full : (v : ℕ) → getD l i 0 ≤ v → v < getD l i 0 + 1 → momentsOf l v ≡ true
+    full = alone l t i (h .x) (h .parted) k
+
+    below : (v : ℕ) → v < axis → member words v ≡ true → v < getD l i 0
+    below = gathered-behind (momentsOf l) (h .x) words (h .gathered) (getD l i 0) (getD l i 0) (getD l i 0 + 1) refl first (omega arith) (omega (arith, here)) full
+
+    module _ (after : List ℕ) (over : Bool) (m : Makes (λ v. member words v || (leb (getD l i 0) v && leb v (getD l i 0))) after over) where
+      turn : over ≡ false → Loop l (i + 1) after
+      turn o = record {
+        x = getD l i 0 + 1;
+        parted = parted-on l t i (h .x) (h .parted) k;
+        gathered = gathered-run (momentsOf l) (h .x) words (h .gathered) (getD l i 0) (getD l i 0) (getD l i 0 + 1) refl first (omega arith) (omega (arith, here)) full after over m o;
+      }
+
+      too-many : over ≡ true → Makes (momentsOf l) after true
+      too-many o = gathered-over (momentsOf l) (h .x) words (h .gathered) (getD l i 0) (getD l i 0) (getD l i 0 + 1) refl first (omega arith) (omega (arith, here)) full after over m o
 
 abbrev Inv-loop : tie.InvT-loop
-Inv-loop t cuts₀ n₀ i₀ cuts n i = (n ≤ 2 * mostRuns) × Loop t cuts n i
+Inv-loop t set₀ i₀ set i = Loop t i set × (i ≤ length t)
 
 abbrev μ-loop : tie.MeasureT-loop
-μ-loop t cuts₀ n₀ i₀ cuts n i = length t - i
+μ-loop t set₀ i₀ set i = length t - i
+
+empty-requires : tie.Need-empty-requires Inv-loop μ-loop
+empty-requires c κs = c .before .before .before .pre .1
 
 loop-holds : tie.Need-loop-holds Inv-loop μ-loop
-loop-holds c = (omega arith, start (c .before .args .t .now))
+loop-holds c = let s = c .before .before .before .before .before .before in (start (s .args .t .now) _ (c .before .before .empty .ensures), omega arith)
+
+mul-at : tie.Need-mul-at Inv-loop μ-loop
+mul-at c = search needs
+
+shared-slice-read-at : tie.Need-shared-slice-read-at Inv-loop μ-loop
+shared-slice-read-at c = search needs
+
+add-requires : tie.Need-add-requires Inv-loop μ-loop
+add-requires c κs =
+    let s = c .before .before .before .before .before .before .before .before .before .before in
+    let l = c .before .before .before .loop in
+    let b = below (s .args .t .now) (s .pre .0) (l .i) (l .set) (l .inv .0) (c .before .before .loop-test .taken) in
+    (l .inv .0 .gathered .held .valid, b, omega arith, here (s .args .t .now) (s .pre .0) (l .i) (l .set) (l .inv .0) (c .before .before .loop-test .taken))
+
+same-length : tie.Need-same-length Inv-loop μ-loop
+same-length c = let s = c .before .before .before .before .before .before .before .before .before .before .before .before .before .before in c .before .before .before .add .kept .0 ∙ c .before .before .before .before .before .before .before .loop .inv .0 .gathered .held .valid .size ∙ sym (s .pre .1)
 
 returns : tie.Need-returns Inv-loop μ-loop
 returns c =
-    let h = c .before .before in
-    let s = h .before .before in
-    full (s .args .t .now) (s .pre) (h .loop .cuts) (h .loop .n) (h .loop .i) (h .loop .inv .1) (c .before .loop-test .taken) (c .if1 .taken)
+    let s = c .before .before .before .before .before .before .before .before .before .before .before .before .before .before in
+    let l = c .before .before .before .before .before .before .before .loop in
+    too-many (s .args .t .now) (s .pre .0) (l .i) (l .set) (l .inv .0) (c .before .before .before .before .before .before .loop-test .taken) _ _ (c .before .before .before .add .ensures) (c .if1 .taken)
 
-streak-requires : tie.Need-streak-requires Inv-loop μ-loop
-streak-requires c κs = search needs
-
-mul-cuts : tie.Need-mul-cuts Inv-loop μ-loop
-mul-cuts c = search needs
-
-shared-slice-read-cuts : tie.Need-shared-slice-read-cuts Inv-loop μ-loop
-shared-slice-read-cuts c = search needs
-
-mul-cuts-2 : tie.Need-mul-cuts-2 Inv-loop μ-loop
-mul-cuts-2 c = search needs
-
-array-write-cuts : tie.Need-array-write-cuts Inv-loop μ-loop
-array-write-cuts c = search needs
-
-sub-cuts : tie.Need-sub-cuts Inv-loop μ-loop
-sub-cuts c = search needs
-
-mul-cuts-3 : tie.Need-mul-cuts-3 Inv-loop μ-loop
-mul-cuts-3 c = search needs
-
-shared-slice-read-cuts-2 : tie.Need-shared-slice-read-cuts-2 Inv-loop μ-loop
-shared-slice-read-cuts-2 c = search needs
-
-add-cuts : tie.Need-add-cuts Inv-loop μ-loop
-add-cuts c =
-    let s = c .before .before .before .before .before .before .before in
-    let r = c .before .before .streak in
-    let low = r .ensures .low in let end = r .ensures .end in
-    omega (arith, s .pre .most (r .result - 1) (omega arith))
-
-add-cuts-2 : tie.Need-add-cuts-2 Inv-loop μ-loop
-add-cuts-2 c = search needs
-
-mul-cuts-4 : tie.Need-mul-cuts-4 Inv-loop μ-loop
-mul-cuts-4 c = search needs
-
-array-write-cuts-2 : tie.Need-array-write-cuts-2 Inv-loop μ-loop
-array-write-cuts-2 c =
-    let h = c .before .before .before .before .before in
-    let r = gathered-room _ _ _ _ (h .loop .inv .1 .gathered) (c .before .before .before .if1 .left) in
-    omega arith
-
-add-n : tie.Need-add-n Inv-loop μ-loop
-add-n c = search needs
+add-i : tie.Need-add-i Inv-loop μ-loop
+add-i c = search needs
 
 loop-less : tie.Need-loop-less Inv-loop μ-loop
-loop-less c =
-    let low = c .before .before .streak .ensures .low in
-    omega (arith, c .before .before .before .before .loop-test .taken)
+loop-less c = search needs
 
 loop-again : tie.Need-loop-again Inv-loop μ-loop
 loop-again c =
-    let h = c .before .before .before .before .before in
-    let s = h .before .before in
-    let r = c .before .before .streak in (
-      gathered-room _ _ _ _ (h .loop .inv .1 .gathered) (c .before .before .before .if1 .left),
-      turn (s .args .t .now) (s .pre) (h .loop .cuts) (h .loop .n) (h .loop .i) (h .loop .inv .1) (c .before .before .before .before .loop-test .taken)
-          (c .before .before .before .if1 .left) (r .result) (r .ensures),
-    )
+    let s = c .before .before .before .before .before .before .before .before .before .before .before .before .before .before in
+    let l = c .before .before .before .before .before .before .before .loop in
+    (turn (s .args .t .now) (s .pre .0) (l .i) (l .set) (l .inv .0) (c .before .before .before .before .before .before .loop-test .taken) _ _ (c .before .before .before .add .ensures) (c .if1 .left), omega (arith, c .before .before .before .before .before .before .loop-test .taken))
+
+same-length-2 : tie.Need-same-length-2 Inv-loop μ-loop
+same-length-2 c = let s = c .before .before .before .before .before .before .before .before in c .before .loop .inv .0 .gathered .held .valid .size ∙ sym (s .pre .1)
 
 returns-2 : tie.Need-returns-2 Inv-loop μ-loop
 returns-2 c =
-    let h = c .before in
-    let s = h .before .before in
-    done (s .args .t .now) (s .pre) (h .loop .cuts) (h .loop .n) (h .loop .i) (h .loop .inv .1) (c .loop-test .left)
+    let s = c .before .before .before .before .before .before .before .before in
+    let l = c .before .loop in
+    done (s .args .t .now) (s .pre .0) (l .i) (l .set) (l .inv .0) (c .loop-test .left)
 
 pub moments-spec : {M : Type 1} → statement M
 moments-spec =
@@ -127,21 +113,15 @@ moments-spec =
     (tie.spec
     Inv-loop
     μ-loop
+    empty-requires
     loop-holds
+    mul-at
+    shared-slice-read-at
+    add-requires
+    same-length
     returns
-    streak-requires
-    mul-cuts
-    shared-slice-read-cuts
-    mul-cuts-2
-    array-write-cuts
-    sub-cuts
-    mul-cuts-3
-    shared-slice-read-cuts-2
-    add-cuts
-    add-cuts-2
-    mul-cuts-4
-    array-write-cuts-2
-    add-n
+    add-i
     loop-less
     loop-again
+    same-length-2
     returns-2)

@@ -1,5 +1,5 @@
 -- What the searches for the start and for the end of a run promise.
-use Prim.Native.Nat.{ℕ, suc, _+_, _≤_, _<_, min}
+use Prim.Native.Nat.{ℕ, _+_, _≤_, _<_, min}
 use mathlib.Core.Path.{_≡_}
 use mathlib.Core.Bool.{Bool, true, false, _&&_}
 use mathlib.Core.List.{List}
@@ -55,10 +55,3 @@ pub record Lead (w : List Bool) (n : ℕ) : Type 0 where
   pub few : n ≤ windowSize
   pub members : (t : ℕ) → t < n → getD w t false ≡ true
   pub out : n < windowSize → getD w n false ≡ false
-
--- the times from place i up to place j follow one another by 1, and that at j does not
-pub record Streak (l : List ℕ) (i j : ℕ) : Type 0 where
-  pub low : i < j
-  pub end : j ≤ length l
-  pub ones : (k : ℕ) → i ≤ k → suc k < j → getD l (suc k) 0 ≡ getD l k 0 + 1
-  pub stop : (k : ℕ) → j ≡ suc k → j < length l → getD l k 0 + 1 < getD l j 0

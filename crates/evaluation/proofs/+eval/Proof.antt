@@ -5,8 +5,7 @@ use native.Mathlib.Omega.{arith}
 use borrow.Author.Needs.{needs}
 use borrow.Fn.Kinds.{In}
 use borrow.Fn.PlainCycle.{Measures, is, falls, and}
-use Rattle.evaluation.specs.laws.Slots.{fills-fit}
-use Rattle.evaluation.specs.laws.Evaluate.{coded-length, line-asked, line-leaf, first-falls, first-small, first-fit, first-askable, first-over, line-first-lent, line-one-lent, line-one, kind-fits, second-falls, second-small, second-fit, second-askable, second-over, line-two-first, line-two-second, line-two-lent, line-two}
+use Rattle.evaluation.specs.laws.Evaluate.{coded-length, line-asked, line-leaf, first-falls, first-small, first-fit, first-askable, first-over, line-first-valid, line-one-valid, line-one, kind-fits, second-falls, second-small, second-fit, second-askable, second-over, line-two-first, line-two-second, line-two-valid, line-two}
 use Rattle.evaluation.proofs.eval.Reads as eval
 use Rattle.evaluation.proofs.eval.Kinds as eval-kinds
 use Rattle.evaluation.proofs.+eval.Lts-eval as eval-lts
@@ -51,7 +50,7 @@ eval-put-requires t c κs =
     let s = c .before .before .before .before .before .before .before .before .before .before .before .before .before .before in
     let a = s .args in
     let fit = s .pre .1 .0 in
-    (fit .cur-sized, omega (arith, fit .node, fit .few), fills-fit _ _ _ (c .before .before .before .before .leaf .ensures))
+    (fit .cur-sized, omega (arith, fit .node, fit .few), λ o. c .before .before .before .before .leaf .ensures .holds o .valid)
 
 eval-same-length : (t : ℕ) → eval-lts.Need-same-length (callees t) (eval-at t) eval.Post
 eval-same-length t c = search needs
@@ -111,8 +110,8 @@ eval-one-at-requires t c κs =
       first-small (a .table .now) (a .count) (a .rec .now) (a .i) (a .n) (a .later .now) (a .cur .now) fit (c .before .before .before .before .before .before .before .before .before .before .before .before .before .before .before .before .row-at .result) (c .before .before .before .before .before .before .before .before .before .before .before .before .before .before .before .before .row-at .ensures) (c .before .before .before .before .before .before .before .before .before .before .before .before .before .before .size .result) (c .before .before .before .before .before .before .before .before .before .before .before .before .before .before .size .ensures) (c .before .before .before .before .before .before .before .before .before .before .before .before .before .before .before .if1 .left),
       fit .later-sized,
       c .before .before .before .before .before .before .before .before .before .before .eval .kept .1 .1 .1 .1 .1 .1 .0 ∙ fit .cur-sized,
-      line-first-lent (a .table .now) (a .count) (a .rec .now) (a .i) (a .n) (a .later .now) (a .cur .now) fit (c .before .before .before .before .before .before .before .before .before .before .before .before .before .before .before .before .row-at .result) (c .before .before .before .before .before .before .before .before .before .before .before .before .before .before .before .before .row-at .ensures) (c .before .before .before .before .before .before .before .before .before .before .before .before .before .before .size .result) (c .before .before .before .before .before .before .before .before .before .before .before .before .before .before .size .ensures) (c .before .before .before .before .before .before .before .before .before .before .before .before .before .before .before .if1 .left) _ _ (c .before .before .before .if2 .left) (c .before .before .before .before .before .before .before .before .before .before .eval .ensures),
-      line-one-lent (a .table .now) (a .count) (a .rec .now) (a .i) (a .n) (a .later .now) (a .cur .now) fit (c .before .before .before .before .before .before .before .before .before .before .before .before .before .before .before .before .row-at .result) (c .before .before .before .before .before .before .before .before .before .before .before .before .before .before .before .before .row-at .ensures) (c .before .before .before .before .before .before .before .before .before .before .before .before .before .before .size .result) (c .before .before .before .before .before .before .before .before .before .before .before .before .before .before .size .ensures) (c .before .before .before .before .before .before .before .before .before .before .before .before .before .before .before .if1 .left) _ _ (c .before .before .before .if2 .left) (c .before .before .before .before .before .before .before .before .before .before .eval .ensures) (c .before .before .if3 .taken),
+      line-first-valid (a .table .now) (a .count) (a .rec .now) (a .i) (a .n) (a .later .now) (a .cur .now) fit (c .before .before .before .before .before .before .before .before .before .before .before .before .before .before .before .before .row-at .result) (c .before .before .before .before .before .before .before .before .before .before .before .before .before .before .before .before .row-at .ensures) (c .before .before .before .before .before .before .before .before .before .before .before .before .before .before .size .result) (c .before .before .before .before .before .before .before .before .before .before .before .before .before .before .size .ensures) (c .before .before .before .before .before .before .before .before .before .before .before .before .before .before .before .if1 .left) _ _ (c .before .before .before .if2 .left) (c .before .before .before .before .before .before .before .before .before .before .eval .ensures),
+      line-one-valid (a .table .now) (a .count) (a .rec .now) (a .i) (a .n) (a .later .now) (a .cur .now) fit (c .before .before .before .before .before .before .before .before .before .before .before .before .before .before .before .before .row-at .result) (c .before .before .before .before .before .before .before .before .before .before .before .before .before .before .before .before .row-at .ensures) (c .before .before .before .before .before .before .before .before .before .before .before .before .before .before .size .result) (c .before .before .before .before .before .before .before .before .before .before .before .before .before .before .size .ensures) (c .before .before .before .before .before .before .before .before .before .before .before .before .before .before .before .if1 .left) _ _ (c .before .before .before .if2 .left) (c .before .before .before .before .before .before .before .before .before .before .eval .ensures) (c .before .before .if3 .taken),
       c .before .before .before .before .before .before .before .before .before .before .eval .kept .1 .1 .1 .1 .1 .1 .1 .1 .0 ∙ s .pre .1 .3,
     )
 
@@ -173,7 +172,7 @@ eval-two-at-requires t c κs =
       c .before .before .before .before .before .before .before .before .before .before .eval2 .kept .1 .1 .1 .1 .1 .1 .0 ∙ c .before .before .before .before .before .before .before .before .before .before .before .before .before .before .before .before .before .before .before .before .before .before .before .eval .kept .1 .1 .1 .1 .1 .1 .0 ∙ fit .cur-sized,
       line-two-first (a .table .now) (a .count) (a .rec .now) (a .i) (a .n) (a .later .now) (a .cur .now) fit (c .before .before .before .before .before .before .before .before .before .before .before .before .before .before .before .before .before .before .before .before .before .before .before .before .before .before .before .before .before .row-at .result) (c .before .before .before .before .before .before .before .before .before .before .before .before .before .before .before .before .before .before .before .before .before .before .before .before .before .before .before .before .before .row-at .ensures) (c .before .before .before .before .before .before .before .before .before .before .before .before .before .before .before .before .before .before .before .before .before .before .before .before .before .before .before .size .result) (c .before .before .before .before .before .before .before .before .before .before .before .before .before .before .before .before .before .before .before .before .before .before .before .before .before .before .before .size .ensures) (c .before .before .before .before .before .before .before .before .before .before .before .before .before .before .before .before .before .before .before .before .before .before .before .before .before .before .before .before .if1 .left) _ _ (c .before .before .before .before .before .before .before .before .before .before .before .before .before .before .before .before .if2 .left) (c .before .before .before .before .before .before .before .before .before .before .before .before .before .before .before .before .before .before .before .before .before .before .before .eval .ensures) (c .before .before .before .before .before .before .before .before .before .before .before .before .before .before .before .if3 .left) (c .before .before .before .before .before .before .before .before .before .before .before .before .before .before .size2 .result) (c .before .before .before .before .before .before .before .before .before .before .before .before .before .before .size2 .ensures) _ _ (c .before .before .before .if4 .left) (c .before .before .before .before .before .before .before .before .before .before .eval2 .ensures),
       line-two-second (a .table .now) (a .count) (a .rec .now) (a .i) (a .n) (a .later .now) (a .cur .now) fit (c .before .before .before .before .before .before .before .before .before .before .before .before .before .before .before .before .before .before .before .before .before .before .before .before .before .before .before .before .before .row-at .result) (c .before .before .before .before .before .before .before .before .before .before .before .before .before .before .before .before .before .before .before .before .before .before .before .before .before .before .before .before .before .row-at .ensures) (c .before .before .before .before .before .before .before .before .before .before .before .before .before .before .before .before .before .before .before .before .before .before .before .before .before .before .before .size .result) (c .before .before .before .before .before .before .before .before .before .before .before .before .before .before .before .before .before .before .before .before .before .before .before .before .before .before .before .size .ensures) (c .before .before .before .before .before .before .before .before .before .before .before .before .before .before .before .before .before .before .before .before .before .before .before .before .before .before .before .before .if1 .left) _ _ (c .before .before .before .before .before .before .before .before .before .before .before .before .before .before .before .before .if2 .left) (c .before .before .before .before .before .before .before .before .before .before .before .before .before .before .before .before .before .before .before .before .before .before .before .eval .ensures) (c .before .before .before .before .before .before .before .before .before .before .before .before .before .before .before .if3 .left) (c .before .before .before .before .before .before .before .before .before .before .before .before .before .before .size2 .result) (c .before .before .before .before .before .before .before .before .before .before .before .before .before .before .size2 .ensures) _ _ (c .before .before .before .if4 .left) (c .before .before .before .before .before .before .before .before .before .before .eval2 .ensures),
-      line-two-lent (a .table .now) (a .count) (a .rec .now) (a .i) (a .n) (a .later .now) (a .cur .now) fit (c .before .before .before .before .before .before .before .before .before .before .before .before .before .before .before .before .before .before .before .before .before .before .before .before .before .before .before .before .before .row-at .result) (c .before .before .before .before .before .before .before .before .before .before .before .before .before .before .before .before .before .before .before .before .before .before .before .before .before .before .before .before .before .row-at .ensures) (c .before .before .before .before .before .before .before .before .before .before .before .before .before .before .before .before .before .before .before .before .before .before .before .before .before .before .before .size .result) (c .before .before .before .before .before .before .before .before .before .before .before .before .before .before .before .before .before .before .before .before .before .before .before .before .before .before .before .size .ensures) (c .before .before .before .before .before .before .before .before .before .before .before .before .before .before .before .before .before .before .before .before .before .before .before .before .before .before .before .before .if1 .left) _ _ (c .before .before .before .before .before .before .before .before .before .before .before .before .before .before .before .before .if2 .left) (c .before .before .before .before .before .before .before .before .before .before .before .before .before .before .before .before .before .before .before .before .before .before .before .eval .ensures) (c .before .before .before .before .before .before .before .before .before .before .before .before .before .before .before .if3 .left) (c .before .before .before .before .before .before .before .before .before .before .before .before .before .before .size2 .result) (c .before .before .before .before .before .before .before .before .before .before .before .before .before .before .size2 .ensures) _ _ (c .before .before .before .if4 .left) (c .before .before .before .before .before .before .before .before .before .before .eval2 .ensures),
+      line-two-valid (a .table .now) (a .count) (a .rec .now) (a .i) (a .n) (a .later .now) (a .cur .now) fit (c .before .before .before .before .before .before .before .before .before .before .before .before .before .before .before .before .before .before .before .before .before .before .before .before .before .before .before .before .before .row-at .result) (c .before .before .before .before .before .before .before .before .before .before .before .before .before .before .before .before .before .before .before .before .before .before .before .before .before .before .before .before .before .row-at .ensures) (c .before .before .before .before .before .before .before .before .before .before .before .before .before .before .before .before .before .before .before .before .before .before .before .before .before .before .before .size .result) (c .before .before .before .before .before .before .before .before .before .before .before .before .before .before .before .before .before .before .before .before .before .before .before .before .before .before .before .size .ensures) (c .before .before .before .before .before .before .before .before .before .before .before .before .before .before .before .before .before .before .before .before .before .before .before .before .before .before .before .before .if1 .left) _ _ (c .before .before .before .before .before .before .before .before .before .before .before .before .before .before .before .before .if2 .left) (c .before .before .before .before .before .before .before .before .before .before .before .before .before .before .before .before .before .before .before .before .before .before .before .eval .ensures) (c .before .before .before .before .before .before .before .before .before .before .before .before .before .before .before .if3 .left) (c .before .before .before .before .before .before .before .before .before .before .before .before .before .before .size2 .result) (c .before .before .before .before .before .before .before .before .before .before .before .before .before .before .size2 .ensures) _ _ (c .before .before .before .if4 .left) (c .before .before .before .before .before .before .before .before .before .before .eval2 .ensures),
       c .before .before .before .before .before .before .before .before .before .before .eval2 .kept .1 .1 .1 .1 .1 .1 .1 .0 ∙ c .before .before .before .before .before .before .before .before .before .before .before .before .before .before .before .before .before .before .before .before .before .before .before .eval .kept .1 .1 .1 .1 .1 .1 .1 .0 ∙ s .pre .1 .2,
       c .before .before .before .before .before .before .before .before .before .before .eval2 .kept .1 .1 .1 .1 .1 .1 .1 .1 .0 ∙ c .before .before .before .before .before .before .before .before .before .before .before .before .before .before .before .before .before .before .before .before .before .before .before .eval .kept .1 .1 .1 .1 .1 .1 .1 .1 .0 ∙ s .pre .1 .3,
     )

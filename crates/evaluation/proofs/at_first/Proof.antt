@@ -6,12 +6,9 @@ use mathlib.Core.List.{List}
 use native.Mathlib.Omega.{arith}
 use lib.ListN.{length}
 use Rattle.runset.specs.Runs.{mostRuns}
-use Rattle.runset.specs.Set.{inside}
-use Rattle.runset.specs.inner.Lent.{Lent, Fills}
-use Rattle.evaluation.specs.inner.Slots.{slot}
-use Rattle.evaluation.specs.inner.Evaluation.{Evaluates}
+use Rattle.runset.specs.Set.{Valid}
 use Rattle.evaluation.specs.laws.Evaluate.{coded-length}
-use Rattle.evaluation.specs.laws.Walk.{flat-fit, flat-over, flat-right, flat-done, root-lent, fills-same}
+use Rattle.evaluation.specs.laws.Walk.{flat-fit, flat-over, flat-right, flat-done, root-valid, holds-same}
 use borrow.Author.Needs.{needs}
 use Rattle.evaluation.proofs.at_first.Statement.{statement}
 use Rattle.evaluation.proofs.at_first.Tie as tie
@@ -37,32 +34,29 @@ eval-requires c κs =
     let a = s .args in
     (flat-fit (a .table .now) (a .count) (a .rec .now) (s .pre .0) (s .pre .1) _ _ refl refl, s .pre .0 .askable, refl, s .pre .2)
 
-too-many-requires : tie.Need-too-many-requires
-too-many-requires c κs = search needs
-
 same-length : tie.Need-same-length
 same-length c = search needs
 
 returns : tie.Need-returns
 returns c =
-    let s = c .before .before .before .before .before .before .before .before .before .before .before .before .before .before in
+    let s = c .before .before .before .before .before .before .before .before .before .before .before .before .before in
     let a = s .args in
-    subst (Evaluates _ _ _) (sym (c .too-many .ensures)) (flat-over (a .table .now) (a .count) (a .rec .now) (s .pre .0) (s .pre .1) _ _ _ _ (c .before .if1 .taken) (c .before .before .before .before .before .before .eval .ensures))
+    flat-over (a .table .now) (a .count) (a .rec .now) (s .pre .0) (s .pre .1) _ _ _ _ (c .if1 .taken) (c .before .before .before .before .before .eval .ensures)
 
-slice-aggregate-cuts-in : tie.Need-slice-aggregate-cuts-in
-slice-aggregate-cuts-in c = search needs
+slice-aggregate-set-in : tie.Need-slice-aggregate-set-in
+slice-aggregate-set-in c = search needs
 
-cuts-in-requires : tie.Need-cuts-in-requires
-cuts-in-requires c κs =
+set-in-requires : tie.Need-set-in-requires
+set-in-requires c κs =
     let s = c .before .before .before .before .before .before .before .before .before .before .before .before .before .before in
     let a = s .args in
     (c .before .before .before .before .before .before .eval .kept .1 .1 .1 .1 .1 .1 .0, omega (arith, s .pre .0 .some, s .pre .0 .few))
 
-same-requires : tie.Need-same-requires
-same-requires c κs =
+copy-requires : tie.Need-copy-requires
+copy-requires c κs =
     let s = c .before .before .before .before .before .before .before .before .before .before .before .before .before .before .before .before in
     let a = s .args in
-    (subst Lent (sym (c .before .cuts-in .ensures)) (root-lent (a .table .now) (a .count) (a .rec .now) (s .pre .0) 0 _ (flat-right (a .table .now) (a .count) (a .rec .now) (s .pre .0) (s .pre .1) _ _ _ (c .before .before .before .if1 .left) (c .before .before .before .before .before .before .before .before .eval .ensures))), c .before .before .before .before .before .before .before .before .eval .kept .1 .1 .1 .1 .1 .1 .1 .1 .0 ∙ s .pre .2)
+    (subst Valid (sym (c .before .set-in .ensures)) (root-valid (a .table .now) (a .count) (a .rec .now) (s .pre .0) 0 _ (flat-right (a .table .now) (a .count) (a .rec .now) (s .pre .0) (s .pre .1) _ _ _ (c .before .before .before .if1 .left) (c .before .before .before .before .before .before .before .before .eval .ensures))), c .before .before .before .before .before .before .before .before .eval .kept .1 .1 .1 .1 .1 .1 .1 .1 .0 ∙ s .pre .2)
 
 same-length-2 : tie.Need-same-length-2
 same-length-2 c = search needs
@@ -71,7 +65,7 @@ returns-2 : tie.Need-returns-2
 returns-2 c =
     let s = c .before .before .before .before .before .before .before .before .before .before .before .before .before .before .before .before .before .before .before in
     let a = s .args in
-    flat-done (a .table .now) (a .count) (a .rec .now) (s .pre .0) (s .pre .1) _ _ _ _ _ (c .before .before .before .before .before .before .if1 .left) (c .before .before .before .before .before .before .before .before .before .before .before .eval .ensures) (fills-same _ _ (c .before .before .before .before .cuts-in .ensures) (c .before .before .same .ensures))
+    flat-done (a .table .now) (a .count) (a .rec .now) (s .pre .0) (s .pre .1) _ _ _ _ (c .before .before .before .before .before .before .if1 .left) (c .before .before .before .before .before .before .before .before .before .before .before .eval .ensures) (holds-same _ (c .before .before .before .before .set-in .ensures) (c .before .before .copy .ensures))
 
 pub at-first-spec : {M : Type 1} → statement M
-at-first-spec = tie.close (tie.spec sub-root slice-aggregate-eval slice-aggregate-eval-2 slice-aggregate-eval-3 eval-requires too-many-requires same-length returns slice-aggregate-cuts-in cuts-in-requires same-requires same-length-2 returns-2)
+at-first-spec = tie.close (tie.spec sub-root slice-aggregate-eval slice-aggregate-eval-2 slice-aggregate-eval-3 eval-requires same-length returns slice-aggregate-set-in set-in-requires copy-requires same-length-2 returns-2)

@@ -6,12 +6,9 @@ use mathlib.Core.List.{List}
 use native.Mathlib.Omega.{arith}
 use lib.ListN.{length}
 use Rattle.runset.specs.Runs.{mostRuns}
-use Rattle.runset.specs.Set.{inside}
-use Rattle.runset.specs.inner.Lent.{Lent, Fills}
-use Rattle.evaluation.specs.inner.Slots.{slot}
-use Rattle.evaluation.specs.inner.Evaluation.{Evaluates}
+use Rattle.runset.specs.Set.{Valid}
 use Rattle.evaluation.specs.laws.Evaluate.{coded-length}
-use Rattle.evaluation.specs.laws.Walk.{Walked, walk-start, fit-into-a, fit-into-b, walked-a, walked-b, walk-over, walk-done, right-a, right-b, root-lent, fills-same}
+use Rattle.evaluation.specs.laws.Walk.{Walked, walk-start, fit-into-a, fit-into-b, walked-a, walked-b, walk-over, walk-done, right-a, right-b, root-valid, holds-same}
 use borrow.Author.Needs.{needs}
 use Rattle.evaluation.proofs.walk.Statement.{statement}
 use Rattle.evaluation.proofs.walk.Tie as tie
@@ -54,18 +51,15 @@ eval-requires c κs =
     let l = c .before .before .before .before .before .before .loop in
     (fit-into-b (a .table .now) (a .count) (a .rec .now) (s .pre .0) (l .i) (l .a) (l .b) (l .flip) (l .inv .0) (c .before .before .before .before .before .loop-test .taken) (c .before .before .before .before .if1 .taken), s .pre .0 .askable, l .inv .1, l .inv .2 ∙ s .pre .2)
 
-too-many-requires : tie.Need-too-many-requires Inv-loop μ-loop
-too-many-requires c κs = search needs
-
 same-length : tie.Need-same-length Inv-loop μ-loop
 same-length c = search needs
 
 returns : tie.Need-returns Inv-loop μ-loop
 returns c =
-    let s = c .before .before .before .before .before .before .before .before .before .before .before .before .before .before .before .before .before in
+    let s = c .before .before .before .before .before .before .before .before .before .before .before .before .before .before .before .before in
     let a = s .args in
-    let l = c .before .before .before .before .before .before .before .before .before .before .before .before .before .loop in
-    subst (Evaluates _ _ _) (sym (c .too-many .ensures)) (walk-over (a .table .now) (a .count) (a .rec .now) (s .pre .0) (l .i) (l .a) (l .b) (l .flip) (l .inv .0) (c .before .before .before .before .before .before .before .before .before .before .before .before .loop-test .taken) (s .pre .1) _ _ _ _ (c .before .if2 .taken) (c .before .before .before .before .before .before .eval .ensures))
+    let l = c .before .before .before .before .before .before .before .before .before .before .before .before .loop in
+    walk-over (a .table .now) (a .count) (a .rec .now) (s .pre .0) (l .i) (l .a) (l .b) (l .flip) (l .inv .0) (c .before .before .before .before .before .before .before .before .before .before .before .loop-test .taken) (s .pre .1) _ _ _ _ (c .if2 .taken) (c .before .before .before .before .before .eval .ensures)
 
 loop-less : tie.Need-loop-less Inv-loop μ-loop
 loop-less c = search needs
@@ -93,18 +87,15 @@ eval-requires-2 c κs =
     let l = c .before .before .before .before .before .before .loop in
     (fit-into-a (a .table .now) (a .count) (a .rec .now) (s .pre .0) (l .i) (l .a) (l .b) (l .flip) (l .inv .0) (c .before .before .before .before .before .loop-test .taken) (c .before .before .before .before .if1 .left), s .pre .0 .askable, l .inv .1, l .inv .2 ∙ s .pre .2)
 
-too-many-requires-2 : tie.Need-too-many-requires-2 Inv-loop μ-loop
-too-many-requires-2 c κs = search needs
-
 same-length-2 : tie.Need-same-length-2 Inv-loop μ-loop
 same-length-2 c = search needs
 
 returns-2 : tie.Need-returns-2 Inv-loop μ-loop
 returns-2 c =
-    let s = c .before .before .before .before .before .before .before .before .before .before .before .before .before .before .before .before .before in
+    let s = c .before .before .before .before .before .before .before .before .before .before .before .before .before .before .before .before in
     let a = s .args in
-    let l = c .before .before .before .before .before .before .before .before .before .before .before .before .before .loop in
-    subst (Evaluates _ _ _) (sym (c .too-many2 .ensures)) (walk-over (a .table .now) (a .count) (a .rec .now) (s .pre .0) (l .i) (l .a) (l .b) (l .flip) (l .inv .0) (c .before .before .before .before .before .before .before .before .before .before .before .before .loop-test .taken) (s .pre .1) _ _ _ _ (c .before .if3 .taken) (c .before .before .before .before .before .before .eval2 .ensures))
+    let l = c .before .before .before .before .before .before .before .before .before .before .before .before .loop in
+    walk-over (a .table .now) (a .count) (a .rec .now) (s .pre .0) (l .i) (l .a) (l .b) (l .flip) (l .inv .0) (c .before .before .before .before .before .before .before .before .before .before .before .loop-test .taken) (s .pre .1) _ _ _ _ (c .if3 .taken) (c .before .before .before .before .before .eval2 .ensures)
 
 loop-less-2 : tie.Need-loop-less-2 Inv-loop μ-loop
 loop-less-2 c = search needs
@@ -116,23 +107,23 @@ loop-again-2 c =
     let l = c .before .before .before .before .before .before .before .before .before .before .before .before .loop in
     (walked-a (a .table .now) (a .count) (a .rec .now) (s .pre .0) (l .i) (l .a) (l .b) (l .flip) (l .inv .0) (c .before .before .before .before .before .before .before .before .before .before .before .loop-test .taken) _ _ (c .before .before .before .before .before .eval2 .kept .1 .1 .1 .1 .1 .1 .0) (c .if3 .left) (c .before .before .before .before .before .eval2 .ensures), c .before .before .before .before .before .eval2 .kept .1 .1 .1 .1 .1 .1 .1 .0 ∙ l .inv .1, c .before .before .before .before .before .eval2 .kept .1 .1 .1 .1 .1 .1 .1 .1 .0 ∙ l .inv .2)
 
-slice-aggregate-cuts-in : tie.Need-slice-aggregate-cuts-in Inv-loop μ-loop
-slice-aggregate-cuts-in c = search needs
+slice-aggregate-set-in : tie.Need-slice-aggregate-set-in Inv-loop μ-loop
+slice-aggregate-set-in c = search needs
 
-cuts-in-requires : tie.Need-cuts-in-requires Inv-loop μ-loop
-cuts-in-requires c κs =
+set-in-requires : tie.Need-set-in-requires Inv-loop μ-loop
+set-in-requires c κs =
     let s = c .before .before .before .before .before .before .before in
     let a = s .args in
     (c .before .before .before .loop .inv .0 .size-a, omega (arith, s .pre .0 .some, s .pre .0 .few))
 
-same-requires : tie.Need-same-requires Inv-loop μ-loop
-same-requires c κs =
+copy-requires : tie.Need-copy-requires Inv-loop μ-loop
+copy-requires c κs =
     let s = c .before .before .before .before .before .before .before .before .before in
     let a = s .args in
     let l = c .before .before .before .before .before .loop in
     let e : l .i ≡ 0 = omega (arith, c .before .before .before .before .loop-test .left) in
     let w = subst (λ (i : ℕ). Walked (a .table .now) (a .count) (a .rec .now) i (l .a) (l .b) (l .flip)) e (l .inv .0) in
-    (subst Lent (sym (c .before .cuts-in .ensures)) (root-lent (a .table .now) (a .count) (a .rec .now) (s .pre .0) 0 _ (right-a (a .table .now) (a .count) (a .rec .now) (s .pre .0) (l .a) (l .b) (l .flip) w (c .before .before .before .if4 .taken))), l .inv .2 ∙ s .pre .2)
+    (subst Valid (sym (c .before .set-in .ensures)) (root-valid (a .table .now) (a .count) (a .rec .now) (s .pre .0) 0 _ (right-a (a .table .now) (a .count) (a .rec .now) (s .pre .0) (l .a) (l .b) (l .flip) w (c .before .before .before .if4 .taken))), l .inv .2 ∙ s .pre .2)
 
 same-length-3 : tie.Need-same-length-3 Inv-loop μ-loop
 same-length-3 c = search needs
@@ -144,25 +135,25 @@ returns-3 c =
     let l = c .before .before .before .before .before .before .before .before .loop in
     let e : l .i ≡ 0 = omega (arith, c .before .before .before .before .before .before .before .loop-test .left) in
     let w = subst (λ (i : ℕ). Walked (a .table .now) (a .count) (a .rec .now) i (l .a) (l .b) (l .flip)) e (l .inv .0) in
-    walk-done (a .table .now) (a .count) (a .rec .now) (s .pre .0) (l .a) (l .b) (l .flip) w (s .pre .1) _ _ _ (right-a (a .table .now) (a .count) (a .rec .now) (s .pre .0) (l .a) (l .b) (l .flip) w (c .before .before .before .before .before .before .if4 .taken)) (fills-same _ _ (c .before .before .before .before .cuts-in .ensures) (c .before .before .same .ensures))
+    walk-done (a .table .now) (a .count) (a .rec .now) (s .pre .0) (l .a) (l .b) (l .flip) w (s .pre .1) _ _ (right-a (a .table .now) (a .count) (a .rec .now) (s .pre .0) (l .a) (l .b) (l .flip) w (c .before .before .before .before .before .before .if4 .taken)) (holds-same _ (c .before .before .before .before .set-in .ensures) (c .before .before .copy .ensures))
 
-slice-aggregate-cuts-in-2 : tie.Need-slice-aggregate-cuts-in-2 Inv-loop μ-loop
-slice-aggregate-cuts-in-2 c = search needs
+slice-aggregate-set-in-2 : tie.Need-slice-aggregate-set-in-2 Inv-loop μ-loop
+slice-aggregate-set-in-2 c = search needs
 
-cuts-in-requires-2 : tie.Need-cuts-in-requires-2 Inv-loop μ-loop
-cuts-in-requires-2 c κs =
+set-in-requires-2 : tie.Need-set-in-requires-2 Inv-loop μ-loop
+set-in-requires-2 c κs =
     let s = c .before .before .before .before .before .before .before in
     let a = s .args in
     (c .before .before .before .loop .inv .0 .size-b, omega (arith, s .pre .0 .some, s .pre .0 .few))
 
-same-requires-2 : tie.Need-same-requires-2 Inv-loop μ-loop
-same-requires-2 c κs =
+copy-requires-2 : tie.Need-copy-requires-2 Inv-loop μ-loop
+copy-requires-2 c κs =
     let s = c .before .before .before .before .before .before .before .before .before in
     let a = s .args in
     let l = c .before .before .before .before .before .loop in
     let e : l .i ≡ 0 = omega (arith, c .before .before .before .before .loop-test .left) in
     let w = subst (λ (i : ℕ). Walked (a .table .now) (a .count) (a .rec .now) i (l .a) (l .b) (l .flip)) e (l .inv .0) in
-    (subst Lent (sym (c .before .cuts-in2 .ensures)) (root-lent (a .table .now) (a .count) (a .rec .now) (s .pre .0) 0 _ (right-b (a .table .now) (a .count) (a .rec .now) (s .pre .0) (l .a) (l .b) (l .flip) w (c .before .before .before .if4 .left))), l .inv .2 ∙ s .pre .2)
+    (subst Valid (sym (c .before .set-in2 .ensures)) (root-valid (a .table .now) (a .count) (a .rec .now) (s .pre .0) 0 _ (right-b (a .table .now) (a .count) (a .rec .now) (s .pre .0) (l .a) (l .b) (l .flip) w (c .before .before .before .if4 .left))), l .inv .2 ∙ s .pre .2)
 
 same-length-4 : tie.Need-same-length-4 Inv-loop μ-loop
 same-length-4 c = search needs
@@ -174,7 +165,7 @@ returns-4 c =
     let l = c .before .before .before .before .before .before .before .before .loop in
     let e : l .i ≡ 0 = omega (arith, c .before .before .before .before .before .before .before .loop-test .left) in
     let w = subst (λ (i : ℕ). Walked (a .table .now) (a .count) (a .rec .now) i (l .a) (l .b) (l .flip)) e (l .inv .0) in
-    walk-done (a .table .now) (a .count) (a .rec .now) (s .pre .0) (l .a) (l .b) (l .flip) w (s .pre .1) _ _ _ (right-b (a .table .now) (a .count) (a .rec .now) (s .pre .0) (l .a) (l .b) (l .flip) w (c .before .before .before .before .before .before .if4 .left)) (fills-same _ _ (c .before .before .before .before .cuts-in2 .ensures) (c .before .before .same2 .ensures))
+    walk-done (a .table .now) (a .count) (a .rec .now) (s .pre .0) (l .a) (l .b) (l .flip) w (s .pre .1) _ _ (right-b (a .table .now) (a .count) (a .rec .now) (s .pre .0) (l .a) (l .b) (l .flip) w (c .before .before .before .before .before .before .if4 .left)) (holds-same _ (c .before .before .before .before .set-in2 .ensures) (c .before .before .copy2 .ensures))
 
 pub walk-spec : {M : Type 1} → statement M
-walk-spec = tie.close (tie.spec Inv-loop μ-loop sub-root loop-holds sub-i slice-aggregate-eval slice-aggregate-eval-2 slice-aggregate-eval-3 eval-requires too-many-requires same-length returns loop-less loop-again slice-aggregate-eval-4 slice-aggregate-eval-5 slice-aggregate-eval-6 eval-requires-2 too-many-requires-2 same-length-2 returns-2 loop-less-2 loop-again-2 slice-aggregate-cuts-in cuts-in-requires same-requires same-length-3 returns-3 slice-aggregate-cuts-in-2 cuts-in-requires-2 same-requires-2 same-length-4 returns-4)
+walk-spec = tie.close (tie.spec Inv-loop μ-loop sub-root loop-holds sub-i slice-aggregate-eval slice-aggregate-eval-2 slice-aggregate-eval-3 eval-requires same-length returns loop-less loop-again slice-aggregate-eval-4 slice-aggregate-eval-5 slice-aggregate-eval-6 eval-requires-2 same-length-2 returns-2 loop-less-2 loop-again-2 slice-aggregate-set-in set-in-requires copy-requires same-length-3 returns-3 slice-aggregate-set-in-2 set-in-requires-2 copy-requires-2 same-length-4 returns-4)

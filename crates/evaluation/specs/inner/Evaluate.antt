@@ -4,7 +4,7 @@ use mathlib.Core.Path.{_≡_}
 use mathlib.Core.Bool.{Bool, true, false}
 use mathlib.Core.List.{List}
 use lib.ListN.{length}
-use Rattle.runset.specs.inner.Lent.{CutsOf}
+use Rattle.runset.specs.Set.{Holds}
 use Rattle.grammar.specs.Size.{temporal, mostNodes}
 use Rattle.grammar.specs.inner.Table.{rowAt, treeAt, Falling, unaryFrom, binaryFrom}
 use Rattle.meaning.specs.inner.Coded.{Coded}
@@ -28,7 +28,7 @@ pub data Under (table : List ℕ) : ℕ → ℕ → Type 0 where
 
 -- slot m holds the set of node m at record i
 unfoldable pub Right : List ℕ → List Coded → ℕ → ℕ → List ℕ → Type 0
-Right table r i m sets = CutsOf (λ v. val r v (treeAt table m) i) (slot sets m)
+Right table r i m sets = Holds (λ v. val r v (treeAt table m) i) (slot sets m)
 
 -- the slots that a text with F, G, X, U or W needs of the next record, where there is one
 unfoldable pub Ready : List ℕ → List Coded → ℕ → ℕ → List ℕ → Type 0

@@ -3,9 +3,8 @@ use Prim.Native.Nat.{ℕ, _-_, _*_, _≤_, _<_}
 use mathlib.Core.Path.{_≡_}
 use mathlib.Core.Bool.{Bool, false}
 use mathlib.Core.List.{List}
-use lib.ListN.{length, take}
-use Rattle.runset.specs.inner.Lent.{CutsOf}
-use Rattle.runset.specs.declared.merge.Filled.{Filled}
+use lib.ListN.{length}
+use Rattle.runset.specs.Set.{Holds}
 use Rattle.grammar.specs.Syntax.{Text}
 use Rattle.grammar.specs.Size.{mostNodes}
 use Rattle.grammar.specs.inner.Table.{treeAt, Falling}
@@ -27,8 +26,7 @@ pub record Asking (table : List ℕ) (count : ℕ) (rec : List ℕ) : Type 0 whe
   pub record-there : 0 < length (coded rec)
   pub askable : Askable table (count - 1) rec
 
--- THE SET OF p AT THE FIRST RECORD: over if and only if 8 refuses the text; else the first n of the output are the cuts of the set
-pub record Evaluates (r : List Coded) (p : Text) (out : List ℕ) (m : Filled) : Type 0 where
-  pub over : m .over ≡ refused8 r p
-  pub few : m .over ≡ false → m .n ≤ length out
-  pub cuts : m .over ≡ false → CutsOf (λ v. val r v p 0) (take (m .n) out)
+-- THE SET OF p AT THE FIRST RECORD: over if and only if 8 refuses the text; else the words hold the set
+pub record Evaluates (r : List Coded) (p : Text) (words : List ℕ) (over : Bool) : Type 0 where
+  pub flag : over ≡ refused8 r p
+  pub holds : over ≡ false → Holds (λ v. val r v p 0) words

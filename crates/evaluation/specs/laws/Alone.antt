@@ -5,8 +5,7 @@ use mathlib.Core.Path.{_≡_, refl, sym, ap, subst, _∙_}
 use mathlib.Core.Bool.{Bool, false}
 use mathlib.Core.List.{List, [], _∷_}
 use lib.ListN.{length, getD}
-use Rattle.runset.specs.inner.Lent.{CutsOf, Fills}
-use Rattle.runset.specs.declared.merge.Filled.{Filled}
+use Rattle.runset.specs.Set.{Makes}
 use Rattle.grammar.specs.Syntax.{Atom, Listed, Text, atom, listed, lag}
 use Rattle.grammar.specs.declared.Row.{Row}
 use Rattle.grammar.specs.inner.Kinds.{NOT}
@@ -55,9 +54,8 @@ module _ (table : List ℕ) (count : ℕ) (rec : List ℕ) (asking : Asking tabl
     few-tops = ap (refused9 (coded rec)) (sym root-text) ∙ asking .askable .few-tops;
   }
 
-  pub alone-evaluates : (out : List ℕ) (m : Filled) → Fills (λ v. val (coded rec) v (leafOf root) 0) out m → Evaluates (coded rec) (textOf table count) out m
-  alone-evaluates out m f = subst (λ (p : Text). Evaluates (coded rec) p out m) (sym root-text) (record {
-    over = f .over ∙ sym (alone-eight (coded rec) (row-leaf root));
-    few = f .few;
-    cuts = f .cuts;
+  pub alone-evaluates : (words : List ℕ) (over : Bool) → Makes (λ v. val (coded rec) v (leafOf root) 0) words over → Evaluates (coded rec) (textOf table count) words over
+  alone-evaluates words over m = subst (λ (p : Text). Evaluates (coded rec) p words over) (sym root-text) (record {
+    flag = m .flag ∙ sym (alone-eight (coded rec) (row-leaf root));
+    holds = m .holds;
   })

@@ -9,7 +9,7 @@ use mathlib.Core.List.{List, [], _∷_}
 use lib.ListN.{length, getD}
 use Rattle.grammar.specs.Syntax.{Text, listed, lag}
 use Rattle.grammar.specs.declared.Row.{Row}
-use Rattle.grammar.specs.inner.Table.{row, leafTexts, build, rowAt, treeAt, Falling}
+use Rattle.grammar.specs.inner.Table.{row, leafTexts, build, rowAt, treeAt, Falling, binaryFrom, kinds, unaryFrom}
 use Rattle.meaning.specs.inner.Truth.{someNode}
 use Rattle.leaves.specs.inner.Leaf.{leafOf}
 use Rattle.evaluation.specs.laws.Step.{four}
@@ -42,52 +42,52 @@ each-at P (x ∷ l) d a zero h = a .0
 each-at P (x ∷ l) d a (suc k) h = each-at P l d (a .1) k (le-of-suc-le-suc h)
 
 module _ (G : Text → Bool) where
-  some-leaf : (r : Row) → r .kind < 15 → someNode G (leafOf r) ≡ G (leafOf r)
+  some-leaf : (r : Row) → r .kind < unaryFrom → someNode G (leafOf r) ≡ G (leafOf r)
   unfolding someNode Each
   some-leaf r h =
       each-at (λ (t : Text). someNode G t ≡ G t) (leafTexts r) (listed lag)
       (refl, (refl, (refl, (refl, (refl, (refl, (refl, (refl, (refl, (refl, (refl, (refl, (refl, (refl, (refl, tt))))))))))))))) (r .kind) h
 
-  some-one : (k a b n : ℕ) (p q : Text) → 15 ≤ k → k < 19 → someNode G (build (row k a b n) p q) ≡ (G (build (row k a b n) p q) || someNode G p)
+  some-one : (k a b n : ℕ) (p q : Text) → unaryFrom ≤ k → k < binaryFrom → someNode G (build (row k a b n) p q) ≡ (G (build (row k a b n) p q) || someNode G p)
   unfolding someNode
   some-one k a b n p q l h =
-      four (λ (k : ℕ). someNode G (build (row k a b n) p q) ≡ (G (build (row k a b n) p q) || someNode G p)) 15 k l h refl refl refl refl
+      four (λ (k : ℕ). someNode G (build (row k a b n) p q) ≡ (G (build (row k a b n) p q) || someNode G p)) unaryFrom k l h refl refl refl refl
 
-  some-two : (k a b n : ℕ) (p q : Text) → 19 ≤ k → k < 23
+  some-two : (k a b n : ℕ) (p q : Text) → binaryFrom ≤ k → k < kinds
       → someNode G (build (row k a b n) p q) ≡ (G (build (row k a b n) p q) || (someNode G p || someNode G q))
   unfolding someNode
   some-two k a b n p q l h =
-      four (λ (k : ℕ). someNode G (build (row k a b n) p q) ≡ (G (build (row k a b n) p q) || (someNode G p || someNode G q))) 19 k l h refl refl refl refl
+      four (λ (k : ℕ). someNode G (build (row k a b n) p q) ≡ (G (build (row k a b n) p q) || (someNode G p || someNode G q))) binaryFrom k l h refl refl refl refl
 
   module _ (table : List ℕ) (count : ℕ) (falling : Falling table count) (n : ℕ) (inn : n < count) where
-    pub here-leaf : kind table n < 15 → someNode G (treeAt table n) ≡ G (treeAt table n)
+    pub here-leaf : kind table n < unaryFrom → someNode G (treeAt table n) ≡ G (treeAt table n)
     here-leaf h =
         let e = tree-step table count falling n inn ∙ build-leaf (rowAt table n) (treeAt table (first table n)) (treeAt table (second table n)) h in
         ap (someNode G) e ∙ some-leaf (rowAt table n) h ∙ ap G (sym e)
 
-    pub here-one : 15 ≤ kind table n → kind table n < 19 → someNode G (treeAt table n) ≡ (G (treeAt table n) || someNode G (treeAt table (first table n)))
+    pub here-one : unaryFrom ≤ kind table n → kind table n < binaryFrom → someNode G (treeAt table n) ≡ (G (treeAt table n) || someNode G (treeAt table (first table n)))
     here-one l h =
         let e = tree-step table count falling n inn in
         ap (someNode G) e ∙ some-one (kind table n) (first table n) (second table n) (rowAt table n .number) (treeAt table (first table n)) (treeAt table (second table n)) l h
         ∙ ap (λ (t : Text). G t || someNode G (treeAt table (first table n))) (sym e)
 
-    pub here-two : 19 ≤ kind table n → someNode G (treeAt table n) ≡ (G (treeAt table n) || (someNode G (treeAt table (first table n)) || someNode G (treeAt table (second table n))))
+    pub here-two : binaryFrom ≤ kind table n → someNode G (treeAt table n) ≡ (G (treeAt table n) || (someNode G (treeAt table (first table n)) || someNode G (treeAt table (second table n))))
     here-two l =
         let e = tree-step table count falling n inn in
         ap (someNode G) e ∙ some-two (kind table n) (first table n) (second table n) (rowAt table n .number) (treeAt table (first table n)) (treeAt table (second table n)) l (kind-known table count falling n inn)
         ∙ ap (λ (t : Text). G t || (someNode G (treeAt table (first table n)) || someNode G (treeAt table (second table n)))) (sym e)
 
     -- what no node of the text has, no node of the children has
-    pub none-first : 15 ≤ kind table n → someNode G (treeAt table n) ≡ false → someNode G (treeAt table (first table n)) ≡ false
-    none-first l e = by (decLt (kind table n) 19)
+    pub none-first : unaryFrom ≤ kind table n → someNode G (treeAt table n) ≡ false → someNode G (treeAt table (first table n)) ≡ false
+    none-first l e = by (decLt (kind table n) binaryFrom)
       where
-        by : Dec (kind table n < 19) → someNode G (treeAt table (first table n)) ≡ false
+        by : Dec (kind table n < binaryFrom) → someNode G (treeAt table (first table n)) ≡ false
         by (yes h) = or-none (G (treeAt table n)) (someNode G (treeAt table (first table n))) (sym (here-one l h) ∙ e) .1
         by (no h) =
             or-none (someNode G (treeAt table (first table n))) (someNode G (treeAt table (second table n)))
             (or-none (G (treeAt table n)) (someNode G (treeAt table (first table n)) || someNode G (treeAt table (second table n))) (sym (here-two (omega arith)) ∙ e) .1) .0
 
-    pub none-second : 19 ≤ kind table n → someNode G (treeAt table n) ≡ false → someNode G (treeAt table (second table n)) ≡ false
+    pub none-second : binaryFrom ≤ kind table n → someNode G (treeAt table n) ≡ false → someNode G (treeAt table (second table n)) ≡ false
     none-second l e =
         or-none (someNode G (treeAt table (first table n))) (someNode G (treeAt table (second table n)))
         (or-none (G (treeAt table n)) (someNode G (treeAt table (first table n)) || someNode G (treeAt table (second table n))) (sym (here-two l) ∙ e) .1) .1
@@ -95,16 +95,16 @@ module _ (G : Text → Bool) where
   module _ (table : List ℕ) (count : ℕ) (falling : Falling table count) where
     -- a node under n that has G is a node of the text
     pub some-under : (n m : ℕ) → n < count → Under table n m → G (treeAt table m) ≡ true → someNode G (treeAt table n) ≡ true
-    some-under n m inn here e = by (decLt (kind table n) 15) (decLt (kind table n) 19)
+    some-under n m inn here e = by (decLt (kind table n) unaryFrom) (decLt (kind table n) binaryFrom)
       where
-        by : Dec (kind table n < 15) → Dec (kind table n < 19) → someNode G (treeAt table n) ≡ true
+        by : Dec (kind table n < unaryFrom) → Dec (kind table n < binaryFrom) → someNode G (treeAt table n) ≡ true
         by (yes h) d = here-leaf table count falling n inn h ∙ e
         by (no h) (yes k) = here-one table count falling n inn (omega arith) k ∙ or-first (G (treeAt table n)) _ e
         by (no h) (no k) = here-two table count falling n inn (omega arith) ∙ or-first (G (treeAt table n)) _ e
     some-under n m inn (on-first l u) e =
-        let s = falls-first table count falling n inn l in by (decLt (kind table n) 19) (some-under (first table n) m (omega arith) u e)
+        let s = falls-first table count falling n inn l in by (decLt (kind table n) binaryFrom) (some-under (first table n) m (omega arith) u e)
       where
-        by : Dec (kind table n < 19) → someNode G (treeAt table (first table n)) ≡ true → someNode G (treeAt table n) ≡ true
+        by : Dec (kind table n < binaryFrom) → someNode G (treeAt table (first table n)) ≡ true → someNode G (treeAt table n) ≡ true
         by (yes k) child = here-one table count falling n inn l k ∙ or-second (G (treeAt table n)) _ child
         by (no k) child = here-two table count falling n inn (omega arith) ∙ or-second (G (treeAt table n)) _ (or-first (someNode G (treeAt table (first table n))) _ child)
     some-under n m inn (on-second l u) e =
@@ -116,12 +116,12 @@ module _ (G : Text → Bool) where
     pub none-under : (f n : ℕ) → n < f → n < count → ((m : ℕ) → Under table n m → G (treeAt table m) ≡ false) → someNode G (treeAt table n) ≡ false
     none-under zero n h inn e = absurd (not-suc-le-zero h)
     none-under (suc f) n h inn e =
-        by (decLt (kind table n) 15) (decLt (kind table n) 19)
+        by (decLt (kind table n) unaryFrom) (decLt (kind table n) binaryFrom)
         (λ l. let s = falls-first table count falling n inn l in none-under f (first table n) (omega arith) (omega arith) (λ m u. e m (on-first l u)))
         (λ l. let s = falls-second table count falling n inn l in none-under f (second table n) (omega arith) (omega arith) (λ m u. e m (on-second l u)))
       where
-        by : Dec (kind table n < 15) → Dec (kind table n < 19) → (15 ≤ kind table n → someNode G (treeAt table (first table n)) ≡ false)
-            → (19 ≤ kind table n → someNode G (treeAt table (second table n)) ≡ false) → someNode G (treeAt table n) ≡ false
+        by : Dec (kind table n < unaryFrom) → Dec (kind table n < binaryFrom) → (unaryFrom ≤ kind table n → someNode G (treeAt table (first table n)) ≡ false)
+            → (binaryFrom ≤ kind table n → someNode G (treeAt table (second table n)) ≡ false) → someNode G (treeAt table n) ≡ false
         by (yes k) d p q = here-leaf table count falling n inn k ∙ e n here
         by (no k) (yes j) p q = here-one table count falling n inn (omega arith) j ∙ or-false (G (treeAt table n)) _ (e n here) (p (omega arith))
         by (no k) (no j) p q =

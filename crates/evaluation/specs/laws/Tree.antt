@@ -9,7 +9,7 @@ use mathlib.Core.List.{List, [], _∷_, _++_}
 use lib.ListN.{length, getD, List·getD-append}
 use Rattle.grammar.specs.Syntax.{Text, listed, lag}
 use Rattle.grammar.specs.declared.Row.{Row}
-use Rattle.grammar.specs.inner.Table.{row, leafTexts, unaries, binaries, build, rowAt, tree, treeAt, Falling}
+use Rattle.grammar.specs.inner.Table.{row, leafTexts, unaries, binaries, build, rowAt, tree, treeAt, Falling, binaryFrom, kinds, unaryFrom}
 use Rattle.leaves.specs.inner.Leaf.{leafOf}
 use Rattle.evaluation.specs.laws.Step.{four}
 
@@ -19,17 +19,17 @@ getD-within (x ∷ l) zero d e h = refl
 getD-within (x ∷ l) (suc i) d e h = getD-within l i d e (le-of-suc-le-suc h)
 
 -- the trees of the children do not matter to a leaf, nor the second to a node with one child
-pub build-leaf : (r : Row) (p q : Text) → r .kind < 15 → build r p q ≡ leafOf r
+pub build-leaf : (r : Row) (p q : Text) → r .kind < unaryFrom → build r p q ≡ leafOf r
 build-leaf r p q h =
     List·getD-append (leafTexts r) (unaries p ++ binaries p q) p (r .kind) h ∙ getD-within (leafTexts r) (r .kind) p (listed lag) h
 
-build-one : (a b n k : ℕ) (p q s : Text) → 15 ≤ k → k < 19 → build (row k a b n) p q ≡ build (row k a b n) p s
-build-one a b n k p q s l h = four (λ (k : ℕ). build (row k a b n) p q ≡ build (row k a b n) p s) 15 k l h refl refl refl refl
+build-one : (a b n k : ℕ) (p q s : Text) → unaryFrom ≤ k → k < binaryFrom → build (row k a b n) p q ≡ build (row k a b n) p s
+build-one a b n k p q s l h = four (λ (k : ℕ). build (row k a b n) p q ≡ build (row k a b n) p s) unaryFrom k l h refl refl refl refl
 
-build-same : (r : Row) (p q p' q' : Text) → (15 ≤ r .kind → p ≡ p') → (19 ≤ r .kind → q ≡ q') → build r p q ≡ build r p' q'
-build-same r p q p' q' e f = by (decLt (r .kind) 15) (decLt (r .kind) 19)
+build-same : (r : Row) (p q p' q' : Text) → (unaryFrom ≤ r .kind → p ≡ p') → (binaryFrom ≤ r .kind → q ≡ q') → build r p q ≡ build r p' q'
+build-same r p q p' q' e f = by (decLt (r .kind) unaryFrom) (decLt (r .kind) binaryFrom)
   where
-    by : Dec (r .kind < 15) → Dec (r .kind < 19) → build r p q ≡ build r p' q'
+    by : Dec (r .kind < unaryFrom) → Dec (r .kind < binaryFrom) → build r p q ≡ build r p' q'
     by (yes h) d = build-leaf r p q h ∙ sym (build-leaf r p' q' h)
     by (no h) (yes k) =
         ap (λ (t : Text). build r t q) (e (omega arith)) ∙ build-one (r .first) (r .second) (r .number) (r .kind) p' q q' (omega arith) k
@@ -55,14 +55,14 @@ module _ (table : List ℕ) (count : ℕ) (falling : Falling table count) where
       (λ h. let s = w .0 h in tree-more n (suc (rowAt table n .first)) (rowAt table n .first) (omega arith) s (omega arith))
       (λ h. let s = w .1 h in tree-more n (suc (rowAt table n .second)) (rowAt table n .second) (omega arith) s (omega arith))
 
-  pub falls-first : (n : ℕ) → n < count → 15 ≤ rowAt table n .kind → rowAt table n .first < n
+  pub falls-first : (n : ℕ) → n < count → unaryFrom ≤ rowAt table n .kind → rowAt table n .first < n
   unfolding Falling
   falls-first n c h = falling n c .0 h
 
-  pub falls-second : (n : ℕ) → n < count → 19 ≤ rowAt table n .kind → rowAt table n .second < n
+  pub falls-second : (n : ℕ) → n < count → binaryFrom ≤ rowAt table n .kind → rowAt table n .second < n
   unfolding Falling
   falls-second n c h = falling n c .1 h
 
-  pub kind-known : (n : ℕ) → n < count → rowAt table n .kind < 23
+  pub kind-known : (n : ℕ) → n < count → rowAt table n .kind < kinds
   unfolding Falling
   kind-known n c = falling n c .2

@@ -8,10 +8,8 @@ use mathlib.Core.Logic.{⊎-elim}
 use mathlib.Core.List.{List}
 use lib.ListN.{length, take}
 use Rattle.number.specs.Axis.{axis}
-use Rattle.runset.specs.Set.{inside}
-use Rattle.runset.specs.inner.Lent.{Lent, CutsOf, Fills}
-use Rattle.runset.specs.laws.Lent.{fills-ext, few-runs}
-use Rattle.runset.specs.declared.merge.Filled.{Filled}
+use Rattle.runset.specs.Set.{member, Valid, Holds}
+use Rattle.runset.specs.laws.Set.{holds-ext}
 use Rattle.grammar.specs.Syntax.{Text, atom, listed, or, and, neg, finally, globally, next, until, weakUntil}
 use Rattle.grammar.specs.Size.{temporal}
 use Rattle.grammar.specs.inner.Table.{treeAt}
@@ -41,9 +39,9 @@ below-none : (f : ℕ → Bool) (n : ℕ) → ((i : ℕ) → i < n → f i ≡ f
 below-none f zero h = refl
 below-none f (suc n) h = ap (λ (b : Bool). b || someBelow f n) (h n (omega arith)) ∙ below-none f n (λ i k. h i (omega arith))
 
--- the same set, by an equal list of cuts
-pub fills-same : {l k : List ℕ} (out : List ℕ) (m : Filled) → l ≡ k → Fills (inside l) out m → Fills (inside k) out m
-fills-same out m e w = subst (λ (t : List ℕ). Fills (inside t) out m) e w
+-- the same set, by equal words
+pub holds-same : {a b : List ℕ} (words : List ℕ) → a ≡ b → Holds (member a) words → Holds (member b) words
+holds-same words e w = subst (λ (l : List ℕ). Holds (member l) words) e w
 
 -- the sets of the nodes under the root at record i
 abbrev Sets : List ℕ → ℕ → List Coded → ℕ → List ℕ → Type 0
@@ -75,20 +73,21 @@ module _ (table : List ℕ) (count : ℕ) (rec : List ℕ) (asking : Asking tabl
   large-over : (i : ℕ) → Large table (coded rec) i (count - 1) → overAt (coded rec) (textOf table count) i ≡ true
   large-over i l = some-under (λ q. largeAt (coded rec) q i) table count (asking .falling) (count - 1) (l .node) root-in (l .under) (l .large)
 
-  set-of : (i : ℕ) (sets : List ℕ) → Right table (coded rec) i (count - 1) sets → CutsOf (λ v. val (coded rec) v (textOf table count) i) (slot sets (count - 1))
+  set-of : (i : ℕ) (sets : List ℕ) → Right table (coded rec) i (count - 1) sets → Holds (λ v. val (coded rec) v (textOf table count) i) (slot sets (count - 1))
   unfolding Right
   set-of i sets h = h
 
   -- the root's set is handed out
-  handed : (sets out : List ℕ) (m : Filled) → Right table (coded rec) 0 (count - 1) sets → Fills (inside (slot sets (count - 1))) out m
-      → refused8 (coded rec) (textOf table count) ≡ false → Evaluates (coded rec) (textOf table count) out m
-  handed sets out m h w e =
-      let c = set-of 0 sets h in
-      let g = fills-ext (inside (slot sets (count - 1))) (λ v. val (coded rec) v (textOf table count) 0) out m (λ v k. c .members v k) w in
-      record { over = g .over ∙ few-runs (λ v. val (coded rec) v (textOf table count) 0) (slot sets (count - 1)) c ∙ sym e; few = g .few; cuts = g .cuts }
+  handed : (sets words : List ℕ) → Right table (coded rec) 0 (count - 1) sets → Holds (member (slot sets (count - 1))) words
+      → refused8 (coded rec) (textOf table count) ≡ false → Evaluates (coded rec) (textOf table count) words false
+  handed sets words h w e =
+      record {
+        flag = sym e;
+        holds = λ z. holds-ext (member (slot sets (count - 1))) (λ v. val (coded rec) v (textOf table count) 0) words (set-of 0 sets h .members) w;
+      }
 
-  pub root-lent : (i : ℕ) (sets : List ℕ) → Right table (coded rec) i (count - 1) sets → Lent (slot sets (count - 1))
-  root-lent i sets h = set-of i sets h .lent
+  pub root-valid : (i : ℕ) (sets : List ℕ) → Right table (coded rec) i (count - 1) sets → Valid (slot sets (count - 1))
+  root-valid i sets h = set-of i sets h .valid
 
   -- ---- a text without F, G, X, U and W: the first record alone
 
@@ -113,17 +112,17 @@ module _ (table : List ℕ) (count : ℕ) (rec : List ℕ) (asking : Asking tabl
         }
 
     pub flat-over : (before after out : List ℕ) (b : Bool) → b ≡ true → Outcome table (coded rec) 0 (count - 1) before after b
-        → Evaluates (coded rec) (textOf table count) out (record { over = true; n = 0 })
+        → Evaluates (coded rec) (textOf table count) out true
     flat-over before after out b e o =
-        record { over = sym (flat-eight ∙ large-over 0 (o .bad e)); few = λ z. absurd (false≢true (sym z)); cuts = λ z. absurd (false≢true (sym z)) }
+        record { flag = sym (flat-eight ∙ large-over 0 (o .bad e)); holds = λ z. absurd (false≢true (sym z)) }
 
     pub flat-right : (before after : List ℕ) (b : Bool) → b ≡ false → Outcome table (coded rec) 0 (count - 1) before after b → Right table (coded rec) 0 (count - 1) after
     flat-right before after b e o = o .good e .done (count - 1) here
 
-    pub flat-done : (before after out : List ℕ) (b : Bool) (m : Filled) → b ≡ false → Outcome table (coded rec) 0 (count - 1) before after b
-        → Fills (inside (slot after (count - 1))) out m → Evaluates (coded rec) (textOf table count) out m
-    flat-done before after out b m e o w =
-        handed after out m (flat-right before after b e o) w (flat-eight ∙ small-over 0 (o .good e .small))
+    pub flat-done : (before after out : List ℕ) (b : Bool) → b ≡ false → Outcome table (coded rec) 0 (count - 1) before after b
+        → Holds (member (slot after (count - 1))) out → Evaluates (coded rec) (textOf table count) out false
+    flat-done before after out b e o w =
+        handed after out (flat-right before after b e o) w (flat-eight ∙ small-over 0 (o .good e .small))
 
   -- ---- a text with F, G, X, U or W: all records, from the last on
 
@@ -192,12 +191,11 @@ module _ (table : List ℕ) (count : ℕ) (rec : List ℕ) (asking : Asking tabl
 
     module _ (deep : temporal (textOf table count) ≡ true) where
       pub walk-over : (before after out : List ℕ) (x : Bool) → x ≡ true → Outcome table (coded rec) (i - 1) (count - 1) before after x
-          → Evaluates (coded rec) (textOf table count) out (record { over = true; n = 0 })
+          → Evaluates (coded rec) (textOf table count) out true
       walk-over before after out x e o =
           record {
-            over = sym (eight-deep deep ∙ below-some (overAt (coded rec) (textOf table count)) (length (coded rec)) (i - 1) (omega (arith, w .end)) (large-over (i - 1) (o .bad e)));
-            few = λ z. absurd (false≢true (sym z));
-            cuts = λ z. absurd (false≢true (sym z));
+            flag = sym (eight-deep deep ∙ below-some (overAt (coded rec) (textOf table count)) (length (coded rec)) (i - 1) (omega (arith, w .end)) (large-over (i - 1) (o .bad e)));
+            holds = λ z. absurd (false≢true (sym z));
           }
 
   -- the walk is over
@@ -211,6 +209,6 @@ module _ (table : List ℕ) (count : ℕ) (rec : List ℕ) (asking : Asking tabl
     pub right-b : flip ≡ false → Right table (coded rec) 0 (count - 1) b
     right-b e = w .in-b e (asking .record-there) (count - 1) here
 
-    pub walk-done : temporal (textOf table count) ≡ true → (sets out : List ℕ) (m : Filled) → Right table (coded rec) 0 (count - 1) sets
-        → Fills (inside (slot sets (count - 1))) out m → Evaluates (coded rec) (textOf table count) out m
-    walk-done deep sets out m h f = handed sets out m h f (none-over deep)
+    pub walk-done : temporal (textOf table count) ≡ true → (sets out : List ℕ) → Right table (coded rec) 0 (count - 1) sets
+        → Holds (member (slot sets (count - 1))) out → Evaluates (coded rec) (textOf table count) out false
+    walk-done deep sets out h f = handed sets out h f (none-over deep)

@@ -7,10 +7,8 @@ use mathlib.Core.List.{List}
 use lib.Dec.{leb, ltb, eqb}
 use borrow.Author.Tests.{le-leb, leb-true, eqb-true, eq-eqb, ltb-true, lt-ltb}
 use Rattle.number.specs.Axis.{axis}
-use Rattle.runset.specs.inner.Lent.{Fills}
-use Rattle.runset.specs.laws.Lent.{fills-ext}
-use Rattle.runset.specs.laws.Set.{nothing-between, everything-between}
-use Rattle.runset.specs.declared.merge.Filled.{Filled}
+use Rattle.runset.specs.Set.{Holds, Makes}
+use Rattle.runset.specs.laws.Set.{nothing-between, everything-between, holds-ext, holds-makes}
 use Rattle.number.specs.laws.Boolean.{same, and-left, and-right, and-make}
 use Rattle.leaves.specs.declared.span.Span.{Span}
 use Rattle.leaves.specs.inner.Span.{Spans}
@@ -66,6 +64,6 @@ spans-low = spans-by (λ v. ltb v 0) 1 0 (omega arith) (λ v g e. absurd (none v
     none : (v : ℕ) → v < 0 → ⊥
     none v h = omega arith
 
--- THE CUTS OF A SPAN
-pub spans-fill : (f : ℕ → Bool) (s : Span) (out : List ℕ) (r : Filled) → Spans f s → Fills (λ v. leb (s .low) v && leb v (s .high)) out r → Fills f out r
-spans-fill f s out r w = fills-ext (λ v. leb (s .low) v && leb v (s .high)) f out r (w .members)
+-- THE SET OF A SPAN
+pub spans-make : (f : ℕ → Bool) (s : Span) (words : List ℕ) → Spans f s → Holds (λ v. leb (s .low) v && leb v (s .high)) words → Makes f words false
+spans-make f s words w h = holds-makes f words (holds-ext (λ v. leb (s .low) v && leb v (s .high)) f words (w .members) h)

@@ -1,9 +1,9 @@
--- The times that a scan leaves in an array, shifted to indices; and the cuts of the sets that are taken of them.
+-- The times that a scan leaves in an array, shifted to indices.
 use Prim.Native.Nat.{ℕ, zero, suc, _+_, _≤_, _<_}
 use native.Mathlib.Omega.{arith}
 use native.Mathlib.Nat.{not-suc-le-zero, le-of-suc-le-suc}
 use mathlib.Core.Path.{_≡_, refl, sym, ap, _∙_}
-use mathlib.Core.Bool.{Bool, true, false, true≢false}
+use mathlib.Core.Bool.{Bool, true, false}
 use mathlib.Core.Logic.{⊎-elim}
 use mathlib.Core.List.{List, [], _∷_, _++_, map}
 use lib.ListN.{length, getD, take, drop, length-map, length-append, length-drop, length-set}
@@ -19,18 +19,12 @@ use Rattle.tops.specs.Tops as raw
 use Rattle.tops.specs.inner.Scan.{Scanned}
 use Rattle.tops.specs.laws.Scan.{scanned-at}
 use Rattle.tops.specs.laws.Top.{tops-half, crossings-half}
-use Rattle.runset.specs.Set.{inside}
-use Rattle.runset.specs.inner.Lent.{Lent, Fills}
-use Rattle.runset.specs.laws.Lent.{fills-ext}
-use Rattle.runset.specs.declared.merge.Filled.{Filled}
 use Rattle.meaning.specs.inner.Coded.{codedTop, codedCrossing, topTimes, crossingTimes}
 use Rattle.meaning.specs.laws.Recorded.{accepted-recorded}
 use Rattle.meaning.specs.laws.Pick.{map-map}
 use Rattle.meaning.specs.laws.Listed.{all-settled, tops-code, crossings-code}
 use Rattle.differences.specs.inner.Times.{Times}
 use Rattle.differences.specs.laws.Times.{picked-times}
-use Rattle.differences.specs.inner.Cuts.{cutsOf, Collects}
-use Rattle.differences.specs.declared.Cuts.{Cuts}
 use Rattle.meaning.specs.inner.Coded.{coded}
 use Rattle.leaves.specs.laws.Coding.{length-readings}
 use Rattle.leaves.specs.inner.Stamps.{mostEdges, indexOf, Early, Shifted, Stamped}
@@ -132,25 +126,3 @@ module _ (rec : List ℕ) (a : Accepted rec) where
   crossings-few =
       let e = ap length crossing-stamps ∙ length-map (raw.crossingTimes (readings rec)) indexOf in
       omega (arith, crossings-half (readings rec), few)
-
--- ---- cuts
-
-module _ (f : ℕ → Bool) (s : Cuts) (c : Collects f s) where
-  pub cuts-there : s .n ≤ length (s .cuts)
-  cuts-there = omega (arith, c .few, c .size)
-
-  pub cuts-lent : Lent (cutsOf s)
-  cuts-lent = record {
-    canonical = record { ascending = c .ascending; ended = c .ended };
-    few = omega (arith, c .few, length-take-le (s .n) (s .cuts) cuts-there);
-  }
-
-  pub cuts-over : (out : List ℕ) (r : Filled) → s .over ≡ true → r .over ≡ true → Fills f out r
-  cuts-over out r o e = record {
-    over = e ∙ sym o ∙ c .over;
-    few = λ z. absurd (true≢false (sym e ∙ z));
-    cuts = λ z. absurd (true≢false (sym e ∙ z));
-  }
-
-  pub cuts-fill : (out : List ℕ) (r : Filled) → s .over ≡ false → Fills (inside (cutsOf s)) out r → Fills f out r
-  cuts-fill out r o = fills-ext (inside (cutsOf s)) f out r (λ v h. c .members o v h)

@@ -7,7 +7,7 @@ use Rattle.refusal.specs.Outcome.{Outcome, refused, judged, NoneMeets}
 use Rattle.refusal.specs.Numbers.{numberOf, placeOf}
 use Rattle.refusal.specs.declared.Refusal.{Refusal}
 use Rattle.recording.specs.Recording.{Accepted}
-use Rattle.runset.specs.Set.{Represents}
+use Rattle.runset.specs.Set.{Holds}
 use Rattle.grammar.specs.Syntax.{Text}
 use Rattle.grammar.specs.Size.{mostNodes}
 use Rattle.grammar.specs.inner.Table.{Falling}
@@ -18,7 +18,6 @@ use Rattle.evaluation.specs.inner.Evaluation.{textOf}
 use Rattle.question.specs.Question.{setLines}
 use Rattle.question.specs.declared.answered.Verdict.{Verdict}
 use Rattle.question.specs.declared.answered.Verdict.the-variants.{Fine, Refused}
-use Rattle.question.specs.declared.answered.Answered.{Answered}
 
 -- a table of nodes that stands for a text, and an accepted recording with a record
 pub record Ready (table : List ℕ) (count : ℕ) (bytes : List ℕ) : Type 0 where
@@ -31,7 +30,7 @@ pub record Ready (table : List ℕ) (count : ℕ) (bytes : List ℕ) : Type 0 wh
   pub few : count ≤ mostNodes
 
 -- refused by 9 or 8 exactly as the table has it; else the set of the numbers with which the text is true at the first record
-pub record Gives (bytes : List ℕ) (p : Text) (a : Answered) : Type 0 where
-  pub refusal : (x : Refusal) → a .verdict ≡ Refused x → judged {R = Unit {0}} (setLines bytes p) tt ≡ refused (numberOf x) (placeOf x)
-  pub none : a .verdict ≡ Fine → NoneMeets (setLines bytes p)
-  pub set : a .verdict ≡ Fine → Represents (λ n. val (coded bytes) n p 0) (a .set)
+pub record Gives (bytes : List ℕ) (p : Text) (words : List ℕ) (verdict : Verdict) : Type 0 where
+  pub refusal : (x : Refusal) → verdict ≡ Refused x → judged {R = Unit {0}} (setLines bytes p) tt ≡ refused (numberOf x) (placeOf x)
+  pub none : verdict ≡ Fine → NoneMeets (setLines bytes p)
+  pub set : verdict ≡ Fine → Holds (λ n. val (coded bytes) n p 0) words

@@ -4,27 +4,22 @@ use native.Mathlib.Omega.{arith}
 use mathlib.Core.Path.{_≡_, refl, sym, ap, subst, _∙_}
 use mathlib.Core.List.{List, [], _∷_}
 use mathlib.Core.Bool.{Bool, true, false}
-use lib.ListN.{length, take}
+use lib.ListN.{length}
 use Rattle.number.specs.Axis.{axis}
 use Rattle.refusal.specs.Outcome.{Outcome, refused, judged, line, NoneMeets}
 use Rattle.refusal.specs.Numbers.{numberOf, placeOf}
 use Rattle.refusal.specs.declared.Refusal.{Refusal}
 use Rattle.refusal.specs.declared.Refusal.the-variants.{TooManyTops, TooManyRuns}
 use Rattle.recording.specs.laws.Outcome.{judged-first, judged-skip}
-use Rattle.runset.specs.Set.{inside, Represents}
-use Rattle.runset.specs.laws.Set.{represents-ext}
-use Rattle.runset.specs.inner.Lent.{Lent}
-use Rattle.runset.specs.declared.RunSet.{RunSet}
-use Rattle.runset.specs.declared.merge.Filled.{Filled}
+use Rattle.runset.specs.Set.{Holds}
 use Rattle.grammar.specs.Syntax.{Text}
 use Rattle.meaning.specs.inner.Coded.{coded}
 use Rattle.meaning.specs.inner.Truth.{val, refused8, refused9}
-use Rattle.evaluation.specs.inner.Evaluation.{textOf, Asking, Evaluates}
+use Rattle.evaluation.specs.inner.Evaluation.{textOf, Asking}
 use Rattle.question.specs.Question.{setLines}
 use Rattle.question.specs.inner.Answered.{Ready, Gives}
 use Rattle.question.specs.declared.answered.Verdict.{Verdict}
 use Rattle.question.specs.declared.answered.Verdict.the-variants.{Fine, Refused}
-use Rattle.question.specs.declared.answered.Answered.{Answered}
 
 -- a refusal as an outcome
 abbrev told : Refusal → Outcome (Unit {0})
@@ -39,9 +34,9 @@ refused-fine x e = let z : _≡_ {A = ℕ} 0 1 = cc in absurd (bad z)
 same-refusal : (x y : Refusal) → Refused x ≡ Refused y → x ≡ y
 same-refusal x y e = cc
 
-module _ (bytes : List ℕ) (p : Text) (set : RunSet) where
+module _ (bytes : List ℕ) (p : Text) (words : List ℕ) where
   -- refused by x, as the lines have it
-  gives-refused : (x : Refusal) → judged {R = Unit {0}} (setLines bytes p) tt ≡ refused (numberOf x) (placeOf x) → Gives bytes p (record { verdict = Refused x; set = set })
+  gives-refused : (x : Refusal) → judged {R = Unit {0}} (setLines bytes p) tt ≡ refused (numberOf x) (placeOf x) → Gives bytes p words (Refused x)
   gives-refused x e =
       record {
         refusal = λ y q. e ∙ ap told (same-refusal x y q);
@@ -49,16 +44,16 @@ module _ (bytes : List ℕ) (p : Text) (set : RunSet) where
         set = λ q. refused-fine x q;
       }
 
-  pub gives-nine : refused9 (coded bytes) p ≡ true → Gives bytes p (record { verdict = Refused TooManyTops; set = set })
+  pub gives-nine : refused9 (coded bytes) p ≡ true → Gives bytes p words (Refused TooManyTops)
   gives-nine e = gives-refused TooManyTops (judged-first (line 9 (refused9 (coded bytes) p)) (line 8 (refused8 (coded bytes) p) ∷ []) tt e)
 
   module _ (nine : refused9 (coded bytes) p ≡ false) where
-    pub gives-eight : refused8 (coded bytes) p ≡ true → Gives bytes p (record { verdict = Refused TooManyRuns; set = set })
+    pub gives-eight : refused8 (coded bytes) p ≡ true → Gives bytes p words (Refused TooManyRuns)
     gives-eight e =
         gives-refused TooManyRuns
         (judged-skip [] (line 9 (refused9 (coded bytes) p)) (line 8 (refused8 (coded bytes) p) ∷ []) tt nine ∙ judged-first (line 8 (refused8 (coded bytes) p)) [] tt e)
 
-    pub gives-set : refused8 (coded bytes) p ≡ false → Represents (λ n. val (coded bytes) n p 0) set → Gives bytes p (record { verdict = Fine; set = set })
+    pub gives-set : refused8 (coded bytes) p ≡ false → Holds (λ n. val (coded bytes) n p 0) words → Gives bytes p words Fine
     gives-set eight h =
         record { refusal = λ y q. refused-fine y (sym q); none = λ q. (nine, (eight, tt)); set = λ q. h }
 
@@ -73,8 +68,3 @@ module _ (table : List ℕ) (count : ℕ) (bytes : List ℕ) (ready : Ready tabl
         record-there = ready .record-there;
         askable = record { accepted = ready .accepted; few-tops = nine };
       }
-
-  -- the set that is made of the cuts
-  pub made-set : (out : List ℕ) (m : Filled) (s : RunSet) → Evaluates (coded bytes) (textOf table count) out m → m .over ≡ false
-      → Represents (inside (take (m .n) out)) s → Represents (λ n. val (coded bytes) n (textOf table count) 0) s
-  made-set out m s e o h = represents-ext (inside (take (m .n) out)) (λ n. val (coded bytes) n (textOf table count) 0) s (e .cuts o .members) h

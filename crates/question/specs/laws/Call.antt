@@ -22,7 +22,7 @@ use Rattle.recording.specs.declared.Written.{Written}
 use Rattle.recording.specs.declared.Written.the-variants as written
 use Rattle.runset.specs.Runs.{runCount, setBytes}
 use Rattle.runset.specs.laws.Runs.{setBytes-ext, setBytes-length}
-use Rattle.runset.specs.Set.{member, Represents}
+use Rattle.runset.specs.Set.{member}
 use Rattle.runset.specs.declared.RunSet.{RunSet}
 use Rattle.grammar.specs.Syntax.{Text}
 use Rattle.grammar.specs.Size.{tooDeep, mostNodes}
@@ -41,7 +41,6 @@ use Rattle.question.specs.declared.prepare.Prepared.{Prepared}
 use Rattle.question.specs.declared.prepare.Prepared.the-variants as prepared
 use Rattle.question.specs.declared.answered.Verdict.{Verdict}
 use Rattle.question.specs.declared.answered.Verdict.the-variants.{Fine, Refused}
-use Rattle.question.specs.declared.answered.Answered.{Answered}
 
 -- ---- writing a set
 
@@ -62,16 +61,16 @@ module _ (f : ℕ → Bool) (old : List ℕ) (n : ℕ) (size : n ≡ 8 * runCoun
 
 -- ---- the answered set, or 9 or 8
 
-module _ (bytes : List ℕ) (p : Text) (a : Answered) (g : Gives bytes p a) (old : List ℕ) where
-  pub answer-refused : (x : Refusal) → a .verdict ≡ Refused x → Answers (answerOf bytes p (length old)) old (written.Refused x) old
+module _ (bytes : List ℕ) (p : Text) (words : List ℕ) (a : Verdict) (g : Gives bytes p words a) (old : List ℕ) where
+  pub answer-refused : (x : Refusal) → a ≡ Refused x → Answers (answerOf bytes p (length old)) old (written.Refused x) old
   answer-refused x e =
       answers-refused (answerOf bytes p (length old)) old x
       (refusal-stands (setLines bytes p) (outputLine (length old) (setBytes (λ n. val (coded bytes) n p 0)) ∷ []) tt (setBytes (λ n. val (coded bytes) n p 0)) (numberOf x) (placeOf x) (g .refusal x e))
 
-  pub answer-fine : a .verdict ≡ Fine → (r : Written) (new : List ℕ) → Answers (writtenOf (member (a .set)) (length old)) old r new → Answers (answerOf bytes p (length old)) old r new
+  pub answer-fine : a ≡ Fine → (r : Written) (new : List ℕ) → Answers (writtenOf (member words) (length old)) old r new → Answers (answerOf bytes p (length old)) old r new
   answer-fine e r new w =
-      let same : setBytes (member (a .set)) ≡ setBytes (λ n. val (coded bytes) n p 0) = setBytes-ext (member (a .set)) (λ n. val (coded bytes) n p 0) (g .set e .members) in
-      let o : writtenOf (member (a .set)) (length old) ≡ answerOf bytes p (length old) =
+      let same : setBytes (member words) ≡ setBytes (λ n. val (coded bytes) n p 0) = setBytes-ext (member words) (λ n. val (coded bytes) n p 0) (g .set e .members) in
+      let o : writtenOf (member words) (length old) ≡ answerOf bytes p (length old) =
       ap (λ (bs : List ℕ). judged (outputLine (length old) bs ∷ []) bs) same
       ∙ sym (judged-pass (setLines bytes p) (outputLine (length old) (setBytes (λ n. val (coded bytes) n p 0)) ∷ []) (setBytes (λ n. val (coded bytes) n p 0)) (g .none e)) in
       subst (λ (k : Outcome (List ℕ)). Answers k old r new) o w

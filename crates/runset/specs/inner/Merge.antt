@@ -5,8 +5,7 @@ use mathlib.Core.Bool.{Bool, true, false, not, _||_, _&&_}
 use mathlib.Core.List.{List, [], _∷_, _++_}
 use lib.Dec.{ltb}
 use lib.ListN.{length, take, drop}
-use Rattle.runset.specs.Runs.{mostRuns}
-use Rattle.runset.specs.Set.{xor, Canonical}
+use Rattle.runset.specs.Set.{xor}
 use Rattle.runset.specs.declared.merge.Op.{Op}
 use Rattle.runset.specs.declared.merge.Op.the-variants.{Or, And, Xor}
 use Rattle.runset.specs.declared.merge.Step.{Step}
@@ -35,12 +34,6 @@ mergeCuts f p q (x ∷ xs) (y ∷ ys) =
             | false ↦ emit (f p q) (f (not p) (not q)) x (mergeCuts f (not p) (not q) xs ys)
           ]
     ]
-
--- the first n of the numbers are the cuts of a set, of what two sets share at most
-pub record Operand (numbers : List ℕ) (n : ℕ) : Type 0 where
-  pub there : n ≤ length numbers
-  pub few : n ≤ 4 * mostRuns
-  pub canonical : Canonical (take n numbers)
 
 -- one step from i and j on: the next cut of either list
 pub record Stepped (a : List ℕ) (na i : ℕ) (p : Bool) (b : List ℕ) (nb j : ℕ) (q : Bool) (r : Step) : Type 0 where

@@ -8,8 +8,9 @@ use native.Mathlib.Omega.{arith}
 use lib.Dec.{ltb, leb, eqb}
 use lib.ListN.{length, getD, length-append, List·getD-append}
 use lib.Seq.{getD-append-add}
-use borrow.Author.Tests.{eq-eqb, ne-eqb, eqb-true, lt-ltb, le-ltb}
+use borrow.Author.Tests.{eq-eqb, ne-eqb, eqb-true, lt-ltb, le-ltb, ltb-true}
 use Rattle.number.specs.Axis.{axis}
+use Rattle.number.specs.laws.Boolean.{and-left, and-right, and-make}
 use Rattle.number.specs.laws.Order.{less-or-not, less-more-equal, true-or-false}
 use Rattle.runset.specs.Runs.{startsAt, endsAt, below, lows, highs, runCount, mostRuns, numberBytes, runBytes, setBytes}
 use Rattle.runset.specs.Set.{xor, inside, Ascending, Canonical}
@@ -47,6 +48,33 @@ module _ (f g : ℕ → Bool) (e : (v : ℕ) → v < axis → f v ≡ g v) where
   pub setBytes-ext : setBytes f ≡ setBytes g
   unfolding setBytes
   setBytes-ext = ap₂ runBytes lows-ext highs-ext
+
+-- ---- the part of a set below a number has no more runs than the set
+
+below-fewer : (P Q : ℕ → Bool) (n : ℕ) → ((v : ℕ) → P v ≡ true → Q v ≡ true) → length (below P n) ≤ length (below Q n)
+unfolding below
+below-fewer P Q zero i = omega arith
+below-fewer P Q (suc n) i =
+    let h = below-fewer P Q n i in
+    let p = length-append (below P n) (cond (P n) (n ∷ []) []) in
+    let q = length-append (below Q n) (cond (Q n) (n ∷ []) []) in
+    let g = one (P n) (Q n) (i n) in
+    omega arith
+  where
+    one : (a b : Bool) → (a ≡ true → b ≡ true) → length (cond a (n ∷ []) []) ≤ length (cond b (n ∷ []) [])
+    one false b i = omega arith
+    one true b i = rw (i refl) (omega arith)
+
+pub fewer-below : (f : ℕ → Bool) (x : ℕ) → runCount (λ v. ltb v x && f v) ≤ runCount f
+fewer-below f x = below-fewer (startsAt (λ v. ltb v x && f v)) (startsAt f) axis starts
+  where
+    starts : (v : ℕ) → startsAt (λ v. ltb v x && f v) v ≡ true → startsAt f v ≡ true
+    starts zero e = and-right (ltb zero x) (f zero) e
+    starts (suc v) e =
+        let here = and-left (ltb (suc v) x && f (suc v)) (not (ltb v x && f v)) e in
+        let less : v < x = omega (arith, ltb-true (suc v) x (and-left (ltb (suc v) x) (f (suc v)) here)) in
+        and-make (f (suc v)) (not (f v)) (and-right (ltb (suc v) x) (f (suc v)) here)
+        (sym (ap (λ (b : Bool). not (b && f v)) (lt-ltb v x less)) ∙ and-right (ltb (suc v) x && f (suc v)) (not (ltb v x && f v)) e)
 
 -- ---- an ascending list is the numbers of which P holds, if its elements are
 
@@ -203,12 +231,13 @@ starts-member : (f : ℕ → Bool) (v : ℕ) → startsAt f v ≡ true → f v �
 starts-member f zero e = e
 starts-member f (suc v) e = both (f (suc v)) (not (f v)) e
 
+-- what is inside lies on the axis
+pub on-axis : (l : List ℕ) → Canonical l → (v : ℕ) → inside l v ≡ true → v < axis
+on-axis l c v h =
+    ⊎-elim (λ g. g) (λ g. absurd (false≢true (sym (past 0 axis l v (c .ascending) g ∙ c .ended) ∙ h))) (less-or-not v axis)
+
 -- a list of cuts with the members f
 module _ (f : ℕ → Bool) (l : List ℕ) (c : Canonical l) (e : (v : ℕ) → v < axis → inside l v ≡ f v) where
-  on-axis : (v : ℕ) → inside l v ≡ true → v < axis
-  on-axis v h =
-      ⊎-elim (λ g. g) (λ g. absurd (false≢true (sym (past 0 axis l v (c .ascending) g ∙ c .ended) ∙ h))) (less-or-not v axis)
-
   ends-inside : (v : ℕ) → v < axis → (inside l v && not (inside l (suc v))) ≡ endsAt (inside l) v
   ends-inside v h =
       ⊎-elim (λ g. sym (ap (λ (b : Bool). inside l v && not (b && inside l (suc v))) (lt-ltb (suc v) axis g)))
@@ -221,14 +250,14 @@ module _ (f : ℕ → Bool) (l : List ℕ) (c : Canonical l) (e : (v : ℕ) → 
   lows-are =
       sym (lows-ext (inside l) f e)
       ∙ below-is (startsAt (inside l)) axis axis (lowCuts l) (low-ascending 0 axis l (c .ascending))
-      (λ v h. on-axis v (starts-member (inside l) v (sym (low-elem 0 axis l (c .ascending) (c .ended) v) ∙ h)))
+      (λ v h. on-axis l c v (starts-member (inside l) v (sym (low-elem 0 axis l (c .ascending) (c .ended) v) ∙ h)))
       (λ v h. low-elem 0 axis l (c .ascending) (c .ended) v)
 
   pub highs-are : highs f ≡ highCuts l
   highs-are =
       sym (highs-ext (inside l) f e)
       ∙ below-is (endsAt (inside l)) axis axis (highCuts l) (high-ascending 0 axis l (c .ascending))
-      (λ v h. on-axis v (both (inside l v) (not (inside l (suc v))) (sym (high-elem 0 axis l (c .ascending) (c .ended) v) ∙ h)))
+      (λ v h. on-axis l c v (both (inside l v) (not (inside l (suc v))) (sym (high-elem 0 axis l (c .ascending) (c .ended) v) ∙ h)))
       (λ v h. high-elem 0 axis l (c .ascending) (c .ended) v ∙ ends-inside v h)
 
   pub cuts-bytes : setBytes f ≡ runBytes (lowCuts l) (highCuts l)

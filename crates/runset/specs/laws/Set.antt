@@ -1,4 +1,4 @@
--- From lists of cuts to the sets that the functions give; and a set's members determine the set.
+-- From lists of cuts to words that hold a set; and a set's members determine its cuts.
 use Prim.Native.Nat.{ℕ, _+_, _-_, _*_, _≤_, _<_}
 use mathlib.Core.Path.{_≡_, refl, sym, ap, ap₂, subst, _∙_}
 use mathlib.Core.Bool.{Bool, true, false, not, _||_, _&&_, true≢false}
@@ -6,86 +6,97 @@ use mathlib.Core.List.{List, [], _∷_, _++_}
 use mathlib.Core.Logic.{⊎-elim}
 use native.Mathlib.Omega.{arith}
 use lib.Dec.{leb, ltb}
-use lib.ListN.{length, take, drop, getD, set, length-append, length-drop, replicate, length-replicate, getD-replicate, List·getD-eq-default}
-use lib.Seq.{length-take-le, ext-getD, getD-take, getD-append-add, getD-drop, take-at}
-use borrow.Author.Tests.{le-leb, lt-leb, le-ltb, ltb-false}
+use lib.ListN.{length, take, drop, getD, set, length-append, length-drop, length-set}
+use native.Mathlib.Numerals.{add-one}
+use lib.Seq.{length-take-le, take-at, take-set-le, take-append-le, take-suc, take-suc-set, getD-set-same}
+use borrow.Author.Tests.{le-leb, lt-leb, lt-ltb, le-ltb, ltb-false}
 use Rattle.number.specs.Axis.{axis}
 use Rattle.number.specs.laws.Order.{less-or-not, ltb-same}
 use Rattle.runset.specs.Runs.{mostRuns, runCount}
-use Rattle.runset.specs.Set.{cutsOf, xor, inside, member, Ascending, Canonical, Valid, Represents, Makes}
-use Rattle.runset.specs.inner.Merge.{mergeCuts, opOf, Operand, Merged}
-use Rattle.runset.specs.laws.Cuts.{one-list, nil-canonical, none, inside-ge, before-run, in-run, behind-run}
+use Rattle.runset.specs.Set.{cutsOf, slotWords, sharedWords, inside, member, Ascending, Canonical, Valid, Holds, Makes}
+use Rattle.runset.specs.inner.Merge.{mergeCuts, opOf, Merged}
+use Rattle.runset.specs.laws.Cuts.{one-list, nil-canonical, none, before-run, in-run, behind-run}
 use Rattle.runset.specs.laws.Merge.{merged-inside, merged-canonical, merge-length}
 use Rattle.runset.specs.laws.Runs.{runCount-ext, cuts-count}
-use Rattle.runset.specs.declared.RunSet.{RunSet}
-use Rattle.runset.specs.declared.Made.{Made}
+use Rattle.runset.specs.declared.merge.Op.{Op}
+use Rattle.runset.specs.declared.merge.Op.the-variants.{Or, And, Xor}
 use Rattle.runset.specs.declared.merge.Filled.{Filled}
 
--- ---- a set's members determine the set, byte for byte
+-- ---- a set's members determine its cuts
 
-pub same-set : (s t : RunSet) → Valid s → Valid t → ((v : ℕ) → v < axis → member s v ≡ member t v) → s ≡ t
+pub same-cuts : (s t : List ℕ) → Valid s → Valid t → ((v : ℕ) → v < axis → member s v ≡ member t v) → cutsOf s ≡ cutsOf t
 unfolding member
-same-set s t gs gt e =
-    let q : cutsOf s ≡ cutsOf t = one-list (cutsOf s) (cutsOf t) (gs .canonical) (gt .canonical) e in
-    let n : s .n ≡ t .n =
-    sym (length-take-le (s .n) (s .cuts) (omega (arith, gs .few, gs .size))) ∙ ap length q ∙ length-take-le (t .n) (t .cuts) (omega (arith, gt .few, gt .size)) in
-    let c : s .cuts ≡ t .cuts = ext-getD 0 (s .cuts) (t .cuts) (gs .size ∙ sym (gt .size)) (λ i h. each n q i) in
-    λ i. record { cuts = c i; n = n i }
-  where
-    each : s .n ≡ t .n → cutsOf s ≡ cutsOf t → (i : ℕ) → getD (s .cuts) i 0 ≡ getD (t .cuts) i 0
-    each n q i =
-        ⊎-elim
-        (λ h. sym (getD-take (s .n) (s .cuts) i 0 h) ∙ ap (λ (l : List ℕ). getD l i 0) q ∙ getD-take (t .n) (t .cuts) i 0 (omega arith))
-        (λ h. gs .clear i h ∙ sym (gt .clear i (omega arith)))
-        (less-or-not i (s .n))
+same-cuts s t gs gt e = one-list (cutsOf s) (cutsOf t) (gs .canonical) (gt .canonical) e
 
--- ---- a set from its cuts
+-- ---- words that hold a set
 
-abbrev pub zeros : ℕ → List ℕ
-zeros n = replicate n 0
+-- words whose cuts are m
+module _ (m words : List ℕ) (c : Canonical m) (few : length m ≤ 2 * mostRuns) (size : length words ≡ slotWords)
+    (n : getD words (2 * mostRuns) 0 ≡ length m) (e : take (length m) words ≡ m) where
+  cuts-are : cutsOf words ≡ m
+  cuts-are = ap (λ (k : ℕ). take k words) n ∙ e
 
-zeros-length : (n : ℕ) → length (zeros n) ≡ n
-zeros-length n = length-replicate {A = ℕ} n 0
-
-zeros-at : (n k : ℕ) → getD (zeros n) k 0 ≡ 0
-zeros-at n k = ⊎-elim (λ h. getD-replicate n k 0 0 h) (λ h. List·getD-eq-default (zeros n) 0 (omega (arith, zeros-length n))) (less-or-not k n)
-
--- the cuts m in front of zeros
-module _ (m : List ℕ) (c : Canonical m) (few : length m ≤ 2 * mostRuns) (s : RunSet) (n : s .n ≡ length m) (e : s .cuts ≡ m ++ drop (length m) (zeros (2 * mostRuns))) where
-  pub held : cutsOf s ≡ m
-  held = ap₂ take n e ∙ take-at m (drop (length m) (zeros (2 * mostRuns))) (length m) refl
-
-  pub held-valid : Valid s
-  held-valid =
+  pub held : (f : ℕ → Bool) → ((v : ℕ) → v < axis → inside m v ≡ f v) → Holds f words
+  unfolding member
+  held f g =
       record {
-        size = ap length e ∙ (let z = zeros-length (2 * mostRuns) in simp (length-append, length-drop) (omega arith));
-        few = omega arith;
-        canonical = subst Canonical (sym held) c;
-        clear = λ k h.
-            let z : length m + (k - length m) ≡ k = omega arith in
-            ap₂ (λ (l : List ℕ) (j : ℕ). getD l j 0) e (sym z) ∙ getD-append-add m (drop (length m) (zeros (2 * mostRuns))) (k - length m) 0
-            ∙ getD-drop (length m) (zeros (2 * mostRuns)) (k - length m) 0 ∙ zeros-at (2 * mostRuns) (length m + (k - length m));
+        valid = record { size = size; few = omega arith; canonical = subst Canonical (sym cuts-are) c };
+        members = λ v h. ap (λ (l : List ℕ). inside l v) cuts-are ∙ g v h;
       }
 
-  pub held-represents : (f : ℕ → Bool) → ((v : ℕ) → v < axis → inside m v ≡ f v) → Represents f s
+module _ (words : List ℕ) (h : Valid words) where
+  pub cuts-there : getD words (2 * mostRuns) 0 ≤ length words
+  cuts-there = omega (arith, h .few, h .size)
+
+  pub cuts-length : length (cutsOf words) ≡ getD words (2 * mostRuns) 0
+  cuts-length = length-take-le (getD words (2 * mostRuns) 0) words cuts-there
+
+  -- two cuts for each run, and no more runs than a set may have
+  pub valid-cuts : getD words (2 * mostRuns) 0 ≡ 2 * runCount (member words)
   unfolding member
-  held-represents f g = record { valid = held-valid; members = λ v h. ap (λ (l : List ℕ). inside l v) held ∙ g v h }
+  valid-cuts = sym cuts-length ∙ cuts-count (member words) (cutsOf words) (h .canonical) (λ v g. refl)
 
-pub valid-operand : (s : RunSet) → Valid s → Operand (s .cuts) (s .n)
-valid-operand s h = record { there = omega (arith, h .few, h .size); few = omega (arith, h .few); canonical = h .canonical }
+  pub valid-count : runCount (member words) ≤ mostRuns
+  valid-count = omega (arith, valid-cuts, h .few)
 
--- two cuts for each run, and no more runs than a set may have
-pub valid-cuts : (s : RunSet) → Valid s → s .n ≡ 2 * runCount (member s)
-unfolding member
-valid-cuts s h = sym (length-take-le (s .n) (s .cuts) (omega (arith, h .few, h .size))) ∙ cuts-count (member s) (cutsOf s) (h .canonical) (λ v g. refl)
+  pub valid-short : length (cutsOf words) ≤ sharedWords
+  valid-short = omega (arith, cuts-length, h .few)
 
-pub valid-count : (s : RunSet) → Valid s → runCount (member s) ≤ mostRuns
-valid-count s h = omega (arith, valid-cuts s h, h .few)
+  pub valid-holds : Holds (member words) words
+  valid-holds = record { valid = h; members = λ v g. refl }
 
--- ---- the fixed sets and one run
+pub holds-ext : (f g : ℕ → Bool) (words : List ℕ) → ((v : ℕ) → v < axis → f v ≡ g v) → Holds f words → Holds g words
+holds-ext f g words e r = record { valid = r .valid; members = λ v h. r .members v h ∙ e v h }
 
-pub empty-represents : (s : RunSet) → s .n ≡ 0 → s .cuts ≡ zeros (2 * mostRuns) → Represents (λ v. false) s
-empty-represents s n e = held-represents [] nil-canonical (omega arith) s n e (λ v. false) (λ v h. none v)
+-- a set that is held has few runs
+pub few-runs : (f : ℕ → Bool) (words : List ℕ) → Holds f words → ltb mostRuns (runCount f) ≡ false
+few-runs f words c = le-ltb mostRuns (runCount f) (omega (arith, runCount-ext (member words) f (c .members), valid-count words (c .valid)))
+
+pub holds-makes : (f : ℕ → Bool) (words : List ℕ) → Holds f words → Makes f words false
+holds-makes f words c = record { flag = sym (few-runs f words c); holds = λ z. c }
+
+pub makes-ext : (f g : ℕ → Bool) (words : List ℕ) (over : Bool) → ((v : ℕ) → v < axis → f v ≡ g v) → Makes f words over → Makes g words over
+makes-ext f g words over e r =
+    record { flag = r .flag ∙ ap (ltb mostRuns) (runCount-ext f g e); holds = λ o. holds-ext f g words e (r .holds o) }
+
+-- the same members, by equal lists of cuts
+pub makes-lists : (op : Bool → Bool → Bool) (words : List ℕ) (over : Bool) {a a′ b b′ : List ℕ} → a ≡ a′ → b ≡ b′
+    → Makes (λ v. op (inside a v) (inside b v)) words over → Makes (λ v. op (inside a′ v) (inside b′ v)) words over
+makes-lists op words over e g m = subst (λ (h : ℕ → Bool). Makes h words over) (λ i v. op (inside (e i) v) (inside (g i) v)) m
+
+-- the same members, told of equal things
+pub makes-of : {A : Type 0} (f : A → ℕ → Bool) (words : List ℕ) (over : Bool) {a b : A} → a ≡ b → Makes (f a) words over → Makes (f b) words over
+makes-of f words over e m = subst (λ (h : ℕ → Bool). Makes h words over) (λ i. f (e i)) m
+
+-- more cuts than there is room for
+pub too-many : (f : ℕ → Bool) (m words : List ℕ) → Canonical m → ((v : ℕ) → v < axis → inside m v ≡ f v) → 2 * mostRuns < length m → Makes f words true
+too-many f m words c e h =
+    record { flag = sym (lt-ltb mostRuns (runCount f) (omega (arith, cuts-count f m c e))); holds = λ z. absurd (true≢false z) }
+
+-- ---- the empty set and one run
+
+pub nothing-held : (words : List ℕ) → length words ≡ slotWords → getD words (2 * mostRuns) 0 ≡ 0 → Holds (λ v. false) words
+nothing-held words size n = held [] words nil-canonical (omega arith) size n refl (λ v. false) (λ v h. none v)
 
 module _ (low high : ℕ) (h : low ≤ high) (k : high < axis) where
   run-ascends : Ascending 0 axis (low ∷ (high + 1) ∷ [])
@@ -103,8 +114,15 @@ module _ (low high : ℕ) (h : low ≤ high) (k : high < axis) where
   pub run-canonical : Canonical (low ∷ (high + 1) ∷ [])
   run-canonical = record { ascending = run-ascends; ended = run-inside axis ∙ ap₂ _&&_ (le-leb low axis (omega arith)) (lt-leb axis high (omega arith)) }
 
-  pub run-represents : (s : RunSet) → s .n ≡ 2 → s .cuts ≡ (low ∷ (high + 1) ∷ []) ++ drop 2 (zeros (2 * mostRuns)) → Represents (λ v. leb low v && leb v high) s
-  run-represents s n e = held-represents (low ∷ (high + 1) ∷ []) run-canonical (omega arith) s n e (λ v. leb low v && leb v high) (λ v g. run-inside v)
+  pub run-held : (words : List ℕ) → length words ≡ slotWords → getD words (2 * mostRuns) 0 ≡ 2 → take 2 words ≡ low ∷ (high + 1) ∷ []
+      → Holds (λ v. leb low v && leb v high) words
+  run-held words size n e = held (low ∷ (high + 1) ∷ []) words run-canonical (omega arith) size n e (λ v. leb low v && leb v high) (λ v g. run-inside v)
+
+-- two cuts at the front
+pub two-front : (l : List ℕ) (a b : ℕ) → 2 ≤ length l → take 2 (set (set l 0 a) 1 b) ≡ a ∷ b ∷ []
+two-front [] a b h = absurd (omega arith)
+two-front (x ∷ []) a b h = absurd (omega arith)
+two-front (x ∷ y ∷ l) a b h = refl
 
 -- no number lies between low and a high below it
 pub nothing-between : (low high v : ℕ) → high < low → (leb low v && leb v high) ≡ false
@@ -113,9 +131,6 @@ nothing-between low high v h =
 
 pub everything-between : (v : ℕ) → v < axis → (leb 0 v && leb v 4000000000) ≡ true
 everything-between v h = ap₂ _&&_ (le-leb 0 v (omega arith)) (le-leb v 4000000000 (omega arith))
-
-pub represents-ext : (f g : ℕ → Bool) (s : RunSet) → ((v : ℕ) → v < axis → f v ≡ g v) → Represents f s → Represents g s
-represents-ext f g s e r = record { valid = r .valid; members = λ v h. r .members v h ∙ e v h }
 
 -- the cuts of the whole axis
 pub axis-canonical : Canonical (0 ∷ axis ∷ [])
@@ -126,58 +141,84 @@ axis-inside v h = run-inside 0 4000000000 (omega arith) (omega arith) v ∙ ever
 
 -- ---- what an operation makes
 
--- cuts m with the members f, filled into zeros
-module _ (f : ℕ → Bool) (m cuts : List ℕ) (w : Filled) (c : Canonical m) (e : (v : ℕ) → v < axis → inside m v ≡ f v) (r : Merged m (zeros (2 * mostRuns)) cuts w) where
-  over-is : w .over ≡ ltb mostRuns (runCount f)
-  over-is =
-      let z = zeros-length (2 * mostRuns) in
-      let l : length m ≡ 2 * runCount f = cuts-count f m c e in
-      r .over ∙ ltb-same (length (zeros (2 * mostRuns))) (length m) mostRuns (runCount f) (λ h. omega arith) (λ h. omega arith)
+-- what is in neither set is left out
+pub quiet : (op : Op) → opOf op false false ≡ false
+quiet Or = refl
+quiet And = refl
+quiet Xor = refl
 
-  pub makes-over : (s : RunSet) → Valid s → w .over ≡ true → Makes f (record { over = true; set = s })
-  makes-over s v o = record { valid = v; over = sym o ∙ over-is; members = λ z. absurd (true≢false z) }
+-- an operation on two lists of cuts, its cuts put where there is room for mostRuns runs
+module _ (op : Op) (a b before part : List ℕ) (w : Filled) (ca : Canonical a) (cb : Canonical b) (size : length before ≡ slotWords)
+    (r : Merged (mergeCuts (opOf op) false false a b) (take (2 * mostRuns) before) part w) where
+  abbrev m : List ℕ
+  m = mergeCuts (opOf op) false false a b
 
-  pub makes-set : w .over ≡ false → Makes f (record { over = false; set = record { cuts = cuts; n = w .n } })
-  makes-set o =
-      let z = zeros-length (2 * mostRuns) in
-      let few : length m ≤ length (zeros (2 * mostRuns)) = ltb-false (length (zeros (2 * mostRuns))) (length m) (sym (r .over) ∙ o) in
-      let h = held-represents m c (omega arith) (record { cuts = cuts; n = w .n }) (r .count o) (r .filled o) f e in
-      record { valid = h .valid; over = sym o ∙ over-is; members = λ q. h .members }
+  abbrev f : ℕ → Bool
+  f v = opOf op (inside a v) (inside b v)
 
-pub makes-ext : (f g : ℕ → Bool) (m : Made) → ((v : ℕ) → v < axis → f v ≡ g v) → Makes f m → Makes g m
-makes-ext f g m e r =
-    record { valid = r .valid; over = r .over ∙ ap (ltb mostRuns) (runCount-ext f g e); members = λ o v h. r .members o v h ∙ e v h }
+  members : (v : ℕ) → v < axis → inside m v ≡ f v
+  members v h = merged-inside (opOf op) (quiet op) a b ca cb v
 
--- ---- lists of cuts that operations work on
+  canonical : Canonical m
+  canonical = merged-canonical (opOf op) (quiet op) a b ca cb
 
-pub axis-operand : Operand (0 ∷ axis ∷ []) 2
-axis-operand = record { there = omega arith; few = omega arith; canonical = axis-canonical }
+  room : length (take (2 * mostRuns) before) ≡ 2 * mostRuns
+  room = length-take-le (2 * mostRuns) before (omega arith)
 
--- what two sets share, written where there is room for all cuts
-module _ (a b : RunSet) (va : Valid a) (vb : Valid b) (cuts : List ℕ) (w : Filled)
-    (r : Merged (mergeCuts _&&_ false false (cutsOf a) (cutsOf b)) (zeros (4 * mostRuns)) cuts w) where
-  shared-few : length (mergeCuts _&&_ false false (cutsOf a) (cutsOf b)) ≤ 4 * mostRuns
-  shared-few =
-      let la : length (cutsOf a) ≡ a .n = length-take-le (a .n) (a .cuts) (omega (arith, va .few, va .size)) in
-      let lb : length (cutsOf b) ≡ b .n = length-take-le (b .n) (b .cuts) (omega (arith, vb .few, vb .size)) in
-      omega (arith, merge-length _&&_ false false (cutsOf a) (cutsOf b), va .few, vb .few)
-
-  shared-fits : w .over ≡ false
-  shared-fits =
-      let z = zeros-length (4 * mostRuns) in
-      r .over ∙ le-ltb (length (zeros (4 * mostRuns))) (length (mergeCuts _&&_ false false (cutsOf a) (cutsOf b))) (omega (arith, shared-few))
-
-  shared-is : take (w .n) cuts ≡ mergeCuts _&&_ false false (cutsOf a) (cutsOf b)
-  shared-is = ap₂ take (r .count shared-fits) (r .filled shared-fits) ∙ take-at _ _ _ refl
-
-  pub shared-operand : Operand cuts (w .n)
-  shared-operand =
+  pub combined-over : (words : List ℕ) → w .over ≡ true → Makes f words true
+  combined-over words o =
       record {
-        there =
-            omega (arith, r .count shared-fits, simp length-append at (ap length (r .filled shared-fits)));
-        few = omega (arith, r .count shared-fits, shared-few);
-        canonical = subst Canonical (sym shared-is) (merged-canonical _&&_ refl (cutsOf a) (cutsOf b) (va .canonical) (vb .canonical));
+        flag = sym o ∙ r .over ∙ ltb-same (length (take (2 * mostRuns) before)) (length m) mostRuns (runCount f) (λ h. omega (arith, room, cuts-count f m canonical members)) (λ h. omega (arith, room, cuts-count f m canonical members));
+        holds = λ z. absurd (true≢false z);
       }
 
-  pub shared-inside : (v : ℕ) → inside (take (w .n) cuts) v ≡ (inside (cutsOf a) v && inside (cutsOf b) v)
-  shared-inside v = ap (λ (l : List ℕ). inside l v) shared-is ∙ merged-inside _&&_ refl (cutsOf a) (cutsOf b) (va .canonical) (vb .canonical) v
+  few : w .over ≡ false → length m ≤ 2 * mostRuns
+  few o = omega (arith, room, ltb-false (length (take (2 * mostRuns) before)) (length m) (sym (r .over) ∙ o))
+
+  pub combined-few : w .over ≡ false → w .n ≤ 2 * mostRuns
+  combined-few o = omega (arith, r .count o, few o)
+
+  pub combined-held : w .over ≡ false → Makes f (set (part ++ drop (2 * mostRuns) before) (2 * mostRuns) (w .n)) false
+  combined-held o =
+      holds-makes f _
+      (held m (set (part ++ drop (2 * mostRuns) before) (2 * mostRuns) (w .n)) canonical (few o)
+      (length-set (part ++ drop (2 * mostRuns) before) (2 * mostRuns) (w .n) ∙ whole)
+      (getD-set-same (part ++ drop (2 * mostRuns) before) (2 * mostRuns) (w .n) 0 (omega (arith, whole)) ∙ r .count o)
+      (take-set-le (length m) (part ++ drop (2 * mostRuns) before) (2 * mostRuns) (w .n) (few o) ∙ take-append-le (length m) part (drop (2 * mostRuns) before) (omega (arith, few o, long))
+      ∙ ap (take (length m)) (r .filled o) ∙ take-at m _ (length m) refl) f members)
+    where
+      long : length part ≡ 2 * mostRuns
+      long = ap length (r .filled o) ∙ simp (length-append, length-drop) (omega (arith, room, few o))
+
+      whole : length (part ++ drop (2 * mostRuns) before) ≡ slotWords
+      whole = simp (length-append, length-drop) (omega (arith, long))
+
+-- what two sets share, written where there is room for all its cuts
+module _ (a b before after : List ℕ) (w : Filled) (ca : Canonical a) (cb : Canonical b) (few : length a + length b ≤ sharedWords) (room : length before ≡ sharedWords)
+    (r : Merged (mergeCuts _&&_ false false a b) before after w) where
+  short : length (mergeCuts _&&_ false false a b) ≤ sharedWords
+  short = omega (arith, merge-length _&&_ false false a b)
+
+  fits : w .over ≡ false
+  fits = r .over ∙ le-ltb (length before) (length (mergeCuts _&&_ false false a b)) (omega (arith, short))
+
+  front : take (w .n) after ≡ mergeCuts _&&_ false false a b
+  front = ap₂ take (r .count fits) (r .filled fits) ∙ take-at (mergeCuts _&&_ false false a b) (drop (length (mergeCuts _&&_ false false a b)) before) (length (mergeCuts _&&_ false false a b)) refl
+
+  pub shared-there : w .n ≤ length after
+  shared-there = omega (arith, r .count fits, simp length-append at (ap length (r .filled fits)))
+
+  pub shared-short : w .n ≤ sharedWords
+  shared-short = omega (arith, r .count fits, short)
+
+  pub shared-canonical : Canonical (take (w .n) after)
+  shared-canonical = subst Canonical (sym front) (merged-canonical _&&_ refl a b ca cb)
+
+  pub shared-members : (v : ℕ) → inside (take (w .n) after) v ≡ (inside a v && inside b v)
+  shared-members v = ap (λ (l : List ℕ). inside l v) front ∙ merged-inside _&&_ refl a b ca cb v
+
+-- a cut more is copied
+pub one-more : (a out : List ℕ) (i : ℕ) → i < length a → i < length out → take i out ≡ take i a → take (i + 1) (set out i (getD a i 0)) ≡ take (i + 1) a
+one-more a out i h k e =
+    ap (λ (j : ℕ). take j (set out i (getD a i 0))) (add-one i) ∙ take-suc-set out i (getD a i 0) k ∙ ap (λ (l : List ℕ). l ++ (getD a i 0 ∷ [])) e
+    ∙ sym (take-suc a i 0 h) ∙ ap (λ (j : ℕ). take j a) (sym (add-one i))

@@ -14,28 +14,30 @@ fn spread(n: i64, seed: u64) -> Vec<Run> {
         .collect()
 }
 
-fn set(runs: &[Run]) -> plain::RunSet {
+fn set(runs: &[Run]) -> plain::Slot {
     let mut s = plain::EMPTY;
     for (k, &(l, h)) in runs.iter().enumerate() {
-        s.cuts[2 * k] = index(l);
-        s.cuts[2 * k + 1] = index(h) + 1;
+        s[2 * k] = index(l);
+        s[2 * k + 1] = index(h) + 1;
     }
-    s.n = 2 * runs.len();
+    s[plain::CUTS] = 2 * runs.len() as u32;
     s
 }
 
-fn plain_repeat(op: Op, a: plain::RunSet, b: plain::RunSet, c: plain::RunSet, times: u64) -> u64 {
+fn plain_repeat(op: Op, a: &plain::Slot, b: &plain::Slot, c: &plain::Slot, times: u64) -> u64 {
+    let (mut shared, mut m) = ([0; plain::SHARED], plain::EMPTY);
     let mut total = 0u64;
     for _ in 0..times {
-        let (a, b, c) = (black_box(&a), black_box(&b), black_box(&c));
-        let m = match op {
-            Op::Or => a.or(*b),
-            Op::And => a.and(*b),
-            Op::Not => a.not(),
-            Op::OrAnd => a.or_and(*b, *c),
+        let (a, b, c) = (black_box(a), black_box(b), black_box(c));
+        let over = match op {
+            Op::Or => plain::or(a, b, &mut m),
+            Op::And => plain::and(a, b, &mut m),
+            Op::Not => plain::not(a, &mut m),
+            Op::OrAnd => plain::or_and(a, b, c, &mut shared, &mut m),
         };
-        let run = total as usize % (m.set.n / 2);
-        total = total.wrapping_add(m.set.cuts[2 * run] as u64);
+        assert!(!over);
+        let run = total as usize % (m[plain::CUTS] as usize / 2);
+        total = total.wrapping_add(m[2 * run] as u64);
     }
     total
 }
@@ -75,7 +77,7 @@ fn main() {
             let (mut ours, mut theirs) = (f64::MAX, f64::MAX);
             for _ in 0..40 {
                 let (t, n) = timed(|| repeat(op, &x, &y, &z, times));
-                let (u, m) = timed(|| plain_repeat(op, set(&a), set(&b), set(&c), times));
+                let (u, m) = timed(|| plain_repeat(op, &set(&a), &set(&b), &set(&c), times));
                 assert_eq!(n, m, "{op:?}");
                 ours = ours.min(t / times as f64);
                 theirs = theirs.min(u / times as f64);

@@ -4,26 +4,25 @@ use mathlib.Core.Bool.{Bool}
 use mathlib.Core.List.{List}
 use Prim.Native.Nat.{ℕ}
 use native.Mathlib.Omega.{arith}
-use Rattle.runset.specs.Set.{inside}
-use Rattle.runset.specs.inner.Lent.{Lent}
+use Rattle.runset.specs.Set.{member, Valid}
 use Rattle.evaluation.specs.inner.Step.{unaryOf, binaryOf}
-use Rattle.evaluation.specs.laws.Slots.{fills-fit, puts-lists}
+use Rattle.evaluation.specs.laws.Slots.{puts-lists}
 use borrow.Author.Needs.{needs}
 use Rattle.evaluation.proofs.node.two_at.Statement.{statement}
 use Rattle.evaluation.proofs.node.two_at.Tie as tie
 
-cuts-in-requires : tie.Need-cuts-in-requires
-cuts-in-requires c κs =
+set-in-requires : tie.Need-set-in-requires
+set-in-requires c κs =
     let s = c .before .before .before .before in
     (s .pre .5, s .pre .2)
 
-cuts-in-requires-2 : tie.Need-cuts-in-requires-2
-cuts-in-requires-2 c κs =
+set-in-requires-2 : tie.Need-set-in-requires-2
+set-in-requires-2 c κs =
     let s = c .before .before .before .before .before .before in
     (s .pre .6, s .pre .3)
 
-cuts-in-requires-3 : tie.Need-cuts-in-requires-3
-cuts-in-requires-3 c κs =
+set-in-requires-3 : tie.Need-set-in-requires-3
+set-in-requires-3 c κs =
     let s = c .before .before .before .before .before .before .before in
     (s .pre .6, s .pre .4)
 
@@ -32,9 +31,9 @@ two-requires c κs =
     let s = c .before .before .before .before .before .before .before .before .before .before in (
       s .pre .0,
       s .pre .1,
-      subst Lent (sym (c .before .before .before .cuts-in2 .ensures)) (s .pre .7),
-      subst Lent (sym (c .before .before .cuts-in3 .ensures)) (s .pre .8),
-      (λ e k. subst Lent (sym (c .before .before .before .before .before .cuts-in .ensures)) (s .pre .9 e k)),
+      subst Valid (sym (c .before .before .before .set-in2 .ensures)) (s .pre .7),
+      subst Valid (sym (c .before .before .set-in3 .ensures)) (s .pre .8),
+      (λ e k. subst Valid (sym (c .before .before .before .before .before .set-in .ensures)) (s .pre .9 e k)),
       s .pre .10,
       s .pre .11,
     )
@@ -42,7 +41,7 @@ two-requires c κs =
 put-requires : tie.Need-put-requires
 put-requires c κs =
     let s = c .before .before .before .before .before .before .before .before .before .before .before .before .before .before .before .before .before in
-    (s .pre .6, s .pre .2, fills-fit _ _ _ (c .before .before .before .before .before .before .two .ensures))
+    (s .pre .6, s .pre .2, λ o. c .before .before .before .before .before .before .two .ensures .holds o .valid)
 
 same-length : tie.Need-same-length
 same-length c = search needs
@@ -56,8 +55,8 @@ same-length-3 c = search needs
 returns : tie.Need-returns
 returns c =
     let s = c .before .before .before .before .before .before .before .before .before .before .before .before .before .before .before .before .before .before .before .before in
-    puts-lists (λ a b d v. binaryOf (s .args .kind) (s .args .last) (inside a v) (inside b v) (inside d v)) _ _ _ _
-    (c .before .before .before .before .before .before .before .before .before .before .before .before .before .cuts-in2 .ensures) (c .before .before .before .before .before .before .before .before .before .before .before .before .cuts-in3 .ensures) (c .before .before .before .before .before .before .before .before .before .before .before .before .before .before .before .cuts-in .ensures) (c .before .before .put .ensures _ (c .before .before .before .before .before .before .before .before .before .two .ensures))
+    puts-lists (λ a b d v. binaryOf (s .args .kind) (s .args .last) (member a v) (member b v) (member d v)) _ _ _ _
+    (c .before .before .before .before .before .before .before .before .before .before .before .before .before .set-in2 .ensures) (c .before .before .before .before .before .before .before .before .before .before .before .before .set-in3 .ensures) (c .before .before .before .before .before .before .before .before .before .before .before .before .before .before .before .set-in .ensures) (c .before .before .put .ensures _ (c .before .before .before .before .before .before .before .before .before .two .ensures))
 
 pub two-at-spec : {M : Type 1} → statement M
-two-at-spec = tie.close (tie.spec cuts-in-requires cuts-in-requires-2 cuts-in-requires-3 two-requires put-requires same-length same-length-2 same-length-3 returns)
+two-at-spec = tie.close (tie.spec set-in-requires set-in-requires-2 set-in-requires-3 two-requires put-requires same-length same-length-2 same-length-3 returns)

@@ -3,8 +3,10 @@ use mathlib.Core.Path.{_≡_, refl, sym, ap, _∙_}
 use mathlib.Core.Bool.{Bool, true, false}
 use Prim.Native.Nat.{ℕ, _<_}
 use native.Mathlib.Omega.{arith}
-use Rattle.runset.specs.Set.{inside}
-use Rattle.runset.specs.laws.Lent.{fills-ext}
+use Rattle.grammar.specs.inner.Kinds.{FINALLY, GLOBALLY, NEXT}
+use Rattle.grammar.specs.inner.Table.{unaryFrom}
+use Rattle.runset.specs.Set.{member}
+use Rattle.runset.specs.laws.Set.{holds-makes, makes-ext}
 use Rattle.evaluation.specs.inner.Step.{unaryOf, binaryOf}
 use Rattle.evaluation.specs.laws.Step.{child-at-last, last-of-four, until-or-weak}
 use borrow.Author.Needs.{needs}
@@ -22,10 +24,10 @@ same-length c = search needs
 returns : tie.Need-returns
 returns c =
     let s = c .before .before .before .before .before .before .before .before .before in
-    fills-ext _ (λ v. unaryOf (s .args .kind) (s .args .last) (inside (s .args .p .now) v) (inside (s .args .own .now) v) (inside (s .args .old .now) v)) _ _ (λ v h. sym (ap (λ (k : ℕ). unaryOf k (s .args .last) (inside (s .args .p .now) v) (inside (s .args .own .now) v) (inside (s .args .old .now) v)) (c .before .before .before .before .if1 .taken))) (c .before .before .not .ensures)
+    makes-ext _ (λ v. unaryOf (s .args .kind) (s .args .last) (member (s .args .p .now) v) (member (s .args .own .now) v) (member (s .args .old .now) v)) _ _ (λ v h. sym (ap (λ (k : ℕ). unaryOf k (s .args .last) (member (s .args .p .now) v) (member (s .args .own .now) v) (member (s .args .old .now) v)) (c .before .before .before .before .if1 .taken))) (c .before .before .not .ensures)
 
-same-requires : tie.Need-same-requires
-same-requires c κs =
+copy-requires : tie.Need-copy-requires
+copy-requires c κs =
     let s = c .before .before .before .before .before .before .before in
     (s .pre .2, s .pre .4)
 
@@ -35,12 +37,12 @@ same-length-2 c = search needs
 returns-2 : tie.Need-returns-2
 returns-2 c =
     let s = c .before .before .before .before .before .before .before .before .before .before in
-    fills-ext _ (λ v. unaryOf (s .args .kind) (s .args .last) (inside (s .args .p .now) v) (inside (s .args .own .now) v) (inside (s .args .old .now) v)) _ _
-    (λ v h. child-at-last (s .args .kind) (s .pre .0) (s .pre .1) (c .before .before .before .before .before .if1 .left) (inside (s .args .p .now) v) (inside (s .args .own .now) v) (inside (s .args .old .now) v) ∙ sym (ap (λ (b : Bool). unaryOf (s .args .kind) b (inside (s .args .p .now) v) (inside (s .args .own .now) v) (inside (s .args .old .now) v)) (c .before .before .before .before .if2 .taken)))
-    (c .before .before .same .ensures)
+    makes-ext _ (λ v. unaryOf (s .args .kind) (s .args .last) (member (s .args .p .now) v) (member (s .args .own .now) v) (member (s .args .old .now) v)) _ _
+    (λ v h. child-at-last (s .args .kind) (s .pre .0) (s .pre .1) (c .before .before .before .before .before .if1 .left) (member (s .args .p .now) v) (member (s .args .own .now) v) (member (s .args .old .now) v) ∙ sym (ap (λ (b : Bool). unaryOf (s .args .kind) b (member (s .args .p .now) v) (member (s .args .own .now) v) (member (s .args .old .now) v)) (c .before .before .before .before .if2 .taken)))
+    (holds-makes _ _ (c .before .before .copy .ensures))
 
-same-requires-2 : tie.Need-same-requires-2
-same-requires-2 c κs =
+copy-requires-2 : tie.Need-copy-requires-2
+copy-requires-2 c κs =
     let s = c .before .before .before .before .before .before .before .before in
     let n = s .pre .3 (c .before .before .if2 .left) (omega (arith, c .before .if3 .taken)) in
     (n .1, s .pre .4)
@@ -51,7 +53,7 @@ same-length-3 c = search needs
 returns-3 : tie.Need-returns-3
 returns-3 c =
     let s = c .before .before .before .before .before .before .before .before .before .before .before in
-    fills-ext _ (λ v. unaryOf (s .args .kind) (s .args .last) (inside (s .args .p .now) v) (inside (s .args .own .now) v) (inside (s .args .old .now) v)) _ _ (λ v h. sym (ap (λ (b : Bool). unaryOf 16 b (inside (s .args .p .now) v) (inside (s .args .own .now) v) (inside (s .args .old .now) v)) (c .before .before .before .before .before .if2 .left)) ∙ sym (ap (λ (k : ℕ). unaryOf k (s .args .last) (inside (s .args .p .now) v) (inside (s .args .own .now) v) (inside (s .args .old .now) v)) (c .before .before .before .before .if3 .taken))) (c .before .before .same2 .ensures)
+    makes-ext _ (λ v. unaryOf (s .args .kind) (s .args .last) (member (s .args .p .now) v) (member (s .args .own .now) v) (member (s .args .old .now) v)) _ _ (λ v h. sym (ap (λ (b : Bool). unaryOf NEXT b (member (s .args .p .now) v) (member (s .args .own .now) v) (member (s .args .old .now) v)) (c .before .before .before .before .before .if2 .left)) ∙ sym (ap (λ (k : ℕ). unaryOf k (s .args .last) (member (s .args .p .now) v) (member (s .args .own .now) v) (member (s .args .old .now) v)) (c .before .before .before .before .if3 .taken))) (holds-makes _ _ (c .before .before .copy2 .ensures))
 
 or-requires : tie.Need-or-requires
 or-requires c κs =
@@ -65,12 +67,12 @@ same-length-4 c = search needs
 returns-4 : tie.Need-returns-4
 returns-4 c =
     let s = c .before .before .before .before .before .before .before .before .before .before .before .before in
-    fills-ext _ (λ v. unaryOf (s .args .kind) (s .args .last) (inside (s .args .p .now) v) (inside (s .args .own .now) v) (inside (s .args .old .now) v)) _ _ (λ v h. sym (ap (λ (b : Bool). unaryOf 17 b (inside (s .args .p .now) v) (inside (s .args .own .now) v) (inside (s .args .old .now) v)) (c .before .before .before .before .before .before .if2 .left)) ∙ sym (ap (λ (k : ℕ). unaryOf k (s .args .last) (inside (s .args .p .now) v) (inside (s .args .own .now) v) (inside (s .args .old .now) v)) (c .before .before .before .before .if4 .taken))) (c .before .before .or .ensures)
+    makes-ext _ (λ v. unaryOf (s .args .kind) (s .args .last) (member (s .args .p .now) v) (member (s .args .own .now) v) (member (s .args .old .now) v)) _ _ (λ v h. sym (ap (λ (b : Bool). unaryOf FINALLY b (member (s .args .p .now) v) (member (s .args .own .now) v) (member (s .args .old .now) v)) (c .before .before .before .before .before .before .if2 .left)) ∙ sym (ap (λ (k : ℕ). unaryOf k (s .args .last) (member (s .args .p .now) v) (member (s .args .own .now) v) (member (s .args .old .now) v)) (c .before .before .before .before .if4 .taken))) (c .before .before .or .ensures)
 
 and-requires : tie.Need-and-requires
 and-requires c κs =
     let s = c .before .before .before .before .before .before .before .before .before in
-    let e = last-of-four 15 (s .args .kind) (s .pre .0) (s .pre .1) (c .before .before .before .before .if1 .left) (c .before .before .if3 .left) (c .before .if4 .left) in
+    let e = last-of-four unaryFrom (s .args .kind) (s .pre .0) (s .pre .1) (c .before .before .before .before .if1 .left) (c .before .before .if3 .left) (c .before .if4 .left) in
     let n = s .pre .3 (c .before .before .before .if2 .left) (omega (arith, e)) in
     (s .pre .2, n .0, s .pre .4)
 
@@ -80,8 +82,8 @@ same-length-5 c = search needs
 returns-5 : tie.Need-returns-5
 returns-5 c =
     let s = c .before .before .before .before .before .before .before .before .before .before .before .before in
-    let e = last-of-four 15 (s .args .kind) (s .pre .0) (s .pre .1) (c .before .before .before .before .before .before .before .if1 .left) (c .before .before .before .before .before .if3 .left) (c .before .before .before .before .if4 .left) in
-    fills-ext _ (λ v. unaryOf (s .args .kind) (s .args .last) (inside (s .args .p .now) v) (inside (s .args .own .now) v) (inside (s .args .old .now) v)) _ _ (λ v h. sym (ap (λ (b : Bool). unaryOf 18 b (inside (s .args .p .now) v) (inside (s .args .own .now) v) (inside (s .args .old .now) v)) (c .before .before .before .before .before .before .if2 .left)) ∙ sym (ap (λ (k : ℕ). unaryOf k (s .args .last) (inside (s .args .p .now) v) (inside (s .args .own .now) v) (inside (s .args .old .now) v)) e)) (c .before .before .and .ensures)
+    let e = last-of-four unaryFrom (s .args .kind) (s .pre .0) (s .pre .1) (c .before .before .before .before .before .before .before .if1 .left) (c .before .before .before .before .before .if3 .left) (c .before .before .before .before .if4 .left) in
+    makes-ext _ (λ v. unaryOf (s .args .kind) (s .args .last) (member (s .args .p .now) v) (member (s .args .own .now) v) (member (s .args .old .now) v)) _ _ (λ v h. sym (ap (λ (b : Bool). unaryOf GLOBALLY b (member (s .args .p .now) v) (member (s .args .own .now) v) (member (s .args .old .now) v)) (c .before .before .before .before .before .before .if2 .left)) ∙ sym (ap (λ (k : ℕ). unaryOf k (s .args .last) (member (s .args .p .now) v) (member (s .args .own .now) v) (member (s .args .old .now) v)) e)) (c .before .before .and .ensures)
 
 pub one-spec : {M : Type 1} → statement M
-one-spec = tie.close (tie.spec not-requires same-length returns same-requires same-length-2 returns-2 same-requires-2 same-length-3 returns-3 or-requires same-length-4 returns-4 and-requires same-length-5 returns-5)
+one-spec = tie.close (tie.spec not-requires same-length returns copy-requires same-length-2 returns-2 copy-requires-2 same-length-3 returns-3 or-requires same-length-4 returns-4 and-requires same-length-5 returns-5)

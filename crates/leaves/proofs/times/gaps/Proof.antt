@@ -1,34 +1,47 @@
--- The differences of all pairs of tops.
+-- The differences of later and earlier tops.
 use mathlib.Core.Path.{refl, sym, subst}
 use Prim.Native.Nat.{ℕ}
 use mathlib.Core.List.{List}
 use lib.Seq.{length-take-le}
 use Rattle.meaning.specs.inner.Truth.{truth}
-use Rattle.differences.specs.inner.Cuts.{Collects}
+use Rattle.runset.specs.laws.Set.{makes-of}
 use Rattle.differences.specs.inner.Times.{Times, gapsOf}
 use Rattle.leaves.specs.laws.Stamp.{top-times}
+use borrow.Author.Needs.{needs}
 use Rattle.leaves.proofs.times.gaps.Statement.{statement}
 use Rattle.leaves.proofs.times.gaps.Tie as tie
 use Rattle.recording.specs.Reading.{curveOf}
 
 slice-aggregate-top-stamps : tie.Need-slice-aggregate-top-stamps
-slice-aggregate-top-stamps c = refl
+slice-aggregate-top-stamps c = search needs
 
 top-stamps-requires : tie.Need-top-stamps-requires
-top-stamps-requires c κs = let s = c .before .before in (s .pre .0, s .pre .1, s .pre .2)
+top-stamps-requires c κs = search needs
 
 array-share-prefix-times : tie.Need-array-share-prefix-times
-array-share-prefix-times c = c .before .top-stamps .ensures .room
+array-share-prefix-times c = search needs
 
 slice-aggregate-gaps : tie.Need-slice-aggregate-gaps
 slice-aggregate-gaps c = let t = c .before .before .top-stamps in sym (length-take-le (t .result) (t .last .1 .1 .0) (t .ensures .room))
 
 gaps-requires : tie.Need-gaps-requires
-gaps-requires c κs = let s = c .before .before .before .before .before in subst Times (sym (c .before .before .top-stamps .ensures .stamps)) (top-times (s .args .rec .now) (s .pre .0) (curveOf (s .args .curve)))
+gaps-requires c κs = let s = c .before .before .before .before .before .before .before in (subst Times (sym (c .before .before .before .top-stamps .ensures .stamps)) (top-times (s .args .rec .now) (s .pre .0) (curveOf (s .args .curve))), s .pre .3)
+
+same-length : tie.Need-same-length
+same-length c = search needs
 
 returns : tie.Need-returns
 unfolding truth
-returns c = subst (λ (l : List ℕ). Collects (gapsOf l) (c .gaps .result)) (c .before .before .before .top-stamps .ensures .stamps) (c .gaps .ensures)
+returns c = makes-of gapsOf _ _ (c .before .before .before .before .before .before .top-stamps .ensures .stamps) (c .before .before .gaps .ensures)
 
 pub gaps-spec : {M : Type 1} → statement M
-gaps-spec = tie.close (tie.spec slice-aggregate-top-stamps top-stamps-requires array-share-prefix-times slice-aggregate-gaps gaps-requires returns)
+gaps-spec =
+    tie.close
+    (tie.spec
+    slice-aggregate-top-stamps
+    top-stamps-requires
+    array-share-prefix-times
+    slice-aggregate-gaps
+    gaps-requires
+    same-length
+    returns)

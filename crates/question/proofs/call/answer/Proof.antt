@@ -5,9 +5,11 @@ use borrow.Author.Needs.{needs}
 use Rattle.question.proofs.call.answer.Statement.{statement}
 use Rattle.question.proofs.call.answer.Tie as tie
 
+slice-aggregate-set-of : tie.Need-slice-aggregate-set-of
+slice-aggregate-set-of c = search needs
+
 set-of-requires : tie.Need-set-of-requires
-set-of-requires c κs =
-    c .before .before .before .pre
+set-of-requires c κs = search needs
 
 enum-known-verdict : tie.Need-enum-known-verdict
 enum-known-verdict c = search needs
@@ -15,23 +17,31 @@ enum-known-verdict c = search needs
 enum-told : tie.Need-enum-told
 enum-told c = search needs
 
+slice-aggregate-write-set : tie.Need-slice-aggregate-write-set
+slice-aggregate-write-set c = search needs
+
 write-set-requires : tie.Need-write-set-requires
-write-set-requires c κs =
-    c .before .before .before .before .set-of .ensures .set (c .before .before .enum-told .given .1) .valid
+write-set-requires c κs = c .before .before .before .before .before .set-of .ensures .set (c .before .before .enum-told .given .1) .valid
 
 returns : tie.Need-returns
-returns c =
-    let s = c .before .before .before .before .before .before .before in
-    let a = s .args in
-    answer-refused (a .rec .now) (textOf (a .table .now) (a .count)) _ (c .before .before .before .set-of .ensures) (a .out .now) _ (c .before .verdict .given .1)
+returns c = let a = c .before .before .before .before .before .before .before .before .before .args in answer-refused (a .rec .now) (textOf (a .table .now) (a .count)) _ _ (c .before .before .before .before .set-of .ensures) (a .out .now) _ (c .before .verdict .given .1)
 
 same-length : tie.Need-same-length
 same-length c = search needs
 
 returns-2 : tie.Need-returns-2
-returns-2 c =
-    let a = c .before .before .before .before .before .before .before .before .before .before .before .args in
-    answer-fine (a .rec .now) (textOf (a .table .now) (a .count)) _ (c .before .before .before .before .before .before .before .set-of .ensures) (a .out .now) (c .before .before .before .before .before .enum-told .given .1) _ _ (c .before .before .write-set .ensures)
+returns-2 c = let a = c .before .before .before .before .before .before .before .before .before .before .before .before .before .args in answer-fine (a .rec .now) (textOf (a .table .now) (a .count)) _ _ (c .before .before .before .before .before .before .before .before .set-of .ensures) (a .out .now) (c .before .before .before .before .before .enum-told .given .1) _ _ (c .before .before .write-set .ensures)
 
 pub answer-spec : {M : Type 1} → statement M
-answer-spec = tie.close (tie.spec set-of-requires enum-known-verdict enum-told write-set-requires returns same-length returns-2)
+answer-spec =
+    tie.close
+    (tie.spec
+    slice-aggregate-set-of
+    set-of-requires
+    enum-known-verdict
+    enum-told
+    slice-aggregate-write-set
+    write-set-requires
+    returns
+    same-length
+    returns-2)

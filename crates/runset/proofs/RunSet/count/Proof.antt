@@ -5,8 +5,11 @@ use borrow.Author.Needs.{needs}
 use Rattle.runset.proofs.RunSet.count.Statement.{statement}
 use Rattle.runset.proofs.RunSet.count.Tie as tie
 
+cuts-in-requires : tie.Need-cuts-in-requires
+cuts-in-requires c κs = search needs
+
 returns : tie.Need-returns
-returns c = omega (arith, valid-cuts (c .before .args .self) (c .before .pre))
+returns c = let s = c .before .before in omega (arith, c .cuts-in .ensures, valid-cuts (s .args .set .now) (s .pre))
 
 pub count-spec : {M : Type 1} → statement M
-count-spec = tie.close (tie.spec returns)
+count-spec = tie.close (tie.spec cuts-in-requires returns)

@@ -1,14 +1,16 @@
 -- The invariant: what the cuts passed say, with what those that are left say, is the membership.
-use Prim.Native.Nat.{ℕ, _+_, _-_, _≤_, _<_}
+use Prim.Native.Nat.{ℕ, _+_, _-_, _*_, _≤_, _<_}
 use mathlib.Core.Path.{_≡_, refl, sym, ap, _∙_}
 use mathlib.Core.Bool.{Bool}
 use mathlib.Core.List.{List}
 use native.Mathlib.Omega.{arith}
 use lib.Dec.{leb}
 use lib.ListN.{length, take, drop, getD}
+use Rattle.runset.specs.Runs.{mostRuns}
 use Rattle.runset.specs.Set.{xor, cutsOf, inside, member}
 use Rattle.runset.specs.laws.Cuts.{xor-false, xor-assoc, none}
 use Rattle.runset.specs.laws.Merge.{front, all-passed}
+use Rattle.runset.specs.laws.Set.{cuts-there}
 use borrow.Author.Needs.{needs}
 use Rattle.runset.proofs.RunSet.has.Statement.{statement}
 use Rattle.runset.proofs.RunSet.has.Tie as tie
@@ -25,22 +27,22 @@ counted-all : (a : List ℕ) (n i v : ℕ) (b m : Bool) → n ≤ length a → i
 counted-all a n i v b m h g w = sym (xor-false b) ∙ ap (xor b) (sym (none v) ∙ ap (λ (l : List ℕ). inside l v) (sym (all-passed a n i h g))) ∙ w
 
 abbrev Inv-loop : tie.InvT-loop
-Inv-loop v self n inside₀ i₀ so-far i = (i ≤ n) × (xor so-far (inside (drop i (cutsOf self)) v) ≡ inside (cutsOf self) v)
+Inv-loop set v n inside₀ i₀ so-far i = (i ≤ n) × (xor so-far (inside (drop i (cutsOf set)) v) ≡ inside (cutsOf set) v)
 
 abbrev μ-loop : tie.MeasureT-loop
-μ-loop v self n inside₀ i₀ so-far i = n - i
+μ-loop set v n inside₀ i₀ so-far i = n - i
 
-here : (c : tie.Start Inv-loop μ-loop) → c .args .t1 .n ≤ length (c .args .t1 .cuts)
-here c = omega (arith, c .pre .few, c .pre .size)
+cuts-in-requires : tie.Need-cuts-in-requires Inv-loop μ-loop
+cuts-in-requires c κs = search needs
 
 loop-holds : tie.Need-loop-holds Inv-loop μ-loop
-loop-holds c = search needs
+loop-holds c = (omega arith, refl)
 
-mul-c : tie.Need-mul-c Inv-loop μ-loop
-mul-c c = search needs
+mul-differ : tie.Need-mul-differ Inv-loop μ-loop
+mul-differ c = let s = c .before .before .before .before in omega (arith, c .before .before .cuts-in .ensures, s .pre .few, s .pre .size)
 
-element-copy-out-c : tie.Need-element-copy-out-c Inv-loop μ-loop
-element-copy-out-c c = search needs
+shared-slice-read-differ : tie.Need-shared-slice-read-differ Inv-loop μ-loop
+shared-slice-read-differ c = let s = c .before .before .before .before .before in omega (arith, c .before .before .before .cuts-in .ensures, s .pre .few, s .pre .size)
 
 differ-requires : tie.Need-differ-requires Inv-loop μ-loop
 differ-requires c κs = search needs
@@ -53,16 +55,18 @@ loop-less c = search needs
 
 loop-again : tie.Need-loop-again Inv-loop μ-loop
 loop-again c =
-    let g = c .before .before .before .before .args in
-    let h = c .before .before .before .loop in
-    (search needs, counted (g .t1 .cuts) (g .t1 .n) (h .i) (g .v) (h .inside) (c .differ .result) _ (here (c .before .before .before .before)) (search needs) (c .differ .ensures) (h .inv .1))
+    let s = c .before .before .before .before .before .before in
+    let l = c .before .before .before .loop in
+    let n = c .before .before .before .before .cuts-in .ensures in
+    (omega arith, counted (s .args .set .now) (getD (s .args .set .now) (2 * mostRuns) 0) (l .i) (s .args .v) (l .inside) (c .differ .result) _ (cuts-there (s .args .set .now) (s .pre)) (omega arith) (c .differ .ensures) (l .inv .1))
 
 returns : tie.Need-returns Inv-loop μ-loop
 unfolding member
 returns c =
-    let g = c .before .before .args in
-    let h = c .before .loop in
-    counted-all (g .t1 .cuts) (g .t1 .n) (h .i) (g .v) (h .inside) _ (here (c .before .before)) (search needs) (h .inv .1)
+    let s = c .before .before .before .before in
+    let l = c .before .loop in
+    let n = c .before .before .cuts-in .ensures in
+    counted-all (s .args .set .now) (getD (s .args .set .now) (2 * mostRuns) 0) (l .i) (s .args .v) (l .inside) _ (cuts-there (s .args .set .now) (s .pre)) (omega arith) (l .inv .1)
 
 pub has-spec : {M : Type 1} → statement M
 has-spec =
@@ -70,9 +74,10 @@ has-spec =
     (tie.spec
     Inv-loop
     μ-loop
+    cuts-in-requires
     loop-holds
-    mul-c
-    element-copy-out-c
+    mul-differ
+    shared-slice-read-differ
     differ-requires
     add-i
     loop-less

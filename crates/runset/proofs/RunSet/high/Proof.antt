@@ -6,24 +6,25 @@ use borrow.Author.Needs.{needs}
 use Rattle.runset.proofs.RunSet.high.Statement.{statement}
 use Rattle.runset.proofs.RunSet.high.Tie as tie
 
-mul-at : tie.Need-mul-at
-mul-at c = omega (arith, valid-cuts (c .args .t1) (c .pre .0), c .pre .0 .few)
-
-add-at : tie.Need-add-at
-add-at c = omega (arith, valid-cuts (c .args .t1) (c .pre .0), c .pre .0 .few)
-
 mul-result : tie.Need-mul-result
-mul-result c = omega (arith, valid-cuts (c .args .t1) (c .pre .0), c .pre .0 .few)
+mul-result c = omega (arith, valid-cuts (c .args .set .now) (c .pre .0), c .pre .0 .few, c .pre .0 .size)
 
-element-copy-out-result : tie.Need-element-copy-out-result
-element-copy-out-result c = omega (arith, valid-cuts (c .args .t1) (c .pre .0), c .pre .0 .few, c .pre .0 .size)
+add-result : tie.Need-add-result
+add-result c = omega (arith, valid-cuts (c .args .set .now) (c .pre .0), c .pre .0 .few, c .pre .0 .size)
+
+mul-result-2 : tie.Need-mul-result-2
+mul-result-2 c = omega (arith, valid-cuts (c .args .set .now) (c .pre .0), c .pre .0 .few, c .pre .0 .size)
+
+shared-slice-read-result : tie.Need-shared-slice-read-result
+shared-slice-read-result c = omega (arith, valid-cuts (c .before .args .set .now) (c .before .pre .0), c .before .pre .0 .few, c .before .pre .0 .size)
 
 sub-result : tie.Need-sub-result
-sub-result c = omega (arith, run (c .before .args .t1) (c .before .pre .0) (c .before .args .run) (c .before .pre .1) .end)
+sub-result c = let s = c .before in omega (arith, run (s .args .set .now) (s .pre .0) (s .args .run) (s .pre .1) .end)
 
 returns : tie.Need-returns
-returns c = omega (arith, run (c .before .args .t1) (c .before .pre .0) (c .before .args .run) (c .before .pre .1) .end)
+returns c = let s = c .before in omega (arith, run (s .args .set .now) (s .pre .0) (s .args .run) (s .pre .1) .end)
 
 pub high-spec : {M : Type 1} → statement M
 high-spec =
-    tie.close (tie.spec mul-at add-at mul-result element-copy-out-result sub-result returns)
+    tie.close
+    (tie.spec mul-result add-result mul-result-2 shared-slice-read-result sub-result returns)

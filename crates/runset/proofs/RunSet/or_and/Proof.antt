@@ -1,41 +1,100 @@
--- What p and r share always fits into the room for it, so that only the result is limited.
-use mathlib.Core.Path.{ap}
-use mathlib.Core.Bool.{Bool, _||_, _&&_}
-use borrow.Author.Needs.{needs}
+-- What p and r share always fits into the room for it.
+use mathlib.Core.Path.{_≡_, refl, sym, ap, subst, _∙_}
 use native.Mathlib.Omega.{arith}
-use Rattle.runset.specs.Set.{cutsOf, inside, member}
-use Rattle.runset.specs.laws.Set.{valid-operand, shared-operand, shared-inside, makes-ext}
+use mathlib.Core.Bool.{Bool, _||_, _&&_}
+use mathlib.Core.List.{List}
+use Prim.Native.Nat.{ℕ, _+_, _≤_}
+use lib.ListN.{length, length-take}
+use lib.Seq.{length-take-le}
+use Rattle.runset.specs.Set.{cutsOf, inside, member, sharedWords, Canonical}
+use Rattle.runset.specs.laws.Set.{cuts-length, valid-short, shared-there, shared-short, shared-canonical, shared-members, makes-ext, makes-lists}
+use borrow.Author.Needs.{needs}
 use Rattle.runset.proofs.RunSet.or_and.Statement.{statement}
 use Rattle.runset.proofs.RunSet.or_and.Tie as tie
 
-slice-aggregate-merge : tie.Need-slice-aggregate-merge
-slice-aggregate-merge c = search needs
+few : (s : tie.Start) (p r : List ℕ) → cutsOf (s .args .p .now) ≡ p → cutsOf (s .args .r .now) ≡ r → length p + length r ≤ sharedWords
+few s p r e g =
+    let x : length p ≡ _ = ap length (sym e) ∙ cuts-length (s .args .p .now) (s .pre .1) in
+    let y : length r ≡ _ = ap length (sym g) ∙ cuts-length (s .args .r .now) (s .pre .2) in
+    omega (arith, s .pre .1 .few, s .pre .2 .few)
+
+cuts-of-requires : tie.Need-cuts-of-requires
+cuts-of-requires c κs = search needs
+
+cuts-of-requires-2 : tie.Need-cuts-of-requires-2
+cuts-of-requires-2 c κs = search needs
 
 merge-requires : tie.Need-merge-requires
 merge-requires c κs =
-    let s = c .before .before .before .before .before .before .before in
-    let p = valid-operand (s .args .t2) (s .pre .1) in
-    let r = valid-operand (s .args .t3) (s .pre .2) in
-    (p .there, r .there, p .few, r .few)
+    let s = c .before .before .before .before .before .before .before .before in
+    let p = sym (c .before .before .cuts-of .ensures) in
+    let r = sym (c .before .cuts-of2 .ensures) in (
+      subst Canonical p (s .pre .1 .canonical),
+      subst Canonical r (s .pre .2 .canonical),
+      subst (λ (l : List ℕ). length l ≤ sharedWords) p (valid-short (s .args .p .now) (s .pre .1)),
+      subst (λ (l : List ℕ). length l ≤ sharedWords) r (valid-short (s .args .r .now) (s .pre .2)),
+      omega (arith, s .pre .3),
+    )
 
-slice-aggregate-limited : tie.Need-slice-aggregate-limited
-slice-aggregate-limited c = search needs
+cuts-of-requires-3 : tie.Need-cuts-of-requires-3
+cuts-of-requires-3 c κs = search needs
 
-limited-requires : tie.Need-limited-requires
-limited-requires c κs =
+slice-reshare-prefix-combine : tie.Need-slice-reshare-prefix-combine
+slice-reshare-prefix-combine c =
+    let s = c .before .before .before .before .before .before .before .before .before .before .before .before in
+    let p = sym (c .before .before .before .before .before .before .cuts-of .ensures) in
+    let r = sym (c .before .before .before .before .before .cuts-of2 .ensures) in
+    shared-there _ _ (s .args .shared .now) _ _ (subst Canonical p (s .pre .1 .canonical)) (subst Canonical r (s .pre .2 .canonical)) (few s _ _ p r) (s .pre .3) (c .before .before .before .merge .ensures)
+
+slice-aggregate-combine : tie.Need-slice-aggregate-combine
+slice-aggregate-combine c =
     let s = c .before .before .before .before .before .before .before .before .before .before .before .before .before in
-    (valid-operand (s .args .t1) (s .pre .0), shared-operand (s .args .t2) (s .args .t3) (s .pre .1) (s .pre .2) _ _ (c .before .before .before .before .before .merge .ensures))
+    let p = sym (c .before .before .before .before .before .before .before .cuts-of .ensures) in
+    let r = sym (c .before .before .before .before .before .before .cuts-of2 .ensures) in
+    sym (length-take-le _ _ (shared-there _ _ (s .args .shared .now) _ _ (subst Canonical p (s .pre .1 .canonical)) (subst Canonical r (s .pre .2 .canonical)) (few s _ _ p r) (s .pre .3) (c .before .before .before .before .merge .ensures)))
+
+combine-requires : tie.Need-combine-requires
+combine-requires c κs =
+    let s = c .before .before .before .before .before .before .before .before .before .before .before .before .before .before in
+    let p = sym (c .before .before .before .before .before .before .before .before .cuts-of .ensures) in
+    let r = sym (c .before .before .before .before .before .before .before .cuts-of2 .ensures) in
+    let q = sym (c .before .before .cuts-of3 .ensures) in
+    let short = shared-short _ _ (s .args .shared .now) _ _ (subst Canonical p (s .pre .1 .canonical)) (subst Canonical r (s .pre .2 .canonical)) (few s _ _ p r) (s .pre .3) (c .before .before .before .before .before .merge .ensures) in (
+      subst Canonical q (s .pre .0 .canonical),
+      shared-canonical _ _ (s .args .shared .now) _ _ (subst Canonical p (s .pre .1 .canonical)) (subst Canonical r (s .pre .2 .canonical)) (few s _ _ p r) (s .pre .3) (c .before .before .before .before .before .merge .ensures),
+      subst (λ (l : List ℕ). length l ≤ sharedWords) q (valid-short (s .args .q .now) (s .pre .0)),
+      simp length-take (omega arith),
+      s .pre .4,
+    )
+
+same-length : tie.Need-same-length
+same-length c = search needs
+
+same-length-2 : tie.Need-same-length-2
+same-length-2 c = search needs
 
 returns : tie.Need-returns
 unfolding member
 returns c =
-    let s = c .before .before .before .before .before .before .before .before .before .before .before .before .before .before in
-    let q = s .args .t1 in
-    let p = s .args .t2 in
-    let r = s .args .t3 in
-    makes-ext _ (λ v. member q v || (member p v && member r v)) _
-    (λ v h. ap (λ (b : Bool). inside (cutsOf q) v || b) (shared-inside p r (s .pre .1) (s .pre .2) _ _ (c .before .before .before .before .before .before .merge .ensures) v))
-    (c .limited .ensures)
+    let s = c .before .before .before .before .before .before .before .before .before .before .before .before .before .before .before .before .before in
+    let p = sym (c .before .before .before .before .before .before .before .before .before .before .before .cuts-of .ensures) in
+    let r = sym (c .before .before .before .before .before .before .before .before .before .before .cuts-of2 .ensures) in
+    makes-ext _ (λ v. member (s .args .q .now) v || (member (s .args .p .now) v && member (s .args .r .now) v)) _ _
+    (λ v h. ap (λ (b : Bool). inside (cutsOf (s .args .q .now)) v || b)
+    (shared-members _ _ (s .args .shared .now) _ _ (subst Canonical p (s .pre .1 .canonical)) (subst Canonical r (s .pre .2 .canonical)) (few s _ _ p r) (s .pre .3) (c .before .before .before .before .before .before .before .before .merge .ensures) v ∙ (λ i. inside (sym p i) v && inside (sym r i) v)))
+    (makes-lists _||_ _ _ (c .before .before .before .before .before .cuts-of3 .ensures) refl (c .before .before .combine .ensures))
 
 pub or-and-spec : {M : Type 1} → statement M
-or-and-spec = tie.close (tie.spec slice-aggregate-merge merge-requires slice-aggregate-limited limited-requires returns)
+or-and-spec =
+    tie.close
+    (tie.spec
+    cuts-of-requires
+    cuts-of-requires-2
+    merge-requires
+    cuts-of-requires-3
+    slice-reshare-prefix-combine
+    slice-aggregate-combine
+    combine-requires
+    same-length
+    same-length-2
+    returns)
