@@ -1,3 +1,4 @@
 pub mod Merge
 pub mod OneRun
+pub mod Join
 pub mod Gap

@@ -4,6 +4,7 @@ pub mod OneRun
 pub mod Runs
 pub mod Set
 pub mod Added
+pub mod Join
 pub mod Distance
 pub mod Written
 pub mod Examples

@@ -1,8 +1,10 @@
 // Sets of numbers of the axis, with at most MOST_RUNS runs. A number is carried as its index on the axis.
 // A set lies in SLOT words that the caller lends; how, nobody above this crate knows.
+mod join;
 mod merge;
 mod run;
 
+pub use join::Joined;
 use merge::Op;
 ghost use mathlib.Core.Path.{_≡_};
 ghost use mathlib.Core.Bool.{Bool, true, false, not, _||_, _&&_};
@@ -15,6 +17,7 @@ ghost use Rattle.runset.specs.Runs.{mostRuns, runCount, lows, highs, set
 ghost use Rattle.runset.specs.Set.{cutsOf, inside, member, slotWords, sharedWords, Canonical, Valid, Holds, Makes, nearestOf};
 ghost use Rattle.runset.specs.inner.Merge.{opOf};
 ghost use Rattle.runset.specs.inner.Gap.{gapTo, nearerOf};
+ghost use Rattle.runset.specs.inner.Join.{Joins};
 
 // The most runs of a set.
 pub const MOST_RUNS: usize = 256;
@@ -106,12 +109,21 @@ impl RunSet {
         set[CUTS] = n as u32;
     }
 
+    // What is in a or in b, with the number of runs that were stored.
+    pub fn join(a: &[u32], b: &[u32], set: &mut [u32]) -> Joined
+        requires { ⌜ Valid (now a) × Valid (now b) × (length (now set) ≡ slotWords) ⌝ }
+        ensures { λ r. ⌜ Joins (λ v. member (now (a .entry)) v || member (now (b .entry)) v) (now (set .exit)) r ⌝ }
+    {
+        join::join(cuts_of(a), cuts_of(b), set)
+    }
+
     // What is in a or in b. This and the next three say whether there are too many runs.
     pub fn or(a: &[u32], b: &[u32], set: &mut [u32]) -> bool
         requires { ⌜ Valid (now a) × Valid (now b) × (length (now set) ≡ slotWords) ⌝ }
         ensures { λ r. ⌜ Makes (λ v. member (now (a .entry)) v || member (now (b .entry)) v) (now (set .exit)) r ⌝ }
     {
-        combine(Op::Or, cuts_of(a), cuts_of(b), set)
+        let joined = RunSet::join(a, b, set);
+        joined.over
     }
 
     // What is in a and in b.
@@ -131,14 +143,16 @@ impl RunSet {
         combine(Op::Xor, &whole, cuts_of(a), set)
     }
 
-    // What is in q, or in p and in r. Only the result is limited: what p and r share has room in `shared`.
+    // What is in q, or in p and in r. Only the result is limited: what p and r share has room in `shared`, for it is no join of two sets, but one of those
+    // that are joined with q.
     pub fn or_and(q: &[u32], p: &[u32], r: &[u32], shared: &mut [u32], set: &mut [u32]) -> bool
         requires { ⌜ Valid (now q) × Valid (now p) × Valid (now r) × (length (now shared) ≡ sharedWords) × (length (now set) ≡ slotWords) ⌝ }
         ensures { λ m. ⌜ Makes (λ v. member (now (q .entry)) v || (member (now (p .entry)) v && member (now (r .entry)) v)) (now (set .exit)) m ⌝ }
     {
         let both = run::merge(Op::And, cuts_of(p), cuts_of(r), shared);
         let n = both.n;
-        combine(Op::Or, cuts_of(q), &shared[..n], set)
+        let joined = join::join(cuts_of(q), &shared[..n], set);
+        joined.over
     }
 
     pub fn has(set: &[u32], v: u32) -> bool

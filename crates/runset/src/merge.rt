@@ -1,14 +1,12 @@
 // One walk along the cuts of two sets.
 ghost use mathlib.Core.Path.{_≡_};
 ghost use mathlib.Core.Bool.{Bool, true, false};
-ghost use Prim.Native.Nat.{ℕ, _+_, _*_, _≤_, _<_};
+ghost use Prim.Native.Nat.{ℕ, _+_, _≤_, _<_};
 ghost use lib.ListN.{length, take};
-ghost use Rattle.runset.specs.Runs.{mostRuns};
-ghost use Rattle.runset.specs.Set.{xor};
+ghost use Rattle.runset.specs.Set.{xor, sharedWords};
 ghost use Rattle.runset.specs.inner.Merge.{opOf, mergeCuts, Stepped, Merged};
 
 pub enum Op {
-    Or,
     And,
     Xor,
 }
@@ -32,7 +30,6 @@ fn apply(op: Op, p: bool, q: bool) -> bool
     ensures { λ r. ⌜ r ≡ opOf op p q ⌝ }
 {
     match op {
-        Op::Or => if p { true } else { q },
         Op::And => if p { q } else { false },
         Op::Xor => if p { !q } else { q },
     }
@@ -98,7 +95,7 @@ fn advance(a: &[u32], na: usize, i: usize, p: bool, b: &[u32], nb: usize, j: usi
 
 // Writes the cuts of an operation on two sets, given by their first na and nb cuts.
 pub fn merge(op: Op, a: &[u32], na: usize, b: &[u32], nb: usize, out: &mut [u32]) -> Filled
-    requires { ⌜ (na ≤ length (now a)) × (nb ≤ length (now b)) × (na ≤ 4 * mostRuns) × (nb ≤ 4 * mostRuns) ⌝ }
+    requires { ⌜ (na ≤ length (now a)) × (nb ≤ length (now b)) × (na ≤ sharedWords) × (nb ≤ sharedWords) ⌝ }
     ensures { λ r. ⌜ Merged (mergeCuts (opOf op) false false (take na (now (a .entry))) (take nb (now (b .entry)))) (now (out .entry)) (now (out .exit)) r ⌝ }
 {
     let room = out.len();

@@ -1,11 +1,10 @@
 // Operations on two sets of one run each that make one run at most: no walk is needed.
 ghost use mathlib.Core.Path.{_≡_};
-ghost use mathlib.Core.Bool.{true, false, _||_, _&&_};
+ghost use mathlib.Core.Bool.{true, false, _&&_};
 ghost use mathlib.Core.List.{[], _∷_};
-ghost use Prim.Native.Nat.{_*_, _≤_, _<_, min, max};
+ghost use Prim.Native.Nat.{_≤_, _<_, min, max};
 ghost use lib.ListN.{length};
-ghost use Rattle.runset.specs.Runs.{mostRuns};
-ghost use Rattle.runset.specs.Set.{Canonical};
+ghost use Rattle.runset.specs.Set.{sharedWords, Canonical};
 ghost use Rattle.runset.specs.inner.Merge.{opOf, mergeCuts, Merged};
 ghost use Rattle.runset.specs.inner.OneRun.{runCuts, OneRun};
 use crate::merge::Filled;
@@ -52,31 +51,12 @@ fn shared(la: u32, ea: u32, lb: u32, eb: u32) -> Run
     }
 }
 
-// Two runs that meet, as one.
-fn joined(la: u32, ea: u32, lb: u32, eb: u32) -> Run
-    requires { ⌜ (la < ea) × (lb < eb) ⌝ }
-    ensures { λ r. ⌜ OneRun _||_ (la ∷ ea ∷ []) (lb ∷ eb ∷ []) r ⌝ }
-{
-    if eb < la {
-        return unknown();
-    }
-    if ea < lb {
-        return unknown();
-    }
-    Run {
-        known: true,
-        low: lesser(la, lb),
-        end: greater(ea, eb),
-    }
-}
-
 // An operation on two runs.
 fn of_runs(op: Op, la: u32, ea: u32, lb: u32, eb: u32) -> Run
     requires { ⌜ (la < ea) × (lb < eb) ⌝ }
     ensures { λ r. ⌜ OneRun (opOf op) (la ∷ ea ∷ []) (lb ∷ eb ∷ []) r ⌝ }
 {
     match op {
-        Op::Or => joined(la, ea, lb, eb),
         Op::And => shared(la, ea, lb, eb),
         Op::Xor => unknown(),
     }
@@ -111,7 +91,7 @@ fn put(low: u32, end: u32, out: &mut [u32]) -> Filled
 
 // Writes the cuts of an operation on two sets: one run at once, others by the walk.
 pub fn merge(op: Op, a: &[u32], b: &[u32], out: &mut [u32]) -> Filled
-    requires { ⌜ Canonical (now a) × Canonical (now b) × (length (now a) ≤ 4 * mostRuns) × (length (now b) ≤ 4 * mostRuns) × (2 ≤ length (now out)) ⌝ }
+    requires { ⌜ Canonical (now a) × Canonical (now b) × (length (now a) ≤ sharedWords) × (length (now b) ≤ sharedWords) × (2 ≤ length (now out)) ⌝ }
     ensures { λ r. ⌜ Merged (mergeCuts (opOf op) false false (now (a .entry)) (now (b .entry))) (now (out .entry)) (now (out .exit)) r ⌝ }
 {
     let run = of_two(op, a, b);

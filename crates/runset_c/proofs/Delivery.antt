@@ -12,9 +12,11 @@ use Rattle.runset.specs.Runs.{mostRuns, runCount, setBytes}
 use Rattle.runset.specs.Distance.{distance}
 use Rattle.runset.specs.laws.Distance.{distance-ext}
 use Rattle.runset.specs.Set.{member, Valid, Makes}
+use Rattle.runset.specs.inner.Join.{Joins}
+use Rattle.runset.specs.declared.join.Joined.{Joined}
 use Rattle.runset.specs.laws.Runs.{runCount-ext, setBytes-ext}
 use Rattle.runset.specs.laws.Set.{makes-ext}
-use Rattle.runset_c.specs.Bytes.{chosen, asked, setOf, unfit, unfitAny, replyOf, outputOf, memberReply, distanceReply}
+use Rattle.runset_c.specs.Bytes.{chosen, asked, setOf, unfit, unfitAny, replyOf, outputOf, memberReply, distanceReply, storesReply}
 use Rattle.runset_c.specs.Promises.{Loaded, Delivered}
 
 -- ---- the operation that is chosen
@@ -182,3 +184,33 @@ module _ (a p : List ℕ) (over : Bool) (l : Loaded a p over) (v : ℕ) where
   distance-said o h d e =
       e ∙ distance-ext (member p) (setOf a) v h (l .holds o .members)
       ∙ sym (ap₂ (λ (b c : Bool). cond b 4294967295 (cond c 4294967294 (distance (setOf a) v))) (refused-is false o) (lt-leb axis v h))
+
+-- ---- how many runs are stored
+
+pub stores-refused : (refused : Bool) (f : ℕ → Bool) → refused ≡ true → 4294967295 ≡ storesReply refused f
+unfolding storesReply
+stores-refused refused f e = sym (ap (λ (b : Bool). cond b 4294967295 (cond (ltb mostRuns (runCount f)) 4294967294 (runCount f))) e)
+
+module _ (a b p q words : List ℕ) (r : Joined) (lp : Loaded a p false) (lq : Loaded b q false) (j : Joins (λ v. member p v || member q v) words r) where
+  abbrev either : ℕ → Bool
+  either v = setOf a v || setOf b v
+
+  both-fit : (unfit a || unfit b) ≡ false
+  both-fit = ap₂ _||_ (sym (lp .flag)) (sym (lq .flag))
+
+  same-runs : runCount (λ v. member p v || member q v) ≡ runCount either
+  same-runs = runCount-ext _ either (λ v h. ap₂ _||_ (lp .holds refl .members v h) (lq .holds refl .members v h))
+
+  told : (over : Bool) → r .over ≡ over → storesReply (unfit a || unfit b) either ≡ cond over 4294967294 (runCount either)
+  unfolding storesReply
+  told over o =
+      ap₂ (λ (x y : Bool). cond x 4294967295 (cond y 4294967294 (runCount either))) both-fit (sym (ap (ltb mostRuns) same-runs) ∙ sym (j .makes .flag) ∙ o)
+
+  pub stores-over : r .over ≡ true → 4294967294 ≡ storesReply (unfit a || unfit b) either
+  stores-over o = sym (told true o)
+
+  pub stores-said : r .over ≡ false → r .stores ≡ storesReply (unfit a || unfit b) either
+  stores-said o = j .stores o ∙ same-runs ∙ sym (told false o)
+
+  pub stores-few : r .over ≡ false → r .stores ≤ mostRuns
+  stores-few o = omega (arith, j .stores o, ltb-false mostRuns (runCount (λ v. member p v || member q v)) (sym (j .makes .flag) ∙ o))

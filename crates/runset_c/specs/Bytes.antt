@@ -68,3 +68,7 @@ sumOf f (suc n) = (sumOf f n + getD (lows f) (sumOf f n % runCount f) 0) % 2 ^ 6
 -- 0 for refused bytes, for too many runs and for the empty set
 unfoldable pub repeatReply : Bool → (ℕ → Bool) → ℕ → ℕ
 repeatReply refused f times = cond refused 0 (cond (ltb mostRuns (runCount f)) 0 (cond (eqb (runCount f) 0) 0 (sumOf f times)))
+
+-- the number of runs that joining stores, which is that of the result; 4,294,967,295 for refused bytes, 4,294,967,294 for too many runs
+unfoldable pub storesReply : Bool → (ℕ → Bool) → ℕ
+storesReply refused f = cond refused 4294967295 (cond (ltb mostRuns (runCount f)) 4294967294 (runCount f))

@@ -4,11 +4,11 @@ use runset::RunSet;
 use runset::SHARED;
 use runset::SLOT;
 ghost use mathlib.Core.Path.{_≡_};
-ghost use mathlib.Core.Bool.{false};
+ghost use mathlib.Core.Bool.{false, _||_};
 ghost use Prim.Native.Nat.{_+_, _≤_};
 ghost use lib.ListN.{length};
 ghost use Rattle.runset.specs.Set.{slotWords, sharedWords, member, Valid, Makes};
-ghost use Rattle.runset_c.specs.Bytes.{indexAt, setOf, unfit, unfitAny, chosen, asked, replyOf, outputOf, memberReply, distanceReply, repeatReply};
+ghost use Rattle.runset_c.specs.Bytes.{indexAt, setOf, unfit, unfitAny, chosen, asked, replyOf, outputOf, memberReply, distanceReply, repeatReply, storesReply};
 ghost use Rattle.runset_c.specs.Promises.{Extended, Loaded, Delivered};
 
 // How far the indices lie below the turned bits.
@@ -196,4 +196,25 @@ pub extern "C" fn runset_repeat(op: u32, a: &[u8], b: &[u8], c: &[u8], times: u6
         return 0;
     }
     repeated(op, &p, &q, &r, times)
+}
+
+// How many runs the joining of two sets stores.
+#[no_mangle]
+pub extern "C" fn runset_stores(a: &[u8], b: &[u8]) -> u32
+    ensures { λ r. ⌜ r ≡ storesReply (unfit (now (a .entry)) || unfit (now (b .entry))) (λ v. setOf (now (a .entry)) v || setOf (now (b .entry)) v) ⌝ }
+{
+    let mut p = [0u32; SLOT];
+    if load(a, &mut p) {
+        return 4_294_967_295;
+    }
+    let mut q = [0u32; SLOT];
+    if load(b, &mut q) {
+        return 4_294_967_295;
+    }
+    let mut set = [0u32; SLOT];
+    let joined = RunSet::join(&p, &q, &mut set);
+    if joined.over {
+        return 4_294_967_294;
+    }
+    joined.stores as u32
 }

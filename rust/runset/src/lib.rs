@@ -16,6 +16,7 @@ extern "C" {
     ) -> u32;
     fn runset_has(a: *const u8, a_len: usize, v: u32) -> u32;
     fn runset_distance(a: *const u8, a_len: usize, v: u32) -> u32;
+    fn runset_stores(a: *const u8, a_len: usize, b: *const u8, b_len: usize) -> u32;
     fn runset_repeat(
         op: u32,
         a: *const u8,
@@ -76,6 +77,11 @@ pub fn has(a: &[u8], v: i64) -> u32 {
 
 pub fn distance(a: &[u8], v: i64) -> u32 {
     unsafe { runset_distance(a.as_ptr(), a.len(), index(v)) }
+}
+
+/// How many runs the joining of two sets stores: it counts each when it stores it.
+pub fn stores(a: &[u8], b: &[u8]) -> u32 {
+    unsafe { runset_stores(a.as_ptr(), a.len(), b.as_ptr(), b.len()) }
 }
 
 /// Does the operation over and over; gives a sum over what it makes.

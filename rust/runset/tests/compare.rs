@@ -23,6 +23,11 @@ fn distance(a: &[u8], v: i64) -> u32 {
     runset_compare::distance(a, v)
 }
 
+fn stores(a: &[u8], b: &[u8]) -> u32 {
+    compared::count();
+    runset_compare::stores(a, b)
+}
+
 struct Random(u64);
 
 impl Random {
@@ -253,4 +258,53 @@ fn plain_is_the_same() {
             }
         }
     }
+}
+
+/// How a run lies to another.
+fn lie(how: usize, (l, h): Run) -> Run {
+    match how {
+        0 => (h + 1, h + 4),         // touching
+        1 => (h - 1, h + 3),         // overlapping
+        2 => (l + 1, h - 1),         // nested
+        3 => (l, h),                 // equal
+        _ => (h + 2, h + 3),         // disjoint
+    }
+}
+
+/// Paper 4: joining stores each run of the result once. Every pair has its result within the limit; of each way in which runs lie to one another there are at
+/// least 100 pairs, and of those with an empty set.
+#[test]
+fn joining_stores_each_run_once() {
+    let mut r = Random(4);
+    let mut of = [0; 6];
+    let mut pairs = 0;
+    while pairs < 1000 {
+        let how = pairs % 6;
+        let n = 1 + r.below(120) as i64;
+        let a: Vec<Run> = joined((0..n).map(|k| (LOW + 40 * k + r.below(9) as i64, LOW + 40 * k + 12 + r.below(9) as i64)).collect());
+        let b: Vec<Run> = if how == 5 { vec![] } else { joined(a.iter().filter(|_| r.below(4) > 0).map(|&q| lie(how, q)).collect()) };
+        let (a, b) = if r.below(2) == 0 { (a, b) } else { (b, a) };
+        let want = expected(Op::Or, &a, &b, &[]);
+        if want.len() > MOST_RUNS || (how < 5 && (a.is_empty() || b.is_empty())) {
+            continue;
+        }
+        assert_eq!(stores(&bytes(&a), &bytes(&b)), want.len() as u32, "{a:?} {b:?}");
+        of[how] += 1;
+        pairs += 1;
+    }
+    assert!(of.iter().all(|&n| n >= 100), "{of:?}");
+}
+
+/// And where sets are of any kind: the count, or that there are too many runs.
+#[test]
+fn joining_counts_at_random() {
+    let mut r = Random(5);
+    for _ in 0..2000 {
+        let mut one = || random_set(&mut r, -50, 900, 3);
+        let (a, b) = (one(), one());
+        let want = expected(Op::Or, &a, &b, &[]).len();
+        let told = stores(&bytes(&a), &bytes(&b));
+        assert_eq!(told, if want > MOST_RUNS { OVER } else { want as u32 });
+    }
+    assert_eq!(stores(&[1, 2, 3, 4, 5, 6, 7, 127], &[]), REFUSED);
 }

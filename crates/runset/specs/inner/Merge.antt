@@ -1,18 +1,17 @@
 -- The cuts of an operation on two sets, by one walk along both lists, and what the functions of the walk promise.
 use Prim.Native.Nat.{ℕ, _+_, _*_, _≤_, _<_}
 use mathlib.Core.Path.{_≡_}
-use mathlib.Core.Bool.{Bool, true, false, not, _||_, _&&_}
+use mathlib.Core.Bool.{Bool, true, false, not, _&&_}
 use mathlib.Core.List.{List, [], _∷_, _++_}
 use lib.Dec.{ltb}
 use lib.ListN.{length, take, drop}
 use Rattle.runset.specs.Set.{xor}
 use Rattle.runset.specs.declared.merge.Op.{Op}
-use Rattle.runset.specs.declared.merge.Op.the-variants.{Or, And, Xor}
+use Rattle.runset.specs.declared.merge.Op.the-variants.{And, Xor}
 use Rattle.runset.specs.declared.merge.Step.{Step}
 use Rattle.runset.specs.declared.merge.Filled.{Filled}
 
 abbrev pub opOf : Op → Bool → Bool → Bool
-opOf Or p q = p || q
 opOf And p q = p && q
 opOf Xor p q = xor p q
 

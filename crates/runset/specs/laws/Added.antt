@@ -1,16 +1,17 @@
 -- A run more, behind all members of a set: two cuts more, or the last run goes on.
-use Prim.Native.Nat.{ℕ, suc, _+_, _-_, _*_, _≤_, _<_}
+use Prim.Native.Nat.{ℕ, zero, suc, _+_, _-_, _*_, _≤_, _<_}
 use native.Mathlib.Omega.{arith}
 use native.Mathlib.Numerals.{add-one}
 use mathlib.Core.Path.{_≡_, refl, sym, ap, ap₂, subst, _∙_}
 use mathlib.Core.Bool.{Bool, true, false, not, _||_, _&&_, true≢false, false≢true}
 use mathlib.Core.List.{List, [], _∷_, _++_, append-assoc}
-use mathlib.Core.Logic.{⊎-elim}
+use mathlib.Core.Logic.{_⊎_, inl, inr, ⊎-elim}
 use lib.Dec.{leb, ltb}
 use lib.ListN.{length, take, getD, set, length-append, length-set}
 use lib.Seq.{take-suc, take-suc-set, take-set-le, getD-set-same, getD-set-other}
-use borrow.Author.Tests.{le-leb, lt-leb}
+use borrow.Author.Tests.{le-leb, lt-leb, lt-ltb, leb-true, ltb-true}
 use Rattle.number.specs.Axis.{axis}
+use Rattle.number.specs.laws.Boolean.{same}
 use Rattle.number.specs.laws.Order.{less-or-not}
 use Rattle.runset.specs.Runs.{mostRuns, runCount}
 use Rattle.runset.specs.Set.{cutsOf, slotWords, xor, inside, member, Ascending, Canonical, Valid, Holds, Makes}
@@ -58,6 +59,12 @@ last-is k z low c behind =
     flip : (b : Bool) → xor b true ≡ false → b ≡ true
     flip true e = refl
     flip false e = absurd (true≢false e)
+
+-- a last cut ends a run, so it is not 0
+zero-last : (j : List ℕ) → Canonical (j ++ 0 ∷ []) → ⊥
+unfolding inside
+zero-last [] c = absurd (true≢false (sym (ap (λ (b : Bool). xor b false) (le-leb 0 axis (omega arith))) ∙ c .ended))
+zero-last (x ∷ j) c = let h = last-above (x + 1) axis 0 j (c .ascending .2) in omega arith
 
 -- two sets of which no number is in both
 pub apart-or : (a b : Bool) → (a ≡ true → b ≡ false) → xor a b ≡ (a || b)
@@ -125,9 +132,52 @@ module _ (l : List ℕ) (c : Canonical l) (low high : ℕ) (h : low ≤ high) (k
         turn false false true = refl
         turn false false false = refl
 
--- ---- the words
+-- a list is empty or has a last
+last-or-none : (l : List ℕ) → (l ≡ []) ⊎ ((j : List ℕ) × (z : ℕ) × (l ≡ j ++ z ∷ []))
+last-or-none [] = inl refl
+last-or-none (c ∷ l) = inr (⊎-elim (λ e. ([], c, ap (λ (x : List ℕ). c ∷ x) e)) (λ e. (c ∷ e .0, e .1, ap (λ (x : List ℕ). c ∷ x) (e .2))) (last-or-none l))
 
-put-two : (o : List ℕ) (n d e : ℕ) → n + 2 ≤ length o → take (n + 2) (set (set o n d) (n + 1) e) ≡ take n o ++ d ∷ e ∷ []
+-- a run from low on and before end, apart from all that is inside
+pub grown-behind : (l : List ℕ) (c : Canonical l) (low end : ℕ) → low < end → end ≤ axis → ((v : ℕ) → inside l v ≡ true → v + 1 < low)
+    → Canonical (l ++ low ∷ end ∷ []) × ((v : ℕ) → inside (l ++ low ∷ end ∷ []) v ≡ (inside l v || (leb low v && ltb v end)))
+grown-behind l c low end h k apart =
+    subst (λ (e : ℕ). Canonical (l ++ low ∷ e ∷ []) × ((v : ℕ) → inside (l ++ low ∷ e ∷ []) v ≡ (inside l v || (leb low v && ltb v e)))) back (
+      more-canonical l c low high g on near (l ++ run l c low high g on near) asc (inside-append l (run l c low high g on near)),
+      λ v. more-members l c low high g on near (l ++ run l c low high g on near) asc (inside-append l (run l c low high g on near)) v
+          ∙ ap (λ (b : Bool). inside l v || (leb low v && b)) (until v),
+    )
+  where
+    high : ℕ
+    high = end - 1
+
+    back : (end - 1) + 1 ≡ end
+    back = omega arith
+
+    g : low ≤ end - 1
+    g = omega arith
+
+    on : end - 1 < axis
+    on = omega arith
+
+    near : (v : ℕ) → inside l v ≡ true → v < low
+    near v t = omega (arith, apart v t)
+
+    until : (v : ℕ) → leb v (end - 1) ≡ ltb v ((end - 1) + 1)
+    until v = same (leb v (end - 1)) (ltb v ((end - 1) + 1)) (λ t. lt-ltb v ((end - 1) + 1) (omega (arith, leb-true v (end - 1) t))) (λ t. le-leb v (end - 1) (omega (arith, ltb-true v ((end - 1) + 1) t)))
+
+    asc : Ascending 0 axis (l ++ low ∷ ((end - 1) + 1) ∷ [])
+    asc =
+        ⊎-elim (λ e. first-ascends l c low (end - 1) g on near e)
+        (λ e. behind-ascends l c low (end - 1) g on near (e .0) (e .1) (e .2) (λ q.
+        let z = last-is (e .0) (e .1) (low - 1) (subst Canonical (e .2) c) (λ v t. omega (arith, apart v (ap (λ (x : List ℕ). inside x v) (e .2) ∙ t))) in
+        pos (e .0) (e .1) (e .2) q z))
+        (last-or-none l)
+      where
+        pos : (j : List ℕ) (z : ℕ) → l ≡ j ++ z ∷ [] → z ≡ low → z ≤ low - 1 → ⊥
+        pos j zero e q h = absurd (zero-last j (subst Canonical e c))
+        pos j (suc z) e q h = omega arith
+
+pub put-two : (o : List ℕ) (n d e : ℕ) → n + 2 ≤ length o → take (n + 2) (set (set o n d) (n + 1) e) ≡ take n o ++ d ∷ e ∷ []
 put-two o n d e h =
     let a : n + 2 ≡ suc (n + 1) = omega arith in
     let b : n + 1 ≡ suc n = omega arith in

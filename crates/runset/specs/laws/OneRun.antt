@@ -1,7 +1,7 @@
 -- Two sets of one run each: what they share is one run or none, and what is in one of them is one run where they meet.
 use Prim.Native.Nat.{ℕ, _≤_, _<_, min, max}
 use mathlib.Core.Path.{_≡_, refl, sym, ap, ap₂, subst, _∙_}
-use mathlib.Core.Bool.{Bool, true, false, cond, _||_, _&&_, true≢false}
+use mathlib.Core.Bool.{Bool, true, false, cond, _&&_, true≢false}
 use mathlib.Core.List.{List, [], _∷_, _++_}
 use mathlib.Core.Logic.{⊎-elim}
 use native.Mathlib.Omega.{arith}
@@ -79,22 +79,6 @@ module _ (la ea lb eb : ℕ) (ka : la < ea) (kb : lb < eb) where
           (λ k l. ap₂ _&&_ (within la ea v h g) (within lb eb v k l) ∙ sym (within (max la lb) (min ea eb) v (omega arith) (omega arith)))
           (λ k. ap₂ _&&_ (within la ea v h g) (past lb eb v k) ∙ sym (past (max la lb) (min ea eb) v (omega arith))))
           (λ h. ap (λ (b : Bool). b && inside (runCuts lb eb) v) (past la ea v h) ∙ sym (past (max la lb) (min ea eb) v (omega arith)))
-
-  pub joined-run : la ≤ eb → lb ≤ ea → mergeCuts _||_ false false (la ∷ ea ∷ []) (lb ∷ eb ∷ []) ≡ runCuts (min la lb) (max ea eb)
-  joined-run m n = one-run _||_ la ea lb eb (min la lb) (max ea eb) ka kb refl (omega arith) members
-    where
-      members : (v : ℕ) → (inside (runCuts la ea) v || inside (runCuts lb eb) v) ≡ inside (runCuts (min la lb) (max ea eb)) v
-      members v =
-          by-place la ea v
-          (λ h.
-          by-place lb eb v (λ k. ap₂ _||_ (under la ea v h) (under lb eb v k) ∙ sym (under (min la lb) (max ea eb) v (omega arith)))
-          (λ k l. ap₂ _||_ (under la ea v h) (within lb eb v k l) ∙ sym (within (min la lb) (max ea eb) v (omega arith) (omega arith)))
-          (λ k. absurd (omega arith)))
-          (λ h g. ap (λ (b : Bool). b || inside (runCuts lb eb) v) (within la ea v h g) ∙ sym (within (min la lb) (max ea eb) v (omega arith) (omega arith)))
-          (λ h.
-          by-place lb eb v (λ k. absurd (omega arith))
-          (λ k l. ap₂ _||_ (past la ea v h) (within lb eb v k l) ∙ sym (within (min la lb) (max ea eb) v (omega arith) (omega arith)))
-          (λ k. ap₂ _||_ (past la ea v h) (past lb eb v k) ∙ sym (past (min la lb) (max ea eb) v (omega arith))))
 
 -- the cuts of one run
 pub two-cuts : (l : List ℕ) → length l ≡ 2 → l ≡ getD l 0 0 ∷ getD l 1 0 ∷ []

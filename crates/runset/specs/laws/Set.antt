@@ -19,7 +19,7 @@ use Rattle.runset.specs.laws.Cuts.{one-list, nil-canonical, none, before
 use Rattle.runset.specs.laws.Merge.{merged-inside, merged-canonical, merge-length}
 use Rattle.runset.specs.laws.Runs.{runCount-ext, cuts-count}
 use Rattle.runset.specs.declared.merge.Op.{Op}
-use Rattle.runset.specs.declared.merge.Op.the-variants.{Or, And, Xor}
+use Rattle.runset.specs.declared.merge.Op.the-variants.{And, Xor}
 use Rattle.runset.specs.declared.merge.Filled.{Filled}
 
 -- ---- a set's members determine its cuts
@@ -143,7 +143,6 @@ axis-inside v h = run-inside 0 4000000000 (omega arith) (omega arith) v ∙ ever
 
 -- what is in neither set is left out
 pub quiet : (op : Op) → opOf op false false ≡ false
-quiet Or = refl
 quiet And = refl
 quiet Xor = refl
 

@@ -1,41 +1,16 @@
--- The operation on the members, by the walk along the cuts.
-use mathlib.Core.Path.{_≡_, refl, sym, ap, subst, _∙_}
-use mathlib.Core.Bool.{_||_}
-use Prim.Native.Nat.{_≤_}
-use mathlib.Core.List.{List}
-use Prim.Native.Nat.{ℕ}
-use lib.ListN.{length}
-use Rattle.runset.specs.Set.{member, sharedWords, Canonical}
-use Rattle.runset.specs.laws.Set.{valid-short, makes-lists}
+-- What the joining makes.
 use borrow.Author.Needs.{needs}
 use Rattle.runset.proofs.RunSet.or.Statement.{statement}
 use Rattle.runset.proofs.RunSet.or.Tie as tie
 
-cuts-of-requires : tie.Need-cuts-of-requires
-cuts-of-requires c κs = search needs
-
-cuts-of-requires-2 : tie.Need-cuts-of-requires-2
-cuts-of-requires-2 c κs = search needs
-
-combine-requires : tie.Need-combine-requires
-combine-requires c κs =
-    let s = c .before .before .before .before .before .before in
-    let a = sym (c .before .before .cuts-of .ensures) in
-    let b = sym (c .before .cuts-of2 .ensures) in (
-      subst Canonical a (s .pre .0 .canonical),
-      subst Canonical b (s .pre .1 .canonical),
-      subst (λ (l : List ℕ). length l ≤ sharedWords) a (valid-short (s .args .a .now) (s .pre .0)),
-      subst (λ (l : List ℕ). length l ≤ sharedWords) b (valid-short (s .args .b .now) (s .pre .1)),
-      s .pre .2,
-    )
+join-requires : tie.Need-join-requires
+join-requires c κs = search needs
 
 same-length : tie.Need-same-length
 same-length c = search needs
 
 returns : tie.Need-returns
-unfolding member
-returns c = makes-lists _||_ _ _ (c .before .before .before .before .before .cuts-of .ensures) (c .before .before .before .before .cuts-of2 .ensures) (c .before .before .combine .ensures)
+returns c = c .before .before .join .ensures .makes
 
 pub or-spec : {M : Type 1} → statement M
-or-spec =
-    tie.close (tie.spec cuts-of-requires cuts-of-requires-2 combine-requires same-length returns)
+or-spec = tie.close (tie.spec join-requires same-length returns)

@@ -39,22 +39,22 @@ merge-requires c κs =
 cuts-of-requires-3 : tie.Need-cuts-of-requires-3
 cuts-of-requires-3 c κs = search needs
 
-slice-reshare-prefix-combine : tie.Need-slice-reshare-prefix-combine
-slice-reshare-prefix-combine c =
+slice-reshare-prefix-join : tie.Need-slice-reshare-prefix-join
+slice-reshare-prefix-join c =
     let s = c .before .before .before .before .before .before .before .before .before .before .before .before in
     let p = sym (c .before .before .before .before .before .before .cuts-of .ensures) in
     let r = sym (c .before .before .before .before .before .cuts-of2 .ensures) in
     shared-there _ _ (s .args .shared .now) _ _ (subst Canonical p (s .pre .1 .canonical)) (subst Canonical r (s .pre .2 .canonical)) (few s _ _ p r) (s .pre .3) (c .before .before .before .merge .ensures)
 
-slice-aggregate-combine : tie.Need-slice-aggregate-combine
-slice-aggregate-combine c =
+slice-aggregate-join : tie.Need-slice-aggregate-join
+slice-aggregate-join c =
     let s = c .before .before .before .before .before .before .before .before .before .before .before .before .before in
     let p = sym (c .before .before .before .before .before .before .before .cuts-of .ensures) in
     let r = sym (c .before .before .before .before .before .before .cuts-of2 .ensures) in
     sym (length-take-le _ _ (shared-there _ _ (s .args .shared .now) _ _ (subst Canonical p (s .pre .1 .canonical)) (subst Canonical r (s .pre .2 .canonical)) (few s _ _ p r) (s .pre .3) (c .before .before .before .before .merge .ensures)))
 
-combine-requires : tie.Need-combine-requires
-combine-requires c κs =
+join-requires : tie.Need-join-requires
+join-requires c κs =
     let s = c .before .before .before .before .before .before .before .before .before .before .before .before .before .before in
     let p = sym (c .before .before .before .before .before .before .before .before .cuts-of .ensures) in
     let r = sym (c .before .before .before .before .before .before .before .cuts-of2 .ensures) in
@@ -82,7 +82,7 @@ returns c =
     makes-ext _ (λ v. member (s .args .q .now) v || (member (s .args .p .now) v && member (s .args .r .now) v)) _ _
     (λ v h. ap (λ (b : Bool). inside (cutsOf (s .args .q .now)) v || b)
     (shared-members _ _ (s .args .shared .now) _ _ (subst Canonical p (s .pre .1 .canonical)) (subst Canonical r (s .pre .2 .canonical)) (few s _ _ p r) (s .pre .3) (c .before .before .before .before .before .before .before .before .merge .ensures) v ∙ (λ i. inside (sym p i) v && inside (sym r i) v)))
-    (makes-lists _||_ _ _ (c .before .before .before .before .before .cuts-of3 .ensures) refl (c .before .before .combine .ensures))
+    (makes-lists _||_ _ _ (c .before .before .before .before .before .cuts-of3 .ensures) refl (c .before .before .join .ensures .makes))
 
 pub or-and-spec : {M : Type 1} → statement M
 or-and-spec =
@@ -92,9 +92,9 @@ or-and-spec =
     cuts-of-requires-2
     merge-requires
     cuts-of-requires-3
-    slice-reshare-prefix-combine
-    slice-aggregate-combine
-    combine-requires
+    slice-reshare-prefix-join
+    slice-aggregate-join
+    join-requires
     same-length
     same-length-2
     returns)

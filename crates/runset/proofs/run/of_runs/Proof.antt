@@ -1,5 +1,5 @@
 -- By the operation.
-use Rattle.runset.specs.declared.merge.Op.the-variants.{Or, And}
+use Rattle.runset.specs.declared.merge.Op.the-variants.{And}
 use Rattle.runset.specs.laws.OneRun.{not-known, of-op}
 use borrow.Author.Needs.{needs}
 use Rattle.runset.proofs.run.of_runs.Statement.{statement}
@@ -8,42 +8,29 @@ use Rattle.runset.proofs.run.of_runs.Tie as tie
 enum-told : tie.Need-enum-told
 enum-told c = search needs
 
-joined-requires : tie.Need-joined-requires
-joined-requires c κs = search needs
-
-enum-told-2 : tie.Need-enum-told-2
-enum-told-2 c = search needs
-
 shared-requires : tie.Need-shared-requires
 shared-requires c κs = search needs
 
-enum-told-3 : tie.Need-enum-told-3
-enum-told-3 c = search needs
+enum-told-2 : tie.Need-enum-told-2
+enum-told-2 c = search needs
 
 unknown-requires : tie.Need-unknown-requires
 unknown-requires c κs = search needs
 
 returns : tie.Need-returns
 returns c =
-    of-op _ Or _ _ _ (c .before .enum-told .given .1) (c .joined .ensures)
+    of-op _ And _ _ _ (c .before .enum-told .given .1) (c .shared .ensures)
 
 returns-2 : tie.Need-returns-2
-returns-2 c =
-    of-op _ And _ _ _ (c .before .enum-told2 .given .1) (c .shared .ensures)
-
-returns-3 : tie.Need-returns-3
-returns-3 c = not-known _ _ _ _ (c .unknown .ensures)
+returns-2 c = not-known _ _ _ _ (c .unknown .ensures)
 
 pub of-runs-spec : {M : Type 1} → statement M
 of-runs-spec =
     tie.close
     (tie.spec
     enum-told
-    joined-requires
-    enum-told-2
     shared-requires
-    enum-told-3
+    enum-told-2
     unknown-requires
     returns
-    returns-2
-    returns-3)
+    returns-2)
