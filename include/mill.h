@@ -20,8 +20,9 @@
 **   offset 14   two bytes, zero
 **
 ** A top of a curve is a record after the first whose slope falls while the
-** record before does not fall. A crossing is a record with A <= B after one
-** with A > B.
+** record before does not fall; a dip is one that rises while the record before
+** does not rise. A crossing is a record with A <= B after one with A > B, an
+** upward crossing one with A > B after one with A <= B.
 **
 **
 ** TEXT. A question in 1 to MILL_MAX_TEXT bytes, without blanks and without a
@@ -32,11 +33,12 @@
 **   U(p,q) W(p,q)           p until q comes; W: or p for ever
 **   A>=v  B<7  T=v  A>B     A, B or T; >= <= > < =; v or a number; A also with B
 **   fall(c) rise(c)         the slope of c, which is A or B
-**   high(c) low(c) lowafter(c,k) capafter(c,k) peaks(c) cross
+**   high(c) low(c) lowafter(c,k) capafter(c,k)
+**   peaks(c) dips(c) cross crossup
 **   ampl(c) gaps(c) steps(c) lag
 **
 ** The text is judged at the first record, and the last record repeats for ever.
-** A name of the last two lines does not go with F, G, X, U or W.
+** A name of the last three lines does not go with F, G, X, U or W.
 **
 **
 ** SET. The answer to a question is the set of all whole numbers v, from
@@ -223,10 +225,11 @@ uint64_t mill_pair(const uint8_t *recording, size_t recording_len, uint32_t curv
 ** little-endian, at most MILL_MAX_MARK; repeats do no harm. Kept are, in order
 ** and unaltered: the first and the last record; for each curve the first
 ** record of the greatest and of the least value; the same among the records
-** with T > k for each mark k; each top and the record before it; each crossing
-** and the record before it. Writes them into out and returns how many bytes
-** they are: at most 2 * (tops of A + tops of B + crossings) + 6 + 4 * marks
-** records, and never more than the recording.
+** with T > k for each mark k; each top, each dip, each crossing and each upward
+** crossing, and the record before it. Writes them into out and returns how many
+** bytes they are: at most 2 * (tops of A + tops of B + dips of A + dips of B +
+** crossings + upward crossings) + 6 + 4 * marks records, and never more than the
+** recording.
 **
 ** Kept readings answer as the recording does: every question that writes none
 ** of F, G, X, U and W and whose after-times (the k of lowafter and capafter)

@@ -8,6 +8,9 @@ const MOST_RUNS: usize = 256;
 const MOST_TOPS: usize = 256;
 const LOW: i32 = -2_000_000_000;
 const HIGH: i32 = 2_000_000_000;
+const FALLING: u8 = 0;
+const FLAT: u8 = 1;
+const RISING: u8 = 2;
 
 #[derive(Clone, Copy)]
 struct Record {
@@ -156,7 +159,7 @@ fn kept(records: &[Record], marks: &[i32]) -> Vec<bool> {
                 least[curve] = i;
             }
         }
-        if i > 0 && (is_top(records, 0, i) || is_top(records, 1, i) || is_crossing(records, i)) {
+        if i > 0 && is_event(&records[i - 1], here) {
             kept[i] = true;
             kept[i - 1] = true;
         }
@@ -167,16 +170,31 @@ fn kept(records: &[Record], marks: &[i32]) -> Vec<bool> {
     kept
 }
 
-fn is_top(records: &[Record], curve: usize, i: usize) -> bool {
-    records[i].slope[curve] == 0 && records[i - 1].slope[curve] != 0
+/// A top or a dip of a curve, or a crossing either way.
+fn is_event(before: &Record, here: &Record) -> bool {
+    let turn = |curve: usize| here.slope[curve] != before.slope[curve] && here.slope[curve] != FLAT;
+    turn(0) || turn(1) || above(here) != above(before)
 }
 
-fn is_crossing(records: &[Record], i: usize) -> bool {
-    records[i].value[0] <= records[i].value[1] && records[i - 1].value[0] > records[i - 1].value[1]
+fn above(record: &Record) -> bool {
+    record.value[0] > record.value[1]
+}
+
+fn is_top(before: &Record, here: &Record, curve: usize) -> bool {
+    here.slope[curve] == FALLING && before.slope[curve] != FALLING
+}
+
+fn is_dip(before: &Record, here: &Record, curve: usize) -> bool {
+    here.slope[curve] == RISING && before.slope[curve] != RISING
+}
+
+/// The times of the records that stand so to the record before.
+fn times<'a>(records: &'a [Record], is: impl Fn(&Record, &Record) -> bool + 'a) -> impl Iterator<Item = i32> + 'a {
+    records.windows(2).filter(move |two| is(&two[0], &two[1])).map(|two| two[1].time)
 }
 
 fn tops(records: &[Record], curve: usize) -> Vec<i32> {
-    (1..records.len()).filter(|i| is_top(records, curve, *i)).map(|i| records[i].time).collect()
+    times(records, move |before, here| is_top(before, here, curve)).collect()
 }
 
 fn few_tops(records: &[Record], curve: usize) -> Result<Vec<i32>, Refused> {
@@ -206,7 +224,9 @@ enum Op {
     LowAfter(usize, i32),
     CapAfter(usize, i32),
     Peaks(usize),
+    Dips(usize),
     Cross,
+    Crossup,
     Ampl(usize),
     Gaps(usize),
     Steps(usize),
@@ -362,6 +382,7 @@ fn compare(record: &Record, left: usize, from: i32, to: i32, right: Right, out: 
 }
 
 fn listed_set(records: &[Record], listed: Op, out: &mut Set) {
+    let single = |time: i32| (time, time);
     let values = |curve: usize, after: i32| {
         records[records.partition_point(|record| record.time <= after)..].iter().map(move |record| record.value[curve])
     };
@@ -370,11 +391,10 @@ fn listed_set(records: &[Record], listed: Op, out: &mut Set) {
         Op::Low(curve) => out.push((values(curve, -1).min().unwrap(), HIGH)),
         Op::LowAfter(curve, k) => out.extend(values(curve, k).min().map(|least| (least, HIGH))),
         Op::CapAfter(curve, k) => out.push((values(curve, k).max().unwrap_or(LOW), HIGH)),
-        Op::Peaks(curve) => out.extend(tops(records, curve).iter().map(|time| (*time, *time))),
-        Op::Cross => {
-            let crossings = (1..records.len()).filter(|i| is_crossing(records, *i));
-            out.extend(crossings.map(|i| (records[i].time, records[i].time)));
-        }
+        Op::Peaks(curve) => out.extend(times(records, |before, here| is_top(before, here, curve)).map(single)),
+        Op::Dips(curve) => out.extend(times(records, |before, here| is_dip(before, here, curve)).map(single)),
+        Op::Cross => out.extend(times(records, |before, here| above(before) && !above(here)).map(single)),
+        Op::Crossup => out.extend(times(records, |before, here| !above(before) && above(here)).map(single)),
         Op::Ampl(curve) => out.push((LOW, values(curve, -1).max().unwrap() - values(curve, -1).min().unwrap())),
         Op::Gaps(curve) => {
             let tops = tops(records, curve);
@@ -498,6 +518,7 @@ impl Parser<'_> {
         let name = &self.text[start..self.at];
         match name {
             b"cross" => return self.push(Op::Cross),
+            b"crossup" => return self.push(Op::Crossup),
             b"lag" => return self.push(Op::Lag),
             b"A" => return self.relation(0),
             b"B" => return self.relation(1),
@@ -525,11 +546,12 @@ impl Parser<'_> {
                     Op::WeakUntil(p, q)
                 }
             }
-            b"fall" => Op::Slope(self.curve()?, 0),
-            b"rise" => Op::Slope(self.curve()?, 2),
+            b"fall" => Op::Slope(self.curve()?, FALLING),
+            b"rise" => Op::Slope(self.curve()?, RISING),
             b"high" => Op::High(self.curve()?),
             b"low" => Op::Low(self.curve()?),
             b"peaks" => Op::Peaks(self.curve()?),
+            b"dips" => Op::Dips(self.curve()?),
             b"ampl" => Op::Ampl(self.curve()?),
             b"gaps" => Op::Gaps(self.curve()?),
             b"steps" => Op::Steps(self.curve()?),

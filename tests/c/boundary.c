@@ -1,6 +1,6 @@
 /*
-** Covers: mill.h as a C99 program uses it. R1's lines, every refusal, null with length 0, memory that stays as it was, and
-** thinning piece by piece. Exits with 1 and says why if anything differs.
+** Covers: mill.h as a C99 program uses it. R1's lines and R2's, every refusal, null with length 0, memory that stays as it was,
+** and thinning piece by piece. Exits with 1 and says why if anything differs.
 */
 #include "mill.h"
 
@@ -20,8 +20,10 @@ static void expect(int holds, const char *what, int line)
 #define EXPECT(condition) expect((condition) != 0, #condition, __LINE__)
 
 enum { R1_RECORDS = 8, R1_BYTES = R1_RECORDS * MILL_RECORD_BYTES };
+enum { R2_RECORDS = 9, R2_BYTES = R2_RECORDS * MILL_RECORD_BYTES };
 
-static uint8_t r1[R1_BYTES];
+/* R1 keeps all its readings; R2 does not. */
+static uint8_t r1[R1_BYTES], r2[R2_BYTES];
 
 static void put32(uint8_t *at, uint32_t number)
 {
@@ -58,6 +60,15 @@ static void make_r1(void)
         put_record(r1 + MILL_RECORD_BYTES * i, 10 * (uint32_t)i, a[i], 50, slope[i], MILL_FLAT);
 }
 
+static void make_r2(void)
+{
+    static const uint8_t slope[R2_RECORDS] = {MILL_RISING, MILL_RISING,  MILL_FLAT, MILL_FLAT, MILL_FALLING,
+                                              MILL_FLAT,   MILL_FALLING, MILL_FLAT, MILL_FLAT};
+    int i;
+    for (i = 0; i < R2_RECORDS; i++)
+        put_record(r2 + MILL_RECORD_BYTES * i, 10 * (uint32_t)i, 10 - i, 0, slope[i], MILL_FLAT);
+}
+
 static uint64_t ask(const char *text, uint8_t *out, size_t out_len)
 {
     return mill_question(r1, R1_BYTES, (const uint8_t *)text, strlen(text), out, out_len);
@@ -86,12 +97,18 @@ static void questions(void)
     const int64_t high_a[] = {low, 90}, low_a[] = {30, high}, ampl_a[] = {low, 60}, peaks_a[] = {30, 30, 70, 70};
     const int64_t gaps_a[] = {40, 40}, cross[] = {40, 40, 70, 70}, lowafter[] = {45, high}, capafter[] = {low, high};
     const int64_t until[] = {30, 30, 40, 40, 60, 60, 70, 70, 80, 80}, next[] = {80, 80};
+    const int64_t dips_a[] = {50, 50}, crossup[] = {10, 10, 50, 50};
     EXPECT(answers("high(A)", 1, high_a));
     EXPECT(answers("low(A)", 1, low_a));
     EXPECT(answers("ampl(A)", 1, ampl_a));
     EXPECT(answers("peaks(A)", 2, peaks_a));
     EXPECT(answers("gaps(A)", 1, gaps_a));
     EXPECT(answers("cross", 2, cross));
+    EXPECT(answers("dips(A)", 1, dips_a));
+    EXPECT(answers("dips(B)", 0, NULL));
+    EXPECT(answers("crossup", 2, crossup));
+    EXPECT(answers("F(!rise(A)&X(rise(A)&T=v))", 1, dips_a));
+    EXPECT(answers("F(A<=B&X(A>B&T=v))", 2, crossup));
     EXPECT(answers("lag", 0, NULL));
     EXPECT(answers("lowafter(A,40)", 1, lowafter));
     EXPECT(answers("lowafter(A,70)", 0, NULL));
@@ -136,7 +153,7 @@ static void first_of_several_pairs(void)
     for (i = 0; i < 2; i++)
         put_record(recording + MILL_RECORD_BYTES * i, (uint32_t)i, 0, 0, MILL_FLAT, MILL_FLAT);
     for (i = 0; i < 4; i++) {
-        put_record(recording + MILL_RECORD_BYTES * (2 * i + 2), tops[i] - 1, 0, 0, MILL_RISING, MILL_FLAT);
+        put_record(recording + MILL_RECORD_BYTES * (2 * i + 2), tops[i] - 1, 0, 0, MILL_FLAT, MILL_FLAT);
         put_record(recording + MILL_RECORD_BYTES * (2 * i + 3), tops[i], 0, 0, MILL_FALLING, MILL_FLAT);
     }
     EXPECT(mill_pair(recording, sizeof recording, MILL_CURVE_A, 30, &earlier, &later) == MILL_PAIR);
@@ -155,6 +172,16 @@ static void make_tops(uint32_t tops)
     uint32_t i;
     for (i = 0; i < MILL_MAX_RECORDS; i++)
         put_record(large + MILL_RECORD_BYTES * i, i, 0, 0, i % 2 == 1 && i / 2 < tops ? MILL_FALLING : MILL_RISING, MILL_FLAT);
+}
+
+/* MILL_MAX_RECORDS records with so many dips of A, and A above B in as many records apart. */
+static void make_dips(uint32_t dips)
+{
+    uint32_t i;
+    for (i = 0; i < MILL_MAX_RECORDS; i++) {
+        int here = i % 2 == 1 && i / 2 < dips;
+        put_record(large + MILL_RECORD_BYTES * i, i, here, 0, here ? MILL_RISING : MILL_FLAT, MILL_FLAT);
+    }
 }
 
 static uint32_t refused(const uint8_t *recording, size_t length, const char *text)
@@ -195,6 +222,15 @@ static void refused_questions(void)
     EXPECT(refused(large, sizeof large - MILL_RECORD_BYTES, "peaks(A)") == 0);
     make_tops(MILL_MAX_RUNS + 1);
     EXPECT(refused(large, sizeof large - MILL_RECORD_BYTES, "peaks(A)") == MILL_TOO_MANY_RUNS);
+    make_dips(MILL_MAX_RUNS);
+    EXPECT(refused(large, sizeof large - MILL_RECORD_BYTES, "dips(A)") == 0);
+    EXPECT(refused(large, sizeof large - MILL_RECORD_BYTES, "crossup") == 0);
+    make_dips(MILL_MAX_RUNS + 1);
+    EXPECT(refused(large, sizeof large - MILL_RECORD_BYTES, "dips(A)") == MILL_TOO_MANY_RUNS);
+    EXPECT(refused(large, sizeof large - MILL_RECORD_BYTES, "crossup") == MILL_TOO_MANY_RUNS);
+    EXPECT(refused(r1, R1_BYTES, "crossups") == MILL_NO_READING);
+    EXPECT(refused(r1, R1_BYTES, "crossup(A)") == MILL_NO_READING);
+    EXPECT(refused(r1, R1_BYTES, "X(dips(A))") == MILL_NO_READING);
     make_tops(MILL_MAX_TOPS);
     EXPECT(refused(large, sizeof large - MILL_RECORD_BYTES, "steps(A)") == 0);
     EXPECT(refused(large, sizeof large - MILL_RECORD_BYTES, "gaps(A)") == 0);
@@ -255,15 +291,16 @@ static int times(const uint8_t *kept, size_t length, const uint32_t *expected, s
     return 1;
 }
 
-/* Thins R1 in pieces of some readings; the length of what is held in the end. */
-static size_t thin_in_pieces(size_t readings, const uint8_t *marks, size_t marks_len, uint8_t *held)
+/* Thins a recording in pieces of some readings; the length of what is held in the end. */
+static size_t thin_in_pieces(const uint8_t *recording, size_t recording_len, size_t readings, const uint8_t *marks, size_t marks_len,
+                             uint8_t *held)
 {
-    uint8_t out[R1_BYTES];
+    uint8_t out[R2_BYTES];
     size_t held_len = 0, at = 0;
-    while (at < R1_BYTES) {
-        size_t piece = readings * MILL_RECORD_BYTES < R1_BYTES - at ? readings * MILL_RECORD_BYTES : R1_BYTES - at;
+    while (at < recording_len) {
+        size_t piece = readings * MILL_RECORD_BYTES < recording_len - at ? readings * MILL_RECORD_BYTES : recording_len - at;
         uint64_t returned;
-        memcpy(held + held_len, r1 + at, piece);
+        memcpy(held + held_len, recording + at, piece);
         /* A call that is refused takes no piece. */
         EXPECT(MILL_NUMBER(mill_thin(held, held_len + piece - 1, marks, marks_len, out, sizeof out)) == MILL_PARTIAL_RECORD);
         EXPECT(MILL_NUMBER(mill_thin(held, held_len + piece, marks, marks_len, out, 15)) == MILL_SHORT_OUTPUT);
@@ -276,25 +313,43 @@ static size_t thin_in_pieces(size_t readings, const uint8_t *marks, size_t marks
     return held_len;
 }
 
-static void thinning(void)
+static void thinning_of_r1(void)
 {
-    static const uint32_t plain[] = {0, 20, 30, 40, 60, 70}, marked[] = {0, 20, 30, 40, 50, 60, 70};
     uint8_t mark[MILL_MARK_BYTES], out[R1_BYTES], held[2 * R1_BYTES];
     size_t readings;
     put32(mark, 40);
-    memset(out, 0xA5, sizeof out);
-    EXPECT(times(out, (size_t)mill_thin(r1, R1_BYTES, NULL, 0, out, sizeof out), plain, 6));
-    EXPECT(out[96] == 0xA5 && out[127] == 0xA5);
-    EXPECT(times(out, (size_t)mill_thin(r1, R1_BYTES, mark, sizeof mark, out, sizeof out), marked, 7));
+    EXPECT(mill_thin(r1, R1_BYTES, NULL, 0, out, sizeof out) == R1_BYTES && memcmp(out, r1, R1_BYTES) == 0);
+    EXPECT(mill_thin(r1, R1_BYTES, mark, sizeof mark, out, sizeof out) == R1_BYTES && memcmp(out, r1, R1_BYTES) == 0);
+    EXPECT(MILL_NUMBER(mill_thin(r1, R1_BYTES, NULL, 0, out, sizeof out - 1)) == MILL_SHORT_OUTPUT);
     for (readings = 1; readings <= R1_RECORDS; readings++) {
-        EXPECT(times(held, thin_in_pieces(readings, NULL, 0, held), plain, 6));
-        EXPECT(times(held, thin_in_pieces(readings, mark, sizeof mark, held), marked, 7));
+        EXPECT(thin_in_pieces(r1, R1_BYTES, readings, NULL, 0, held) == R1_BYTES && memcmp(held, r1, R1_BYTES) == 0);
+        EXPECT(thin_in_pieces(r1, R1_BYTES, readings, mark, sizeof mark, held) == R1_BYTES && memcmp(held, r1, R1_BYTES) == 0);
+    }
+}
+
+static void thinning_of_r2(void)
+{
+    static const uint32_t plain[] = {0, 30, 40, 50, 60, 80}, marked[] = {0, 20, 30, 40, 50, 60, 80};
+    static const uint8_t right_after[] = "F(A=9&X(A=v))";
+    uint8_t mark[MILL_MARK_BYTES], out[R2_BYTES], held[2 * R2_BYTES], set[MILL_SET_BYTES];
+    size_t readings;
+    put32(mark, 10);
+    memset(out, 0xA5, sizeof out);
+    EXPECT(times(out, (size_t)mill_thin(r2, R2_BYTES, NULL, 0, out, sizeof out), plain, 6));
+    EXPECT(out[96] == 0xA5 && out[127] == 0xA5);
+    EXPECT(mill_question(r2, R2_BYTES, right_after, sizeof right_after - 1, set, sizeof set) == MILL_RUN_BYTES && number_at(set) == 8);
+    EXPECT(mill_question(out, 96, right_after, sizeof right_after - 1, set, sizeof set) == 0);
+    EXPECT(times(out, (size_t)mill_thin(r2, R2_BYTES, mark, sizeof mark, out, sizeof out), marked, 7));
+    for (readings = 1; readings <= R2_RECORDS; readings++) {
+        EXPECT(times(held, thin_in_pieces(r2, R2_BYTES, readings, NULL, 0, held), plain, 6));
+        EXPECT(times(held, thin_in_pieces(r2, R2_BYTES, readings, mark, sizeof mark, held), marked, 7));
     }
 }
 
 int main(void)
 {
     make_r1();
+    make_r2();
     questions();
     degrees();
     refused_questions();
@@ -302,7 +357,8 @@ int main(void)
     first_of_several_pairs();
     refusals();
     nothing_at_all();
-    thinning();
+    thinning_of_r1();
+    thinning_of_r2();
     printf("boundary.c: %d failures\n", failures);
     return failures == 0 ? 0 : 1;
 }

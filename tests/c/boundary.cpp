@@ -61,6 +61,8 @@ void questions()
     EXPECT(ask("peaks(A)", 2) == 0);
     EXPECT(ask("gaps(A)", 1) == 0);
     EXPECT(ask("cross", 2) == 0);
+    EXPECT(ask("dips(A)", 1) == 0);
+    EXPECT(ask("crossup", 2) == 0);
     EXPECT(ask("lag", 0) == 0);
     EXPECT(ask("lowafter(A,40)", 1) == 0);
     EXPECT(ask("lowafter(A,70)", 0) == 0);
@@ -95,7 +97,7 @@ void thinning()
     uint8_t mark[MILL_MARK_BYTES], whole[length], held[length], out[length];
     put32(mark, 40);
     const uint64_t whole_len = mill_thin(r1, length, mark, sizeof mark, whole, sizeof whole);
-    EXPECT(whole_len == 7 * MILL_RECORD_BYTES);
+    EXPECT(whole_len == length && std::memcmp(whole, r1, length) == 0);
     std::size_t held_len = 0;
     for (std::size_t i = 0; i < records; i++) {
         std::memcpy(held + held_len, r1 + MILL_RECORD_BYTES * i, MILL_RECORD_BYTES);

@@ -1,7 +1,7 @@
 /*
 ** Covers: the examples in the comments of mill.h, as they stand there. tests/c/run takes them out into examples.h, compiles them
 ** as C and as C++, and holds what is printed to examples.out. Here stands what they leave to their reader: the recording R1, the
-** mark 40, R1 in pieces of three readings, and what is done with a refusal. tests/c/run says what CAPACITY is.
+** mark 40, R1 in pieces of three readings, and what is done with a refusal. tests/c/run says what CAPACITY is. All of R1 is kept.
 */
 #include "mill.h"
 

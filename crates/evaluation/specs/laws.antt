@@ -1,3 +1,4 @@
+pub mod Leaf
 pub mod Slots
 pub mod Step
 pub mod Tree

@@ -8,7 +8,7 @@ use Rattle.recording.specs.Reading.{Curve, A, B}
 use Rattle.grammar.specs.Bytes.{bytes}
 use Rattle.grammar.specs.Classes.{isDigit}
 use Rattle.grammar.specs.Size.{mixed}
-use Rattle.grammar.specs.Syntax.{Field, of, T, Relation, ge, le, gt, lt, eq, Operand, v, number, Atom, compare, A-to-B, fall, rise, Listed, high, low, lowafter, capafter, peaks, cross, ampl, gaps, steps, lag, Text, atom, listed, or, and, neg, finally, globally, next, until, weakUntil}
+use Rattle.grammar.specs.Syntax.{Field, of, T, Relation, ge, le, gt, lt, eq, Operand, v, number, Atom, compare, A-to-B, fall, rise, Listed, high, low, lowafter, capafter, peaks, dips, cross, crossup, ampl, gaps, steps, lag, Text, atom, listed, or, and, neg, finally, globally, next, until, weakUntil}
 
 -- NUMBERS. What digits come to, in decimal, behind digits that come to n
 abbrev pub decimalFrom : ℕ → List ℕ → ℕ
@@ -68,7 +68,9 @@ pub data ListedWord : List ℕ → Listed → Type 0 where
   a-lowafter : {w : List ℕ} {k : ℕ} (c : Curve) → Numeral w k → ListedWord (bytes "lowafter(" ++ curveWord c ++ bytes "," ++ w ++ bytes ")") (lowafter c k)
   a-capafter : {w : List ℕ} {k : ℕ} (c : Curve) → Numeral w k → ListedWord (bytes "capafter(" ++ curveWord c ++ bytes "," ++ w ++ bytes ")") (capafter c k)
   a-peaks : (c : Curve) → ListedWord (bytes "peaks(" ++ curveWord c ++ bytes ")") (peaks c)
+  a-dips : (c : Curve) → ListedWord (bytes "dips(" ++ curveWord c ++ bytes ")") (dips c)
   a-cross : ListedWord (bytes "cross") cross
+  a-crossup : ListedWord (bytes "crossup") crossup
   an-ampl : (c : Curve) → ListedWord (bytes "ampl(" ++ curveWord c ++ bytes ")") (ampl c)
   a-gaps : (c : Curve) → ListedWord (bytes "gaps(" ++ curveWord c ++ bytes ")") (gaps c)
   a-steps : (c : Curve) → ListedWord (bytes "steps(" ++ curveWord c ++ bytes ")") (steps c)

@@ -5,7 +5,7 @@ use mathlib.Core.List.{List, [], _∷_, _++_}
 use lib.Dec.{eqb, ltb}
 use lib.ListN.{length, take}
 use Rattle.number.specs.Least.{least}
-use Rattle.grammar.specs.Syntax.{Listed, high, low, lowafter, capafter, peaks, cross, ampl, gaps, steps, lag, Text, atom, listed, or, and, neg, finally, globally, next, until, weakUntil}
+use Rattle.grammar.specs.Syntax.{Listed, high, low, lowafter, capafter, peaks, dips, cross, crossup, ampl, gaps, steps, lag, Text, atom, listed, or, and, neg, finally, globally, next, until, weakUntil}
 
 -- the text writes one of F, G, X, U and W
 abbrev pub temporal : Text → Bool
@@ -56,7 +56,9 @@ afterTime (capafter c k) = k ∷ []
 afterTime (high c) = []
 afterTime (low c) = []
 afterTime (peaks c) = []
+afterTime (dips c) = []
 afterTime cross = []
+afterTime crossup = []
 afterTime (ampl c) = []
 afterTime (gaps c) = []
 afterTime (steps c) = []

@@ -25,8 +25,8 @@ pub data Atom : Type 0 where
 pub data Listed : Type 0 where
   high low : Curve → Listed
   lowafter capafter : Curve → ℕ → Listed
-  peaks : Curve → Listed
-  cross : Listed
+  peaks dips : Curve → Listed
+  cross crossup : Listed
   ampl gaps steps : Curve → Listed
   lag : Listed
 

@@ -22,33 +22,37 @@ pub const CAPAFTER: u32 = 8;
 
 pub const PEAKS: u32 = 9;
 
-pub const CROSS: u32 = 10;
+pub const DIPS: u32 = 10;
 
-pub const AMPL: u32 = 11;
+pub const CROSS: u32 = 11;
 
-pub const GAPS: u32 = 12;
+pub const CROSSUP: u32 = 12;
 
-pub const STEPS: u32 = 13;
+pub const AMPL: u32 = 13;
 
-pub const LAG: u32 = 14;
+pub const GAPS: u32 = 14;
+
+pub const STEPS: u32 = 15;
+
+pub const LAG: u32 = 16;
 
 // Operators over one text: `!`, X, F and G.
-pub const NOT: u32 = 15;
+pub const NOT: u32 = 17;
 
-pub const NEXT: u32 = 16;
+pub const NEXT: u32 = 18;
 
-pub const FINALLY: u32 = 17;
+pub const FINALLY: u32 = 19;
 
-pub const GLOBALLY: u32 = 18;
+pub const GLOBALLY: u32 = 20;
 
 // Operators over two texts: `|`, `&`, U and W.
-pub const OR: u32 = 19;
+pub const OR: u32 = 21;
 
-pub const AND: u32 = 20;
+pub const AND: u32 = 22;
 
-pub const UNTIL: u32 = 21;
+pub const UNTIL: u32 = 23;
 
-pub const WEAK_UNTIL: u32 = 22;
+pub const WEAK_UNTIL: u32 = 24;
 
 // A bracket, which is no node.
-pub const BRACKET: u32 = 23;
+pub const BRACKET: u32 = 25;

@@ -1,4 +1,4 @@
-pub mod ExampleR1
+pub mod Examples
 pub mod Stability
 pub mod Rule
 pub mod On

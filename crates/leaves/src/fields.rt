@@ -10,11 +10,6 @@ ghost use Rattle.meaning.specs.inner.Coded.{codedValue, codedSlope};
 ghost use Rattle.meaning.specs.inner.Truth.{codedAt, codedField};
 ghost use Rattle.meaning.specs.inner.Coded.{coded};
 
-// Slopes as recorded.
-pub const FALLING: u8 = 0;
-
-pub const RISING: u8 = 2;
-
 pub fn time_at(rec: &[u8], i: usize) -> u32
     requires { ⌜ Accepted (now rec) × (i < length (coded (now rec))) ⌝ }
     ensures { λ r. ⌜ (r ≡ codedAt (coded (now (rec .entry))) i .time) × (r < axis) ⌝ }

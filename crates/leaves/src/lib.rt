@@ -10,14 +10,17 @@ ghost use Prim.Native.Nat.{_≤_, _<_};
 ghost use lib.ListN.{length};
 ghost use Rattle.runset.specs.Set.{slotWords, Makes};
 ghost use Rattle.meaning.specs.inner.Truth.{val};
-ghost use Rattle.grammar.specs.inner.Kinds.{PEAKS, AMPL};
+ghost use Rattle.grammar.specs.inner.Kinds.{PEAKS, AMPL, GAPS};
 ghost use Rattle.meaning.specs.inner.Coded.{coded};
-ghost use Rattle.leaves.specs.inner.Leaf.{leafOf, Asked};
+ghost use Rattle.leaves.specs.inner.Leaf.{leafOf, timesOf, Asked};
+ghost use Rattle.grammar.specs.Syntax.{listed};
+ghost use Rattle.tops.specs.inner.Events.{eventOf, Known};
 ghost use Rattle.leaves.specs.inner.Span.{Spans};
 use grammar::Row;
 use grammar::kinds;
 use runset::RunSet;
 use span::Span;
+use tops::Event;
 
 // Leaves with at most one run: the atoms, `high`, `low`, `lowafter` and `capafter`.
 fn spanned(rec: &[u8], i: usize, row: Row) -> Span
@@ -35,10 +38,10 @@ fn spanned(rec: &[u8], i: usize, row: Row) -> Span
         return atoms::a_to_b(rec, i, row.second);
     }
     if kind == kinds::FALL {
-        return atoms::sloped(rec, i, row.first, fields::FALLING);
+        return atoms::sloped(rec, i, row.first, recording::FALLING);
     }
     if kind == kinds::RISE {
-        return atoms::sloped(rec, i, row.first, fields::RISING);
+        return atoms::sloped(rec, i, row.first, recording::RISING);
     }
     let curve = recording::curve(row.first);
     if kind == kinds::HIGH {
@@ -61,22 +64,43 @@ fn amplitude(rec: &[u8], i: usize, row: Row) -> Span
     extremes::ampl(rec, recording::curve(row.first))
 }
 
-// Leaves on times: `peaks`, `cross`, `gaps`, `steps` and `lag`.
-fn timed(rec: &[u8], i: usize, row: Row, set: &mut [u32]) -> bool
-    requires { ⌜ Asked (now rec) i row × (PEAKS ≤ row .kind) × (row .kind ≡ AMPL → ⊥) × (length (now set) ≡ slotWords) ⌝ }
-    ensures { λ r. ⌜ Makes (λ v. val (coded (now (rec .entry))) v (leafOf row) i) (now (set .exit)) r ⌝ }
+// The event whose times a leaf asks for: `peaks`, `dips`, `cross` or `crossup`.
+fn event_of(row: Row) -> Event
+    requires { ⌜ (PEAKS ≤ row .kind) × (row .kind < AMPL) ⌝ }
+    ensures { λ r. ⌜ Known r × (leafOf row ≡ listed (timesOf (eventOf r))) ⌝ }
 {
     let kind = row.kind;
     if kind == kinds::CROSS {
-        return times::cross(rec, set);
+        return Event::Crossing;
     }
+    if kind == kinds::CROSSUP {
+        return Event::Upcrossing;
+    }
+    let curve = recording::curve(row.first);
+    if kind == kinds::PEAKS {
+        return Event::Top(curve);
+    }
+    Event::Dip(curve)
+}
+
+// Leaves on events.
+fn happening(rec: &[u8], i: usize, row: Row, set: &mut [u32]) -> bool
+    requires { ⌜ Asked (now rec) i row × (PEAKS ≤ row .kind) × (row .kind < AMPL) × (length (now set) ≡ slotWords) ⌝ }
+    ensures { λ r. ⌜ Makes (λ v. val (coded (now (rec .entry))) v (leafOf row) i) (now (set .exit)) r ⌝ }
+{
+    times::events(rec, event_of(row), set)
+}
+
+// Leaves on differences between tops: `gaps`, `steps` and `lag`.
+fn apart(rec: &[u8], i: usize, row: Row, set: &mut [u32]) -> bool
+    requires { ⌜ Asked (now rec) i row × (GAPS ≤ row .kind) × (length (now set) ≡ slotWords) ⌝ }
+    ensures { λ r. ⌜ Makes (λ v. val (coded (now (rec .entry))) v (leafOf row) i) (now (set .exit)) r ⌝ }
+{
+    let kind = row.kind;
     if kind == kinds::LAG {
         return times::lag(rec, set);
     }
     let curve = recording::curve(row.first);
-    if kind == kinds::PEAKS {
-        return times::peaks(rec, curve, set);
-    }
     if kind == kinds::GAPS {
         return times::gaps(rec, curve, set);
     }
@@ -94,10 +118,13 @@ pub fn leaf(rec: &[u8], i: usize, row: Row, set: &mut [u32]) -> bool
         RunSet::span(s.low, s.high, set);
         return false;
     }
+    if kind < kinds::AMPL {
+        return happening(rec, i, row, set);
+    }
     if kind == kinds::AMPL {
         let s = amplitude(rec, i, row);
         RunSet::span(s.low, s.high, set);
         return false;
     }
-    timed(rec, i, row, set)
+    apart(rec, i, row, set)
 }

@@ -1,18 +1,21 @@
-// The sets of the listed questions on times: of tops and crossings, and of the differences between them.
+// The sets of the listed questions on times: of events, and of the differences between tops.
 ghost use mathlib.Core.Path.{_≡_};
 ghost use Prim.Native.Nat.{_≤_, _<_};
 ghost use lib.ListN.{length};
 ghost use Rattle.recording.specs.Recording.{Accepted};
 ghost use Rattle.grammar.specs.Syntax as asks;
-ghost use Rattle.meaning.specs.inner.Coded.{topTimes, crossingTimes};
+ghost use Rattle.meaning.specs.inner.Coded.{codedTimes};
 ghost use Rattle.tops.specs.Tops.{mostTops};
 ghost use Rattle.meaning.specs.inner.Truth.{truth};
 ghost use Rattle.runset.specs.Set.{slotWords, Makes};
 ghost use Rattle.meaning.specs.inner.Coded.{coded};
+ghost use Rattle.leaves.specs.inner.Leaf.{timesOf};
 ghost use Rattle.leaves.specs.inner.Stamps.{Early, Shifted, Stamped};
-ghost use Rattle.recording.specs.Reading.{curveOf};
+ghost use Rattle.recording.specs.Reading.{a-top, curveOf};
+ghost use Rattle.tops.specs.inner.Events.{eventOf, Known};
+use tops::Event;
 
-// The most tops or crossings of a recording: half of its records.
+// The most events of one kind: half of the records.
 const MOST_EDGES: usize = recording::MOST_RECORDS / 2;
 
 // Shifts the first n times to their indices on the axis.
@@ -27,69 +30,51 @@ fn shift(times: &mut [u32], n: usize)
     }
 }
 
-// The times of the tops of a curve, as indices.
-fn top_stamps(rec: &[u8], curve: usize, times: &mut [u32]) -> usize
-    requires { ⌜ Accepted (now rec) × (curve < 2) × (length (topTimes (curveOf curve) (coded (now rec))) ≤ length (now times)) ⌝ }
-    ensures { λ r. ⌜ Stamped (topTimes (curveOf curve) (coded (now (rec .entry)))) r (now (times .exit)) ⌝ }
+// The times of an event, as indices.
+fn stamps(rec: &[u8], event: Event, times: &mut [u32]) -> usize
+    requires { ⌜ Accepted (now rec) × Known event × (length (codedTimes (eventOf event) (coded (now rec))) ≤ length (now times)) ⌝ }
+    ensures { λ r. ⌜ Stamped (codedTimes (eventOf event) (coded (now (rec .entry)))) r (now (times .exit)) ⌝ }
 {
-    let n = tops::top_times(rec, rec.len() / 16, curve, times);
+    let n = tops::event_times(rec, rec.len() / 16, event, times);
     shift(times, n);
     n
 }
 
-// The times of the crossings, as indices.
-fn crossing_stamps(rec: &[u8], times: &mut [u32]) -> usize
-    requires { ⌜ Accepted (now rec) × (length (crossingTimes (coded (now rec))) ≤ length (now times)) ⌝ }
-    ensures { λ r. ⌜ Stamped (crossingTimes (coded (now (rec .entry)))) r (now (times .exit)) ⌝ }
-{
-    let n = tops::crossing_times(rec, rec.len() / 16, times);
-    shift(times, n);
-    n
-}
-
-pub fn peaks(rec: &[u8], curve: usize, set: &mut [u32]) -> bool
-    requires { ⌜ Accepted (now rec) × (curve < 2) × (length (now set) ≡ slotWords) ⌝ }
-    ensures { λ r. ⌜ Makes (λ v. truth (asks.peaks (curveOf curve)) (coded (now (rec .entry))) v) (now (set .exit)) r ⌝ }
+// `peaks`, `dips`, `cross` and `crossup`.
+pub fn events(rec: &[u8], event: Event, set: &mut [u32]) -> bool
+    requires { ⌜ Accepted (now rec) × Known event × (length (now set) ≡ slotWords) ⌝ }
+    ensures { λ r. ⌜ Makes (λ v. truth (timesOf (eventOf event)) (coded (now (rec .entry))) v) (now (set .exit)) r ⌝ }
 {
     let mut times = [0u32; MOST_EDGES];
-    let n = top_stamps(rec, curve, &mut times);
-    differences::moments(&times[..n], set)
-}
-
-pub fn cross(rec: &[u8], set: &mut [u32]) -> bool
-    requires { ⌜ Accepted (now rec) × (length (now set) ≡ slotWords) ⌝ }
-    ensures { λ r. ⌜ Makes (λ v. truth asks.cross (coded (now (rec .entry))) v) (now (set .exit)) r ⌝ }
-{
-    let mut times = [0u32; MOST_EDGES];
-    let n = crossing_stamps(rec, &mut times);
+    let n = stamps(rec, event, &mut times);
     differences::moments(&times[..n], set)
 }
 
 pub fn gaps(rec: &[u8], curve: usize, set: &mut [u32]) -> bool
-    requires { ⌜ Accepted (now rec) × (curve < 2) × (length (topTimes (curveOf curve) (coded (now rec))) ≤ mostTops) × (length (now set) ≡ slotWords) ⌝ }
+    requires { ⌜ Accepted (now rec) × (curve < 2) × (length (codedTimes (a-top (curveOf curve)) (coded (now rec))) ≤ mostTops) × (length (now set) ≡ slotWords) ⌝ }
     ensures { λ r. ⌜ Makes (λ v. truth (asks.gaps (curveOf curve)) (coded (now (rec .entry))) v) (now (set .exit)) r ⌝ }
 {
     let mut times = [0u32; tops::MOST_TOPS];
-    let n = top_stamps(rec, curve, &mut times);
+    let n = stamps(rec, Event::Top(curve), &mut times);
     differences::gaps(&times[..n], set)
 }
 
 pub fn steps(rec: &[u8], curve: usize, set: &mut [u32]) -> bool
-    requires { ⌜ Accepted (now rec) × (curve < 2) × (length (topTimes (curveOf curve) (coded (now rec))) ≤ mostTops) × (length (now set) ≡ slotWords) ⌝ }
+    requires { ⌜ Accepted (now rec) × (curve < 2) × (length (codedTimes (a-top (curveOf curve)) (coded (now rec))) ≤ mostTops) × (length (now set) ≡ slotWords) ⌝ }
     ensures { λ r. ⌜ Makes (λ v. truth (asks.steps (curveOf curve)) (coded (now (rec .entry))) v) (now (set .exit)) r ⌝ }
 {
     let mut times = [0u32; tops::MOST_TOPS];
-    let n = top_stamps(rec, curve, &mut times);
+    let n = stamps(rec, Event::Top(curve), &mut times);
     differences::steps(&times[..n], set)
 }
 
 pub fn lag(rec: &[u8], set: &mut [u32]) -> bool
-    requires { ⌜ Accepted (now rec) × (length (topTimes (curveOf 0) (coded (now rec))) ≤ mostTops) × (length (topTimes (curveOf 1) (coded (now rec))) ≤ mostTops) × (length (now set) ≡ slotWords) ⌝ }
+    requires { ⌜ Accepted (now rec) × (length (codedTimes (a-top (curveOf 0)) (coded (now rec))) ≤ mostTops) × (length (codedTimes (a-top (curveOf 1)) (coded (now rec))) ≤ mostTops) × (length (now set) ≡ slotWords) ⌝ }
     ensures { λ r. ⌜ Makes (λ v. truth asks.lag (coded (now (rec .entry))) v) (now (set .exit)) r ⌝ }
 {
     let mut a = [0u32; tops::MOST_TOPS];
     let mut b = [0u32; tops::MOST_TOPS];
-    let m = top_stamps(rec, 0, &mut a);
-    let n = top_stamps(rec, 1, &mut b);
+    let m = stamps(rec, Event::Top(0), &mut a);
+    let n = stamps(rec, Event::Top(1), &mut b);
     differences::lags(&a[..m], &b[..n], set)
 }

@@ -12,22 +12,23 @@ use Rattle.grammar.specs.declared.Found.{Found}
 use Rattle.grammar.specs.declared.Found.the-variants.{At, Missing}
 use Rattle.grammar.specs.declared.Leaf.{Leaf}
 use Rattle.grammar.specs.declared.Leaf.the-variants.{Node, Open, Nothing}
-use Rattle.grammar.specs.inner.Table.{row}
-use Rattle.grammar.specs.inner.Lexer.{byte, firstOf, curves, relations, heads, numberAt, whenFound, closedBy, operandAt, comparisonAt, timedAt, argumentsAt, namedAt, headedAt, leafAt}
+use Rattle.grammar.specs.inner.Kinds.{COMPARE-V, COMPARE, A-TO-B, FALL, LOWAFTER, CAPAFTER, CROSS, CROSSUP, LAG}
+use Rattle.grammar.specs.inner.Table.{row, unaryFrom}
+use Rattle.grammar.specs.inner.Lexer.{byte, firstOf, curves, relations, heads, numberAt, whenFound, closedBy, operandAt, comparisonAt, timedAt, isTimed, argumentsAt, isBare, namedAt, headedAt, leafAt}
 
 -- the leaf with the number that was found
 abbrev pub numbered : ℕ → ℕ → ℕ → ℕ → Leaf
-numbered f r n e = Node (row 1 f r n) e
+numbered f r n e = Node (row COMPARE f r n) e
 
 abbrev pub timing : List ℕ → ℕ → ℕ → ℕ → ℕ → Leaf
 timing s k c n e = closedBy s 41 (row k c 0 n) e
 
 module _ (s : List ℕ) (f r j b : ℕ) (p : b ≡ byte s j) where
-  pub operand-v : b ≡ 118 → Node (row 0 f r 0) (j + 1) ≡ operandAt s f r j
+  pub operand-v : b ≡ 118 → Node (row COMPARE-V f r 0) (j + 1) ≡ operandAt s f r j
   unfolding operandAt
   operand-v e = rw (eq-eqb (byte s j) 118 (sym p ∙ e))
 
-  pub operand-B : (t : Bool) → (b ≡ 118 → ⊥) → t ≡ (eqb b 66 && eqb f 0) → t ≡ true → Node (row 2 0 r 0) (j + 1) ≡ operandAt s f r j
+  pub operand-B : (t : Bool) → (b ≡ 118 → ⊥) → t ≡ (eqb b 66 && eqb f 0) → t ≡ true → Node (row A-TO-B 0 r 0) (j + 1) ≡ operandAt s f r j
   unfolding operandAt
   operand-B t e q h =
       let z : (eqb (byte s j) 66 && eqb f 0) ≡ true = ap (λ (x : ℕ). eqb x 66 && eqb f 0) (sym p) ∙ sym q ∙ h in
@@ -58,46 +59,56 @@ pub timed-none : (s : List ℕ) (k c j b : ℕ) → b ≡ byte s j → (b ≡ 44
 unfolding timedAt
 timed-none s k c j b p e = rw (ne-eqb (byte s j) 44 (λ z. e (p ∙ z)))
 
+-- THE KINDS of names with a number, and of names without arguments
+module _ (k : ℕ) where
+  pub timed-first : k ≡ LOWAFTER → true ≡ isTimed k
+  timed-first e = rw (eq-eqb k LOWAFTER e)
+
+  pub timed-rest : (k ≡ LOWAFTER → ⊥) → eqb k CAPAFTER ≡ isTimed k
+  timed-rest n = rw (ne-eqb k LOWAFTER n)
+
+  pub bare-first : k ≡ CROSS → true ≡ isBare k
+  bare-first e = rw (eq-eqb k CROSS e)
+
+  pub bare-second : (k ≡ CROSS → ⊥) → k ≡ CROSSUP → true ≡ isBare k
+  bare-second n e = rw (ne-eqb k CROSS n, eq-eqb k CROSSUP e)
+
+  pub bare-rest : (k ≡ CROSS → ⊥) → (k ≡ CROSSUP → ⊥) → eqb k LAG ≡ isBare k
+  bare-rest n m = rw (ne-eqb k CROSS n, ne-eqb k CROSSUP m)
+
 module _ (s : List ℕ) (k i : ℕ) where
   abbrev pub argued : ℕ → ℕ → Leaf
-  argued c j = cond (eqb k 7 || eqb k 8) (timedAt s k c j) (closedBy s 41 (row k c 0 0) j)
+  argued c j = cond (isTimed k) (timedAt s k c j) (closedBy s 41 (row k c 0 0) j)
 
   pub arguments-are : (u : Found) → u ≡ firstOf curves s i → whenFound u argued ≡ argumentsAt s k i
   unfolding argumentsAt
   arguments-are u e = ap (λ (x : Found). whenFound x argued) e
 
-  pub argued-lowafter : (c j : ℕ) → k ≡ 7 → timedAt s k c j ≡ argued c j
-  argued-lowafter c j e = rw (eq-eqb k 7 e)
+  pub argued-timed : (c j : ℕ) (t : Bool) → t ≡ isTimed k → t ≡ true → timedAt s k c j ≡ argued c j
+  argued-timed c j t p e = rw (sym p ∙ e)
 
-  pub argued-capafter : (c j : ℕ) → (k ≡ 7 → ⊥) → k ≡ 8 → timedAt s k c j ≡ argued c j
-  argued-capafter c j n e = rw (ne-eqb k 7 n, eq-eqb k 8 e)
+  pub argued-other : (c j : ℕ) (t : Bool) → t ≡ isTimed k → t ≡ false → closedBy s 41 (row k c 0 0) j ≡ argued c j
+  argued-other c j t p e = rw (sym p ∙ e)
 
-  pub argued-other : (c j : ℕ) → (k ≡ 7 → ⊥) → (k ≡ 8 → ⊥) → closedBy s 41 (row k c 0 0) j ≡ argued c j
-  argued-other c j n m = rw (ne-eqb k 7 n, ne-eqb k 8 m)
-
-  pub named-cross : k ≡ 10 → Node (row k 0 0 0) i ≡ namedAt s k i
+  pub named-bare : (t : Bool) → t ≡ isBare k → t ≡ true → Node (row k 0 0 0) i ≡ namedAt s k i
   unfolding namedAt
-  named-cross e = rw (eq-eqb k 10 e)
+  named-bare t p e = rw (sym p ∙ e)
 
-  pub named-lag : (k ≡ 10 → ⊥) → k ≡ 14 → Node (row k 0 0 0) i ≡ namedAt s k i
+  pub named-other : (t : Bool) → t ≡ isBare k → t ≡ false → argumentsAt s k i ≡ namedAt s k i
   unfolding namedAt
-  named-lag n e = rw (ne-eqb k 10 n, eq-eqb k 14 e)
+  named-other t p e = rw (sym p ∙ e)
 
-  pub named-other : (k ≡ 10 → ⊥) → (k ≡ 14 → ⊥) → argumentsAt s k i ≡ namedAt s k i
-  unfolding namedAt
-  named-other n m = rw (ne-eqb k 10 n, ne-eqb k 14 m)
-
-  pub headed-field : k < 3 → comparisonAt s k i ≡ headedAt s k i
+  pub headed-field : k < FALL → comparisonAt s k i ≡ headedAt s k i
   unfolding headedAt
-  headed-field l = rw (lt-ltb k 3 l)
+  headed-field l = rw (lt-ltb k FALL l)
 
-  pub headed-name : 3 ≤ k → k < 15 → namedAt s k i ≡ headedAt s k i
+  pub headed-name : FALL ≤ k → k < unaryFrom → namedAt s k i ≡ headedAt s k i
   unfolding headedAt
-  headed-name l m = rw (le-ltb k 3 l, lt-ltb k 15 m)
+  headed-name l m = rw (le-ltb k FALL l, lt-ltb k unaryFrom m)
 
-  pub headed-open : 3 ≤ k → 15 ≤ k → Open k i ≡ headedAt s k i
+  pub headed-open : FALL ≤ k → unaryFrom ≤ k → Open k i ≡ headedAt s k i
   unfolding headedAt
-  headed-open l m = rw (le-ltb k 3 l, le-ltb k 15 m)
+  headed-open l m = rw (le-ltb k FALL l, le-ltb k unaryFrom m)
 
 pub leaf-is : (s : List ℕ) (i : ℕ) (u : Found) → u ≡ firstOf heads s i → whenFound u (headedAt s) ≡ leafAt s i
 unfolding leafAt

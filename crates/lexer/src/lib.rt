@@ -4,7 +4,7 @@ ghost use mathlib.Core.Bool.{_&&_};
 ghost use Prim.Native.Nat.{_+_, _≤_, _<_};
 ghost use lib.Dec.{eqb};
 ghost use lib.ListN.{length};
-ghost use Rattle.grammar.specs.inner.Lexer.{closedBy, operandAt, comparisonAt, timedAt, argumentsAt, namedAt, headedAt, leafAt};
+ghost use Rattle.grammar.specs.inner.Lexer.{closedBy, operandAt, comparisonAt, timedAt, isTimed, argumentsAt, isBare, namedAt, headedAt, leafAt};
 
 mod numbers;
 
@@ -109,17 +109,24 @@ fn timed(text: &[u8], kind: u32, curve: u32, at: usize) -> Leaf
     }
 }
 
-// The arguments of a name: a curve, and of `lowafter` and `capafter` an after-time.
+// Whether a name of the kind has a number: `lowafter` and `capafter` have.
+fn is_timed(kind: u32) -> bool
+    ensures { λ r. ⌜ r ≡ isTimed kind ⌝ }
+{
+    if kind == kinds::LOWAFTER {
+        return true;
+    }
+    kind == kinds::CAPAFTER
+}
+
+// The arguments of a name: a curve, and of some an after-time.
 fn arguments(text: &[u8], kind: u32, at: usize) -> Leaf
     requires { ⌜ at ≤ length (now text) ⌝ }
     ensures { λ r. ⌜ r ≡ argumentsAt (now (text .entry)) kind at ⌝ }
 {
     match words::curve(text, at) {
         Found::At(c, e) => {
-            if kind == kinds::LOWAFTER {
-                return timed(text, kind, c, e);
-            }
-            if kind == kinds::CAPAFTER {
+            if is_timed(kind) {
                 return timed(text, kind, c, e);
             }
             closed(
@@ -137,23 +144,25 @@ fn arguments(text: &[u8], kind: u32, at: usize) -> Leaf
     }
 }
 
-// What stands behind a name: nothing behind `cross` and `lag`.
+// Whether a name of the kind has no arguments: `cross`, `crossup` and `lag` have none.
+fn is_bare(kind: u32) -> bool
+    ensures { λ r. ⌜ r ≡ isBare kind ⌝ }
+{
+    if kind == kinds::CROSS {
+        return true;
+    }
+    if kind == kinds::CROSSUP {
+        return true;
+    }
+    kind == kinds::LAG
+}
+
+// A name and what stands behind it.
 fn named(text: &[u8], kind: u32, at: usize) -> Leaf
     requires { ⌜ at ≤ length (now text) ⌝ }
     ensures { λ r. ⌜ r ≡ namedAt (now (text .entry)) kind at ⌝ }
 {
-    if kind == kinds::CROSS {
-        return Leaf::Node(
-            Row {
-                kind,
-                first: 0,
-                second: 0,
-                number: 0,
-            },
-            at,
-        );
-    }
-    if kind == kinds::LAG {
+    if is_bare(kind) {
         return Leaf::Node(
             Row {
                 kind,

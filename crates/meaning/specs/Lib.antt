@@ -1,8 +1,8 @@
 pub mod Listed
 pub mod Meaning
 pub mod Overfull
-pub mod FirstSix
+pub mod Formulas
 pub mod Alike
-pub mod R1
+pub mod Ranges
 pub mod inner
 pub mod laws

@@ -1,4 +1,4 @@
--- Document 01, "Listed questions": what each of them asks of a recording with the number z put in, in the words of its own sentence.
+-- Document 01, "Listed questions", and Paper 1: what each of them asks of a recording with the number z put in, in the words of its own sentence.
 use Prim.Native.Nat.{ℕ, _<_}
 use mathlib.Core.Path.{_≡_}
 use mathlib.Core.Bool.{So}
@@ -8,8 +8,8 @@ use lib.IntN.{ℤ, pos, _+ℤ_, _-ℤ_}
 use lib.Signed.{_≤ℤ_, _<ℤ_}
 use Rattle.number.specs.Axis.{whole}
 use Rattle.recording.specs.Condition.{Condition, holdsAt}
-use Rattle.recording.specs.Reading.{Reading, Curve, A, B, value, top, crossing, nothing}
-use Rattle.grammar.specs.Syntax.{Listed, high, low, lowafter, capafter, peaks, cross, ampl, gaps, steps, lag}
+use Rattle.recording.specs.Reading.{Reading, Curve, A, B, value, top, dip, crossing, upcrossing, nothing}
+use Rattle.grammar.specs.Syntax.{Listed, high, low, lowafter, capafter, peaks, dips, cross, crossup, ampl, gaps, steps, lag}
 
 -- record i
 abbrev pub recordAt : List Reading → ℕ → Reading
@@ -31,10 +31,6 @@ Meets ρ r i = (i < length r) × So (holdsAt nothing ρ r i)
 abbrev pub Top : Curve → List Reading → ℕ → Type 0
 Top c = Meets (top c)
 
--- record i is a crossing
-abbrev pub Crossing : List Reading → ℕ → Type 0
-Crossing = Meets crossing
-
 -- T
 abbrev pub timeOf : Reading → ℤ
 timeOf x = pos (x .time)
@@ -42,6 +38,10 @@ timeOf x = pos (x .time)
 -- T > k
 abbrev pub After : ℕ → Reading → Type 0
 After k x = whole k <ℤ timeOf x
+
+-- z is the time of a record of which the condition holds
+abbrev pub TimeOf : Condition Reading → List Reading → ℤ → Type 0
+TimeOf ρ r z = (i : ℕ) × Meets ρ r i × (timeOf (recordAt r i) ≡ z)
 
 -- the time of record j minus that of record i
 abbrev pub between : List Reading → ℕ → ℕ → ℤ
@@ -58,9 +58,11 @@ Says (low c) r z = SomeRecord r (λ x. value c x ≤ℤ z)
 -- T > k and c ≤ v at some record; c ≤ v at each record with T > k
 Says (lowafter c k) r z = SomeRecord r (λ x. After k x × (value c x ≤ℤ z))
 Says (capafter c k) r z = EachRecord r (λ x. After k x → value c x ≤ℤ z)
--- v is the time of a top of c; v is the time of a crossing
-Says (peaks c) r z = (i : ℕ) × Top c r i × (timeOf (recordAt r i) ≡ z)
-Says cross r z = (i : ℕ) × Crossing r i × (timeOf (recordAt r i) ≡ z)
+-- v is the time of a top of c, of a dip of c, of a crossing, of an upward crossing
+Says (peaks c) r z = TimeOf (top c) r z
+Says (dips c) r z = TimeOf (dip c) r z
+Says cross r z = TimeOf crossing r z
+Says crossup r z = TimeOf upcrossing r z
 -- some whole w has c ≤ w at a record and c ≥ w + v at a record
 Says (ampl c) r z = (w : ℤ) × SomeRecord r (λ x. value c x ≤ℤ w) × SomeRecord r (λ x. (w +ℤ z) ≤ℤ value c x)
 -- v is a later top's time minus an earlier top's

@@ -7,7 +7,9 @@ pub mod Meaning
 pub mod Run
 pub mod Overfull
 pub mod Extreme
+pub mod Lines
 pub mod R1Lines
+pub mod R2Lines
 pub mod Recorded
-pub mod FirstSix
+pub mod Formulas
 pub mod Alike

@@ -59,7 +59,7 @@ fn tops_apart(rec: &[u8], n: usize, curve: usize, index: u32) -> TopPair
     ensures { λ r. ⌜ outcomeOf r ≡ judged (tooManyTops (now (rec .entry)) curve ∷ []) (firstPair (readings (now (rec .entry))) (curveOf curve) (whole index)) ⌝ }
 {
     let mut times = [0u32; tops::MOST_TOPS];
-    let count = tops::top_times(rec, n, curve, &mut times);
+    let count = tops::event_times(rec, n, tops::Event::Top(curve), &mut times);
     if tops::MOST_TOPS < count {
         return TopPair::Refused(refusal::Refusal::TooManyTops);
     }

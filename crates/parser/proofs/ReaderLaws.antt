@@ -13,7 +13,8 @@ use Rattle.parser.specs.declared.Got.the-variants.{Upto, Unread}
 use Rattle.grammar.specs.declared.Leaf.{Leaf}
 use Rattle.grammar.specs.declared.Leaf.the-variants.{Node, Open, Nothing}
 use Rattle.grammar.specs.Syntax.{Text}
-use Rattle.grammar.specs.inner.Table.{row, rowAt}
+use Rattle.grammar.specs.inner.Kinds.{NOT, BRACKET}
+use Rattle.grammar.specs.inner.Table.{row, rowAt, unaryFrom, binaryFrom, kinds}
 use Rattle.grammar.specs.inner.Lexer.{byte, leafAt}
 use Rattle.grammar.specs.inner.Parse.{Joiner, bars, ampersands, sign, Task, chain, more, not-at, prim-at, argument, part, joinKind, leafOf, node, Out, got, unread, after, opened, begun, closed, parse, rank}
 use Rattle.parser.specs.inner.Rows.{Put, Same, Laid, leaf, unary, binary, Room, Ahead, Onward, Within, Fits, Parses, AnswersMore, AnswersOpened}
@@ -53,7 +54,7 @@ holds-above (binary k a c h g e) = let x = holds-above h in let y = holds-above 
 pub stays : {T U : List ℕ} {b m : ℕ} {t : Text} (n : ℕ) → m ≤ n → Same n T U → Laid T b m t → Laid U b m t
 stays {U = U} {b = b} n l x (leaf k e) =
     let r = x .row-at b (omega arith) in
-    leaf (subst (λ (y : Row). y .kind < 15) (sym r) k) (ap leafOf r ∙ e)
+    leaf (subst (λ (y : Row). y .kind < unaryFrom) (sym r) k) (ap leafOf r ∙ e)
 stays n l x (unary {m = m} k a c h e) = unary k a c (stays n (omega arith) x h) (x .row-at m (omega arith) ∙ e)
 stays n l x (binary {m = m} {n = j} k a c h g e) =
     let y = holds-above g in
@@ -68,7 +69,7 @@ then-unread : (T : List ℕ) (b : ℕ) (F : Out → Type 0) (p : Out) (k : Text 
 then-unread T b F (got t j) k x h = absurd x
 then-unread T b F unread k x h = h
 
-joined : (o : Joiner) → (19 ≤ joinKind o) × (joinKind o < 23)
+joined : (o : Joiner) → (binaryFrom ≤ joinKind o) × (joinKind o < kinds)
 joined bars = (omega arith, omega arith)
 joined ampersands = (omega arith, omega arith)
 
@@ -145,15 +146,15 @@ module _ (s : List ℕ) (at n : ℕ) (T : List ℕ) {c : ℕ} (o : Joiner) (i : 
 
 -- UNDER `!`
 module _ (s : List ℕ) (at n : ℕ) {e m c : ℕ} {T U Y : List ℕ} {q : Got} (i : c ≡ byte s at) (j : c ≡ 33) (x : Parses s (not-at (at + 1)) (at + 1) n T U q)
-    (p : q ≡ Upto e m) (z : Put U m (row 15 (m - 1) 0 0) Y) where
+    (p : q ≡ Upto e m) (z : Put U m (row NOT (m - 1) 0 0) Y) where
   not-fits : (f : ℕ) → rank s (not-at at) < f → Fits Y n (Upto e (m + 1)) (parse s f (not-at at))
   unfolding parse
   not-fits zero h = absurd (omega arith)
   not-fits (suc f) h =
       let a = ahead-of x p in
       rw (eq-eqb (byte s at) 33 (sym i ∙ j))
-      (then-fits U n e m (Fits Y n (Upto e (m + 1))) (parse s f (not-at (at + 1))) (λ t k. got (node 15 t t) k) (rw p at (x .fits f (omega arith)))
-      (λ t g. (refl, unary 15 (omega arith) (omega arith) (stays m (omega arith) (put-same m z) g) (z .here))))
+      (then-fits U n e m (Fits Y n (Upto e (m + 1))) (parse s f (not-at (at + 1))) (λ t k. got (node NOT t t) k) (rw p at (x .fits f (omega arith)))
+      (λ t g. (refl, unary NOT (omega arith) (omega arith) (stays m (omega arith) (put-same m z) g) (z .here))))
 
   pub not-some : Parses s (not-at at) at n T Y (Upto e (m + 1))
   not-some =
@@ -166,7 +167,7 @@ module _ (s : List ℕ) (at n : ℕ) {c : ℕ} {T U : List ℕ} {q : Got} (i : c
   not-unread zero h = absurd (omega arith)
   not-unread (suc f) h =
       rw (eq-eqb (byte s at) 33 (sym i ∙ j))
-      (then-unread U n (Fits U n Unread) (parse s f (not-at (at + 1))) (λ t k. got (node 15 t t) k) (rw p at (x .fits f (omega arith))) tt)
+      (then-unread U n (Fits U n Unread) (parse s f (not-at (at + 1))) (λ t k. got (node NOT t t) k) (rw p at (x .fits f (omega arith))) tt)
 
   pub not-none : Parses s (not-at at) at n T U Unread
   not-none = record { ahead = tt; same = x .same; fits = not-unread }
@@ -214,7 +215,7 @@ module _ (s : List ℕ) (at n b : ℕ) {T U : List ℕ} {q : Got} (x : Parses s 
   argument-none = record { ahead = tt; same = x .same; fits = argument-unread }
 
 -- BEHIND AN OPENING of one text
-module _ (s : List ℕ) (k at n : ℕ) {T U : List ℕ} {q : Got} (l : 15 ≤ k) (u : k < 19) (x : Parses s (argument 41 at) at n T U q) where
+module _ (s : List ℕ) (k at n : ℕ) {T U : List ℕ} {q : Got} (l : unaryFrom ≤ k) (u : k < binaryFrom) (x : Parses s (argument 41 at) at n T U q) where
   pub unary-some : {e m : ℕ} {Y : List ℕ} → q ≡ Upto e m → Put U m (row k (m - 1) 0 0) Y → AnswersOpened s k at n T Y (Upto e (m + 1))
   unary-some {e} {m} {Y} p z =
       let a = ahead-of x p in
@@ -222,7 +223,7 @@ module _ (s : List ℕ) (k at n : ℕ) {T U : List ℕ} {q : Got} (l : 15 ≤ k)
         within = (omega arith, omega arith, omega arith, omega arith);
         same = same-on n m (omega arith) (x .same) (put-same m z);
         fits = λ f h.
-            rw (ne-eqb k 23 (omega arith), lt-ltb k 19 u)
+            rw (ne-eqb k BRACKET (omega arith), lt-ltb k binaryFrom u)
             (then-fits U n e m (Fits Y n (Upto e (m + 1))) (parse s f (argument 41 at)) (λ t j. got (node k t t) j) (rw p at (x .fits f h))
             (λ t g. (refl, unary k l u (stays m (omega arith) (put-same m z) g) (z .here))));
       }
@@ -233,19 +234,19 @@ module _ (s : List ℕ) (k at n : ℕ) {T U : List ℕ} {q : Got} (l : 15 ≤ k)
         within = tt;
         same = x .same;
         fits = λ f h.
-            rw (ne-eqb k 23 (omega arith), lt-ltb k 19 u)
+            rw (ne-eqb k BRACKET (omega arith), lt-ltb k binaryFrom u)
             (then-unread U n (Fits U n Unread) (parse s f (argument 41 at)) (λ t j. got (node k t t) j) (rw p at (x .fits f h)) tt);
       }
 
 -- and of two
-module _ (s : List ℕ) (k at n : ℕ) {T U : List ℕ} {q : Got} (l : 19 ≤ k) (u : k < 23) (x : Parses s (argument 44 at) at n T U q) where
+module _ (s : List ℕ) (k at n : ℕ) {T U : List ℕ} {q : Got} (l : binaryFrom ≤ k) (u : k < kinds) (x : Parses s (argument 44 at) at n T U q) where
   pub binary-none : q ≡ Unread → AnswersOpened s k at n T U Unread
   binary-none p =
       record {
         within = tt;
         same = x .same;
         fits = λ f h.
-            rw (ne-eqb k 23 (omega arith), le-ltb k 19 l)
+            rw (ne-eqb k BRACKET (omega arith), le-ltb k binaryFrom l)
             (then-unread U n (Fits U n Unread) (parse s f (argument 44 at)) (λ t j. after (parse s f (argument 41 j)) (λ v i. got (node k t v) i)) (rw p at (x .fits f h)) tt);
       }
 
@@ -257,7 +258,7 @@ module _ (s : List ℕ) (k at n : ℕ) {T U : List ℕ} {q : Got} (l : 19 ≤ k)
           within = tt;
           same = same-on n m (omega arith) (x .same) (y .same);
           fits = λ f h.
-              rw (ne-eqb k 23 (omega arith), le-ltb k 19 l)
+              rw (ne-eqb k BRACKET (omega arith), le-ltb k binaryFrom l)
               (then-fits U n e m (Fits Y n Unread) (parse s f (argument 44 at)) (λ t j. after (parse s f (argument 41 j)) (λ v i. got (node k t v) i)) (rw p at (x .fits f h))
               (λ t g. then-unread Y m (Fits Y n Unread) (parse s f (argument 41 e)) (λ v i. got (node k t v) i) (rw o at (y .fits f (omega arith))) tt));
         }
@@ -270,7 +271,7 @@ module _ (s : List ℕ) (k at n : ℕ) {T U : List ℕ} {q : Got} (l : 19 ≤ k)
           within = (omega arith, omega arith, omega arith, omega arith);
           same = same-on n m (omega arith) (x .same) (same-on m w (omega arith) (y .same) (put-same w z));
           fits = λ f h.
-              rw (ne-eqb k 23 (omega arith), le-ltb k 19 l)
+              rw (ne-eqb k BRACKET (omega arith), le-ltb k binaryFrom l)
               (then-fits U n e m (Fits Z n (Upto d (w + 1))) (parse s f (argument 44 at)) (λ t j. after (parse s f (argument 41 j)) (λ v i. got (node k t v) i)) (rw p at (x .fits f h))
               (λ t g.
               then-fits Y m d w (Fits Z n (Upto d (w + 1))) (parse s f (argument 41 e)) (λ v i. got (node k t v) i) (rw o at (y .fits f (omega arith)))
@@ -301,18 +302,18 @@ module _ (s : List ℕ) (i : ℕ) where
       long (double a b n r) = n
 
   -- an opening that is no bracket is of one text or of two
-  pub open-unary : (k j : ℕ) → leafAt s i ≡ Open k j → k < 19 → 15 ≤ k
+  pub open-unary : (k j : ℕ) → leafAt s i ≡ Open k j → k < binaryFrom → unaryFrom ≤ k
   open-unary k j e l = go (open-held s i k j e .holds) l
     where
-      go : {k : ℕ} {w : List ℕ} → Opening k w → k < 19 → 15 ≤ k
+      go : {k : ℕ} {w : List ℕ} → Opening k w → k < binaryFrom → unaryFrom ≤ k
       go round l = absurd (omega arith)
       go (single a b n r) l = a
       go (double a b n r) l = absurd (omega arith)
 
-  pub open-binary : (k j : ℕ) → leafAt s i ≡ Open k j → (k ≡ 23 → ⊥) → 19 ≤ k → k < 23
+  pub open-binary : (k j : ℕ) → leafAt s i ≡ Open k j → (k ≡ BRACKET → ⊥) → binaryFrom ≤ k → k < kinds
   open-binary k j e n l = go (open-held s i k j e .holds) n l
     where
-      go : {k : ℕ} {w : List ℕ} → Opening k w → (k ≡ 23 → ⊥) → 19 ≤ k → k < 23
+      go : {k : ℕ} {w : List ℕ} → Opening k w → (k ≡ BRACKET → ⊥) → binaryFrom ≤ k → k < kinds
       go round n l = absurd (n refl)
       go (single a b m r) n l = absurd (omega arith)
       go (double a b m r) n l = b
@@ -334,7 +335,7 @@ module _ (s : List ℕ) (at n : ℕ) {l : Leaf} (i : l ≡ leafAt s at) where
     leaf-fits zero h = absurd (omega arith)
     leaf-fits (suc f) h =
         let k = leaf-low s at e r (sym i ∙ p) in
-        rw (sym i ∙ p) (refl, leaf (subst (λ (y : Row). y .kind < 15) (sym (z .here)) k) (ap leafOf (z .here)))
+        rw (sym i ∙ p) (refl, leaf (subst (λ (y : Row). y .kind < unaryFrom) (sym (z .here)) k) (ap leafOf (z .here)))
 
     pub prim-leaf : Parses s (prim-at at) at n T U (Upto e (n + 1))
     prim-leaf =
@@ -342,12 +343,12 @@ module _ (s : List ℕ) (at n : ℕ) {l : Leaf} (i : l ≡ leafAt s at) where
         record { ahead = (omega arith, omega arith, omega arith, omega arith); same = put-same n z; fits = leaf-fits }
 
   module _ {k e : ℕ} {r : Got} {T U : List ℕ} (p : l ≡ Open k e) where
-    round-fits : k ≡ 23 → Parses s (argument 41 e) e n T U r → (f : ℕ) → rank s (prim-at at) < f → Fits U n r (parse s f (prim-at at))
+    round-fits : k ≡ BRACKET → Parses s (argument 41 e) e n T U r → (f : ℕ) → rank s (prim-at at) < f → Fits U n r (parse s f (prim-at at))
     unfolding parse
     round-fits j x zero h = absurd (omega arith)
-    round-fits j x (suc f) h = let a = opening-ends k e p in rw (sym i ∙ p, eq-eqb k 23 j) (x .fits f (omega arith))
+    round-fits j x (suc f) h = let a = opening-ends k e p in rw (sym i ∙ p, eq-eqb k BRACKET j) (x .fits f (omega arith))
 
-    pub prim-round : k ≡ 23 → Parses s (argument 41 e) e n T U r → Parses s (prim-at at) at n T U r
+    pub prim-round : k ≡ BRACKET → Parses s (argument 41 e) e n T U r → Parses s (prim-at at) at n T U r
     prim-round j x =
         let a = opening-ends k e p in
         record { ahead = further-ahead (length s) at n e r (omega arith) (x .ahead); same = x .same; fits = round-fits j x }

@@ -4,6 +4,6 @@ pub mod Demands
 pub mod KeptAsFull
 pub mod StandIn
 pub mod Lasting
-pub mod FirstSixAsked
+pub mod FormulasAsked
 pub mod MarkedLines
 pub mod laws

@@ -1,5 +1,5 @@
--- Document 01, "Recording R1" and "Four lines on promises": the marked lines of R1 as one list, over the bytes of R1 and the texts as they are written.
--- That each of them holds is `marked-hold` (laws/MarkedLines).
+-- Document 01, "Recording R1" and "Four lines on promises", and Paper 1: the marked lines of R1 as one list, over its bytes and the texts as they are written,
+-- and lines of R2 beside them, for R1 keeps all its readings. That each of them holds is `marked-hold` and `R2-hold` (laws/MarkedLines).
 use Prim.Native.Nat.{ℕ, _<_}
 use mathlib.Core.Path.{_≡_}
 use mathlib.Core.Bool.{So}
@@ -10,13 +10,12 @@ use Rattle.number.specs.Axis.{axis, whole}
 use Rattle.number.specs.Words.{bits, wordBytes}
 use Rattle.refusal.specs.Outcome.{Outcome, judged}
 use Rattle.recording.specs.Output.{outputLine}
-use Rattle.recording.specs.R1.{R1}
 use Rattle.recording.specs.Reading.{Reading}
 use Rattle.recording.specs.Recording.{readings}
 use Rattle.grammar.specs.Bytes.{bytes}
 use Rattle.grammar.specs.Grammar.{ReadsWhole}
 use Rattle.meaning.specs.Meaning.{Holds}
-use Rattle.meaning.specs.R1.{Run, _to_, just, Lo, Hi, InRuns, Maximal}
+use Rattle.meaning.specs.Ranges.{Run, _to_, just, Lo, Hi, InRuns, Maximal}
 use Rattle.question.specs.Question.{read, answer, questionOf}
 use Rattle.thin.specs.Thin.{keptBytes, thinOf}
 
@@ -25,7 +24,7 @@ pub data MarkedLine : Type 0 where
   asks : (text : List ℕ) (runs : List Run) → MarkedLine
   keeps : (marks times : List ℕ) → MarkedLine
 
--- THE MARKED LINES, in the order of the document
+-- THE MARKED LINES OF R1, in the order of the document, and then those of the names of Paper 1
 abbrev pub markedLines : List MarkedLine
 markedLines =
     asks (bytes "high(A)") ((Lo to pos 90) ∷ [])
@@ -39,8 +38,19 @@ markedLines =
     ∷ asks (bytes "lowafter(A,70)") []
     ∷ asks (bytes "capafter(A,70)") ((Lo to Hi) ∷ [])
     ∷ asks (bytes "U(A>=40,A=v)") (just 30 ∷ just 40 ∷ just 60 ∷ just 70 ∷ just 80 ∷ [])
-    ∷ keeps [] (0 ∷ 20 ∷ 30 ∷ 40 ∷ 60 ∷ 70 ∷ [])
-    ∷ keeps (40 ∷ []) (0 ∷ 20 ∷ 30 ∷ 40 ∷ 50 ∷ 60 ∷ 70 ∷ [])
+    ∷ keeps [] (0 ∷ 10 ∷ 20 ∷ 30 ∷ 40 ∷ 50 ∷ 60 ∷ 70 ∷ [])
+    ∷ keeps (40 ∷ []) (0 ∷ 10 ∷ 20 ∷ 30 ∷ 40 ∷ 50 ∷ 60 ∷ 70 ∷ [])
+    ∷ asks (bytes "dips(A)") (just 50 ∷ [])
+    ∷ asks (bytes "crossup") (just 10 ∷ just 50 ∷ [])
+    ∷ []
+
+-- LINES OF R2, which keeps some of its readings, and more of them with a mark
+abbrev pub R2Lines : List MarkedLine
+R2Lines =
+    asks (bytes "peaks(A)") (just 40 ∷ just 60 ∷ [])
+    ∷ asks (bytes "dips(A)") []
+    ∷ keeps [] (0 ∷ 30 ∷ 40 ∷ 50 ∷ 60 ∷ 80 ∷ [])
+    ∷ keeps (10 ∷ []) (0 ∷ 20 ∷ 30 ∷ 40 ∷ 50 ∷ 60 ∷ 80 ∷ [])
     ∷ []
 
 -- the bytes of runs: low and high of each, as signed numbers of 32 bits
@@ -57,27 +67,27 @@ bytesOfMarks (k ∷ marks) = wordBytes k ++ bytesOfMarks marks
 abbrev pub writtenIn : ℕ → List ℕ → Outcome (List ℕ)
 writtenIn room written = judged (outputLine room written ∷ []) written
 
--- what a line says of a text, asked of R1
-pub record Asked (text : List ℕ) (runs : List Run) : Type 0 where
+-- what a line says of a text, asked of the recording
+pub record Asked (recording text : List ℕ) (runs : List Run) : Type 0 where
   -- the text has a reading, and it is the one that the call takes
   pub reads : ReadsWhole text (read text)
   -- by the meaning: the text holds at the first record with exactly the numbers of the runs
-  pub holds : (n : ℕ) → n < axis → Holds (readings R1) (whole n) (read text) 0 ↔ InRuns runs (whole n)
+  pub holds : (n : ℕ) → n < axis → Holds (readings recording) (whole n) (read text) 0 ↔ InRuns runs (whole n)
   -- so these numbers are the answered set
-  pub set : (n : ℕ) → n < axis → So (answer R1 text n) ↔ InRuns runs (whole n)
+  pub set : (n : ℕ) → n < axis → So (answer recording text n) ↔ InRuns runs (whole n)
   -- the runs are ascending and maximal
   pub maximal : Maximal runs
   -- the question call writes their bytes, whatever the length of the output; 10 is its only refusal
-  pub call : (room : ℕ) → questionOf R1 text room ≡ writtenIn room (bytesOfRuns runs)
+  pub call : (room : ℕ) → questionOf recording text room ≡ writtenIn room (bytesOfRuns runs)
 
--- what a line says of marks, R1 being thinned with them
-pub record Thinned (marks times : List ℕ) : Type 0 where
+-- what a line says of marks, the recording being thinned with them
+pub record Thinned (recording marks times : List ℕ) : Type 0 where
   -- the times of the kept readings
-  pub kept : map (λ (x : Reading). x .time) (readings (keptBytes marks R1)) ≡ times
+  pub kept : map (λ (x : Reading). x .time) (readings (keptBytes marks recording)) ≡ times
   -- the thinning call writes the kept readings, whatever the length of the output; 10 is its only refusal
-  pub call : (room : ℕ) → thinOf R1 (bytesOfMarks marks) room ≡ writtenIn room (keptBytes marks R1)
+  pub call : (room : ℕ) → thinOf recording (bytesOfMarks marks) room ≡ writtenIn room (keptBytes marks recording)
 
--- WHAT A MARKED LINE SAYS OF THE BYTES OF R1
-abbrev pub LineHolds : MarkedLine → Type 0
-LineHolds (asks text runs) = Asked text runs
-LineHolds (keeps marks times) = Thinned marks times
+-- WHAT A LINE SAYS OF THE BYTES OF A RECORDING
+abbrev pub LineHolds : List ℕ → MarkedLine → Type 0
+LineHolds recording (asks text runs) = Asked recording text runs
+LineHolds recording (keeps marks times) = Thinned recording marks times

@@ -6,7 +6,7 @@ pub mod KeptAsFull
 pub mod Lasting
 pub mod R1Lasting
 pub mod MarkedLines
-pub mod FirstSixAsked
+pub mod FormulasAsked
 pub mod Operator
 pub mod Demands
 pub mod AskedOfKept

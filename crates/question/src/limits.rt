@@ -17,7 +17,7 @@ fn many_tops(rec: &[u8], curve: usize) -> bool
     ensures { λ r. ⌜ r ≡ manyTops (curveOf curve) (coded (now (rec .entry))) ⌝ }
 {
     let mut none = [0u32; 1];
-    tops::MOST_TOPS < tops::top_times(rec, rec.len() / 16, curve, &mut none)
+    tops::MOST_TOPS < tops::event_times(rec, rec.len() / 16, tops::Event::Top(curve), &mut none)
 }
 
 // Whether a leaf takes differences between too many tops.

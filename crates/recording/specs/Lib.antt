@@ -3,4 +3,5 @@ pub mod Reading
 pub mod Recording
 pub mod Output
 pub mod R1
+pub mod R2
 pub mod laws

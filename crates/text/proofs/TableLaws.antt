@@ -7,6 +7,7 @@ use native.Mathlib.Numerals.{add-one}
 use mathlib.Core.Bool.{Bool, true, false, _&&_, _||_, or-true}
 use lib.Dec.{ltb}
 use borrow.Author.Tests.{ltb-true, ltb-false}
+use Rattle.grammar.specs.inner.Kinds.{HIGH, LAG, NEXT, GLOBALLY, UNTIL, WEAK-UNTIL}
 use Rattle.grammar.specs.inner.Table.{rowAt, someKind}
 use Rattle.grammar.specs.Classes.{within}
 use Rattle.grammar.specs.Syntax.{Text}
@@ -40,17 +41,17 @@ module _ (T : List ℕ) (n : ℕ) (t : Text) (h : Laid T 0 n t) where
   counted : n ≡ nodes t
   counted = let x = held-nodes h in omega arith
 
-  pub listed-scan : (r : Bool) → r ≡ someKind (within 5 14) T 0 n → r ≡ hasListed t
-  listed-scan r e = e ∙ ap (someKind (within 5 14) T 0) counted ∙ sym (held-some listedKind hasListed listed-by-kind h)
+  pub listed-scan : (r : Bool) → r ≡ someKind (within HIGH LAG) T 0 n → r ≡ hasListed t
+  listed-scan r e = e ∙ ap (someKind (within HIGH LAG) T 0) counted ∙ sym (held-some listedKind hasListed listed-by-kind h)
 
-  temporal-is : (someKind (within 16 18) T 0 n || someKind (within 21 22) T 0 n) ≡ temporal t
-  temporal-is = sym (some-either (within 16 18) (within 21 22) T 0 n) ∙ ap (someKind temporalKind T 0) counted ∙ sym (held-some temporalKind temporal temporal-by-kind h)
+  temporal-is : (someKind (within NEXT GLOBALLY) T 0 n || someKind (within UNTIL WEAK-UNTIL) T 0 n) ≡ temporal t
+  temporal-is = sym (some-either (within NEXT GLOBALLY) (within UNTIL WEAK-UNTIL) T 0 n) ∙ ap (someKind temporalKind T 0) counted ∙ sym (held-some temporalKind temporal temporal-by-kind h)
 
-  pub temporal-yes : (r : Bool) → r ≡ someKind (within 16 18) T 0 n → r ≡ true → true ≡ temporal t
-  temporal-yes r e q = sym (ap (λ x. x || someKind (within 21 22) T 0 n) (sym e ∙ q)) ∙ temporal-is
+  pub temporal-yes : (r : Bool) → r ≡ someKind (within NEXT GLOBALLY) T 0 n → r ≡ true → true ≡ temporal t
+  temporal-yes r e q = sym (ap (λ x. x || someKind (within UNTIL WEAK-UNTIL) T 0 n) (sym e ∙ q)) ∙ temporal-is
 
-  pub temporal-rest : (r u : Bool) → r ≡ someKind (within 16 18) T 0 n → r ≡ false → u ≡ someKind (within 21 22) T 0 n → u ≡ temporal t
-  temporal-rest r u e q d = d ∙ sym (ap (λ x. x || someKind (within 21 22) T 0 n) (sym e ∙ q)) ∙ temporal-is
+  pub temporal-rest : (r u : Bool) → r ≡ someKind (within NEXT GLOBALLY) T 0 n → r ≡ false → u ≡ someKind (within UNTIL WEAK-UNTIL) T 0 n → u ≡ temporal t
+  temporal-rest r u e q d = d ∙ sym (ap (λ x. x || someKind (within UNTIL WEAK-UNTIL) T 0 n) (sym e ∙ q)) ∙ temporal-is
 
   pub mixed-yes : (r u : Bool) → r ≡ hasListed t → r ≡ true → u ≡ temporal t → u ≡ mixed t
   mixed-yes r u e q d = d ∙ sym (ap (λ x. x && temporal t) (sym e ∙ q))

@@ -1,4 +1,4 @@
 pub mod Edge
 pub mod Scan
 pub mod Pick
-pub mod Top
+pub mod Event

@@ -4,7 +4,7 @@ ghost use mathlib.Core.List.{[], _∷_, _++_};
 ghost use Prim.Native.Nat.{_+_, _≤_, _<_};
 ghost use lib.ListN.{length};
 ghost use Rattle.grammar.specs.Bytes.{bytes};
-ghost use Rattle.grammar.specs.inner.Lexer.{byte, word, spelledAt, firstOf, curves, relations, fields, levelNames, topNames, openings, heads};
+ghost use Rattle.grammar.specs.inner.Lexer.{byte, word, spelledAt, firstOf, curves, relations, fields, levelNames, topNames, differenceNames, openings, heads};
 use grammar::Class;
 use grammar::Found;
 use grammar::classes;
@@ -117,7 +117,7 @@ fn level_name(text: &[u8], at: usize) -> Found
     Found::Missing
 }
 
-// The kind of the leaf that a name of tops and crossings begins.
+// The kind of the leaf that a name of tops, dips and crossings begins: `crossup` before `cross`, which begins it.
 fn top_name(text: &[u8], at: usize) -> Found
     requires { ⌜ at ≤ length (now text) ⌝ }
     ensures { λ r. ⌜ r ≡ firstOf topNames (now (text .entry)) at ⌝ }
@@ -125,9 +125,23 @@ fn top_name(text: &[u8], at: usize) -> Found
     if spelled(text, at, b"peaks(") {
         return Found::At(kinds::PEAKS, at + 6);
     }
+    if spelled(text, at, b"dips(") {
+        return Found::At(kinds::DIPS, at + 5);
+    }
+    if spelled(text, at, b"crossup") {
+        return Found::At(kinds::CROSSUP, at + 7);
+    }
     if spelled(text, at, b"cross") {
         return Found::At(kinds::CROSS, at + 5);
     }
+    Found::Missing
+}
+
+// The kind of the leaf that a name of differences begins.
+fn difference_name(text: &[u8], at: usize) -> Found
+    requires { ⌜ at ≤ length (now text) ⌝ }
+    ensures { λ r. ⌜ r ≡ firstOf differenceNames (now (text .entry)) at ⌝ }
+{
     if spelled(text, at, b"ampl(") {
         return Found::At(kinds::AMPL, at + 5);
     }
@@ -169,16 +183,27 @@ fn opening(text: &[u8], at: usize) -> Found
     Found::Missing
 }
 
+// What a primary text begins with behind the names of slopes, levels, tops, dips and crossings.
+fn difference_or_opening(text: &[u8], at: usize) -> Found
+    requires { ⌜ at ≤ length (now text) ⌝ }
+    ensures { λ r. ⌜ r ≡ firstOf (differenceNames ++ openings) (now (text .entry)) at ⌝ }
+{
+    match difference_name(text, at) {
+        Found::At(k, e) => Found::At(k, e),
+        Found::Missing => opening(text, at),
+    }
+}
+
 // What a primary text begins with that does not begin with a field.
 fn name_or_opening(text: &[u8], at: usize) -> Found
     requires { ⌜ at ≤ length (now text) ⌝ }
-    ensures { λ r. ⌜ r ≡ firstOf (levelNames ++ (topNames ++ openings)) (now (text .entry)) at ⌝ }
+    ensures { λ r. ⌜ r ≡ firstOf (levelNames ++ (topNames ++ (differenceNames ++ openings))) (now (text .entry)) at ⌝ }
 {
     match level_name(text, at) {
         Found::At(k, e) => Found::At(k, e),
         Found::Missing => match top_name(text, at) {
             Found::At(k, e) => Found::At(k, e),
-            Found::Missing => opening(text, at),
+            Found::Missing => difference_or_opening(text, at),
         },
     }
 }

@@ -10,6 +10,7 @@ const RECORDS: usize = 4096;
 fn main() {
     println!("{:<52} {:>14} {:>12} {:>12} {:>7} {:>5}", "", "outcome", "library us", "plain us", "ratio", "aim");
     thinning();
+    thinning_of_all_events();
     thinning_of_fewer();
     listed();
     temporal();
@@ -28,6 +29,20 @@ fn thinning() {
     }
 }
 
+/// As many tops and dips of either curve and crossings both ways, apart from each other.
+fn thinning_of_all_events() {
+    for events in [64, 256] {
+        let later = |by: usize| evenly(events, RECORDS).iter().map(|index| index + by).collect::<Vec<_>>();
+        let mut readings = with_tops(&later(0), &later(4));
+        for index in later(8) {
+            readings[index].b = readings[index].a - 1;
+        }
+        let recording = bytes(&readings);
+        let name = format!("thin, {events} of each event, 0 marks");
+        writing(&name, 1.2, |out| mill::thin_into(&recording, &[], out), |out| plain::thin(&recording, &[], out));
+    }
+}
+
 /// The cost grows with the records: a quarter and half of them.
 fn thinning_of_fewer() {
     for records in [RECORDS / 4, RECORDS / 2] {
@@ -39,7 +54,10 @@ fn thinning_of_fewer() {
 
 fn listed() {
     for tops in [0, 64, 256] {
-        question(&format!("peaks(A), {tops} tops"), 1.2, &with_tops(&evenly(tops, RECORDS), &[]), "peaks(A)");
+        // A fall of one reading: where it ends is a dip.
+        let readings = with_tops(&evenly(tops, RECORDS), &[]);
+        question(&format!("peaks(A), {tops} tops"), 1.2, &readings, "peaks(A)");
+        question(&format!("dips(A), {tops} dips"), 1.2, &readings, "dips(A)");
     }
     let (many, by) = (evenly(256, RECORDS), |step: usize| (0..256).map(|i| 1 + step * i).collect::<Vec<_>>());
     question("gaps(A), 64 tops evenly", 1.0, &with_tops(&evenly(64, RECORDS), &[]), "gaps(A)");

@@ -1,7 +1,7 @@
 //! The sets of a text's nodes at the records, from the definitions of the operators and not by steps from record to record.
 
 use super::meaning;
-use super::recording::{crossing_times, top_times, Record, FALLING, RISING};
+use super::recording::{crossing_times, dip_times, top_times, upward_crossing_times, Record, FALLING, RISING};
 use super::set::{Set, HIGH, LOW};
 use super::text::{Left, Node, Relation, Right};
 use super::MOST_RUNS;
@@ -167,7 +167,9 @@ fn listed_set(listed: &Node, records: &[Record]) -> Set {
             after(*k).iter().fold(Set::whole(), |set, record| set.and(&Set::of(vec![(record.value[*curve], HIGH)])))
         }
         Node::Peaks(curve) => Set::of_numbers(top_times(records, *curve)),
+        Node::Dips(curve) => Set::of_numbers(dip_times(records, *curve)),
         Node::Cross => Set::of_numbers(crossing_times(records)),
+        Node::Crossup => Set::of_numbers(upward_crossing_times(records)),
         Node::Ampl(curve) => {
             let values = || records.iter().map(|record| record.value[*curve]);
             Set::of(vec![(LOW, values().max().unwrap() - values().min().unwrap())])

@@ -1,6 +1,6 @@
 //! Truth: a text at a record, with a number put in for `v`, as the sentences say it. Slow, for small recordings.
 
-use super::recording::{crossing_times, top_times, Record, FALLING, RISING};
+use super::recording::{crossing_times, dip_times, top_times, upward_crossing_times, Record, FALLING, RISING};
 use super::text::{Left, Node, Relation, Right};
 
 /// The text is true at record `i` with the number `v` put in.
@@ -57,7 +57,9 @@ fn answers(listed: &Node, records: &[Record], v: i64) -> bool {
         Node::LowAfter(curve, k) => records.iter().any(|record| record.time > *k && record.value[*curve] <= v),
         Node::CapAfter(curve, k) => records.iter().all(|record| !(record.time > *k) || record.value[*curve] <= v),
         Node::Peaks(curve) => top_times(records, *curve).contains(&v),
+        Node::Dips(curve) => dip_times(records, *curve).contains(&v),
         Node::Cross => crossing_times(records).contains(&v),
+        Node::Crossup => upward_crossing_times(records).contains(&v),
         // The least w that serves a record is its own value.
         Node::Ampl(curve) => {
             records.iter().map(|record| record.value[*curve]).any(|w| records.iter().any(|record| record.value[*curve] >= w + v))

@@ -98,6 +98,7 @@ fn listed(text: &str) -> Vec<Node> {
             ("high", Node::High(curve)),
             ("low", Node::Low(curve)),
             ("peaks", Node::Peaks(curve)),
+            ("dips", Node::Dips(curve)),
             ("ampl", Node::Ampl(curve)),
             ("gaps", Node::Gaps(curve)),
             ("steps", Node::Steps(curve)),
@@ -113,6 +114,7 @@ fn listed(text: &str) -> Vec<Node> {
         }
     }
     found.extend((text == "cross").then_some(Node::Cross));
+    found.extend((text == "crossup").then_some(Node::Crossup));
     found.extend((text == "lag").then_some(Node::Lag));
     found
 }

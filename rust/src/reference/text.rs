@@ -49,7 +49,9 @@ pub enum Node {
     LowAfter(usize, i64),
     CapAfter(usize, i64),
     Peaks(usize),
+    Dips(usize),
     Cross,
+    Crossup,
     Ampl(usize),
     Gaps(usize),
     Steps(usize),
@@ -95,7 +97,9 @@ impl Node {
                 | Node::LowAfter(..)
                 | Node::CapAfter(..)
                 | Node::Peaks(_)
+                | Node::Dips(_)
                 | Node::Cross
+                | Node::Crossup
                 | Node::Ampl(_)
                 | Node::Gaps(_)
                 | Node::Steps(_)
@@ -205,12 +209,13 @@ impl Reader<'_> {
 
     /// `fall`, `rise`, the listed questions; else a relation.
     fn named(&mut self) -> Option<Node> {
-        let of_curve: [(&str, OfCurve); 8] = [
+        let of_curve: [(&str, OfCurve); 9] = [
             ("fall(", Node::Fall),
             ("rise(", Node::Rise),
             ("high(", Node::High),
             ("low(", Node::Low),
             ("peaks(", Node::Peaks),
+            ("dips(", Node::Dips),
             ("ampl(", Node::Ampl),
             ("gaps(", Node::Gaps),
             ("steps(", Node::Steps),
@@ -229,6 +234,10 @@ impl Reader<'_> {
                     Some(make(curve, reader.number()?))
                 });
             }
+        }
+        // Before `cross`, which begins it.
+        if self.take("crossup").is_some() {
+            return Some(Node::Crossup);
         }
         if self.take("cross").is_some() {
             return Some(Node::Cross);

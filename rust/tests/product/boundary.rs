@@ -2,6 +2,7 @@
 
 use crate::guarded::{Against, Guarded};
 use crate::support::r1::r1_bytes;
+use crate::support::r2::r2_bytes;
 use crate::support::recordings::flat;
 use mill::reference::recording::bytes;
 use mill::sys::{mill_degree, mill_pair, mill_question, mill_thin};
@@ -24,8 +25,8 @@ fn null_with_length_0() {
         assert_eq!(mill_thin(null(), 0, [0u8; 3].as_ptr(), 3, null_mut(), 0), refusal(11));
         assert_eq!(mill_thin(recording, length, null(), 0, null_mut(), 0), refusal(10));
         let mut room = [0u8; 128];
-        assert_eq!(mill_thin(recording, length, null(), 0, room.as_mut_ptr(), 128), 96);
-        assert_eq!(room[..96].to_vec(), mill::thin(&r1, &[]).unwrap());
+        assert_eq!(mill_thin(recording, length, null(), 0, room.as_mut_ptr(), 128), 128);
+        assert_eq!(room.to_vec(), mill::thin(&r1, &[]).unwrap());
     }
 }
 
@@ -71,17 +72,17 @@ fn the_places_of_distance_and_degree_by_their_bits() {
 
 #[test]
 fn inputs_may_overlap() {
-    let r1 = r1_bytes();
-    let mut out = [0u8; 128];
-    // SAFETY: the pointers lie within R1 and the output.
+    let r2 = r2_bytes();
+    let mut out = [0u8; 144];
+    // SAFETY: the pointers lie within R2 and the output.
     unsafe {
-        // The first record's time as the only mark, and all eight bytes before a slope as two.
-        assert_eq!(mill_thin(r1.as_ptr(), 128, r1.as_ptr(), 4, out.as_mut_ptr(), 128) >> 32, 0);
-        let expected = mill::thin(&r1, &[0]).unwrap();
-        assert_eq!(out[..expected.len()], expected);
-        let length = mill_thin(r1.as_ptr(), 128, r1.as_ptr().add(64), 8, out.as_mut_ptr(), 128);
-        let expected = mill::thin(&r1, &[40, 30]).unwrap();
-        assert_eq!(out[..length as usize], expected);
+        // The second record's time as the only mark, then that of the last but one with its A as two.
+        let length = mill_thin(r2.as_ptr(), 144, r2.as_ptr().add(16), 4, out.as_mut_ptr(), 144);
+        let expected = mill::thin(&r2, &[10]).unwrap();
+        assert_eq!((out[..length as usize].to_vec(), length), (expected, 7 * 16));
+        let length = mill_thin(r2.as_ptr(), 144, r2.as_ptr().add(112), 8, out.as_mut_ptr(), 144);
+        let expected = mill::thin(&r2, &[70, 3]).unwrap();
+        assert_eq!((out[..length as usize].to_vec(), length), (expected, 7 * 16));
     }
 }
 
@@ -122,8 +123,8 @@ fn lengths_past_32_bits() {
         }
         assert_eq!((earlier, later, out), (77, 78, [9; 64]));
         // An output of over 4 GiB is room enough.
-        assert_eq!(mill_thin(r1.as_ptr(), 128, null(), 0, at, WRAPPED + 3), 96);
-        assert_eq!(std::slice::from_raw_parts(at, 96), mill::thin(&r1, &[]).unwrap());
+        assert_eq!(mill_thin(r1.as_ptr(), 128, null(), 0, at, WRAPPED + 3), 128);
+        assert_eq!(std::slice::from_raw_parts(at, 128), mill::thin(&r1, &[]).unwrap());
     }
 }
 

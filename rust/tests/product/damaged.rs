@@ -4,13 +4,14 @@
 use crate::calls::{degree, pair, question, thin, Tally};
 use crate::support::cases::{begin, cases};
 use crate::support::r1::r1_bytes;
+use crate::support::r2::r2_bytes;
 use crate::support::recordings::{self, damaged, with_tops_at};
 use mill::reference::recording::{bytes, Record};
 use mill::sys::MILL_SET_BYTES;
 
 /// All calls; the number of the pair call's outcome.
 fn all_calls(recording: &[u8]) -> u32 {
-    question(recording, b"peaks(A)", MILL_SET_BYTES);
+    question(recording, b"peaks(A)|dips(A)", MILL_SET_BYTES);
     degree(recording, b"high(B)", 7);
     thin(recording, &[40, 0, 0, 0], 65_536);
     pair(recording, 0, 40)
@@ -18,13 +19,14 @@ fn all_calls(recording: &[u8]) -> u32 {
 
 #[test]
 fn every_bit_flipped() {
-    let r1 = r1_bytes();
     let mut tally = Tally::default();
-    for bit in 0..8 * r1.len() {
-        begin("every bit flipped", bit as u64);
-        let mut recording = r1.clone();
-        recording[bit / 8] ^= 1 << (bit % 8);
-        tally.add(all_calls(&recording));
+    for whole in [r1_bytes(), r2_bytes()] {
+        for bit in 0..8 * whole.len() {
+            begin("every bit flipped", bit as u64);
+            let mut recording = whole.clone();
+            recording[bit / 8] ^= 1 << (bit % 8);
+            tally.add(all_calls(&recording));
+        }
     }
     tally.saw(&[0, 3], 100);
 }
@@ -60,16 +62,18 @@ fn every_length() {
 
 #[test]
 fn every_byte_of_a_record() {
-    let r1 = r1_bytes();
-    for index in [0, 3, 7] {
-        for at in 0..16 {
-            for byte in 0..=255 {
-                begin("every byte of a record", byte.into());
-                let mut recording = r1.clone();
-                recording[16 * index + at] = byte;
-                question(&recording, b"cross", MILL_SET_BYTES);
-                pair(&recording, 0, 40);
-                thin(&recording, &[], 65_536);
+    for whole in [r1_bytes(), r2_bytes()] {
+        for index in [0, 3, 7] {
+            for at in 0..16 {
+                for byte in 0..=255 {
+                    begin("every byte of a record", byte.into());
+                    let mut recording = whole.clone();
+                    recording[16 * index + at] = byte;
+                    question(&recording, b"cross", MILL_SET_BYTES);
+                    question(&recording, b"crossup|dips(A)", MILL_SET_BYTES);
+                    pair(&recording, 0, 40);
+                    thin(&recording, &[], 65_536);
+                }
             }
         }
     }

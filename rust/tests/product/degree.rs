@@ -3,7 +3,7 @@
 
 use crate::calls::{degree, Tally};
 use crate::support::cases::{begin, cases};
-use crate::support::recordings::{self, with_many_tops};
+use crate::support::recordings::{self, with_many_events};
 use crate::support::texts::{self, target, Kind};
 use mill::reference::recording::{bytes, Record, MOST_TIME, MOST_VALUE};
 use mill::reference::set::{HIGH, LOW};
@@ -14,8 +14,8 @@ fn random_degrees() {
     let mut tally = Tally::default();
     cases("random degrees", 40_000, |random| {
         let mut records = recordings::any(random);
-        if random.once_in(25) {
-            records = with_many_tops(random);
+        if random.once_in(10) {
+            records = with_many_events(random);
         }
         let size = 1 + random.below(7);
         let mut text = texts::made(random, Kind::Mixed, size, &records).into_bytes();
@@ -114,10 +114,12 @@ fn ends_of_every_range() {
         "low(B)",
         "ampl(A)",
         "peaks(A)",
+        "dips(B)",
         "gaps(A)",
         "steps(A)",
         "lag",
         "cross",
+        "crossup",
         "lowafter(A,1999999999)",
         "capafter(B,0)",
         "lowafter(B,2000000000)",

@@ -3,8 +3,9 @@
 
 use crate::calls::{degree, question, thin};
 use crate::support::cases::begin;
-use crate::support::r1::{r1_bytes, ONLY_NEXT_SEES};
-use crate::support::recordings::{flat, with_tops, with_tops_at, with_values};
+use crate::support::r1::{r1_bytes, RIGHT_AFTER};
+use crate::support::r2::{r2_bytes, LOST};
+use crate::support::recordings::{flat, with_crossings, with_dips, with_tops, with_tops_at, with_values};
 use mill::reference::recording::{bytes, Record, FALLING, FLAT, RISING};
 use mill::reference::set::{HIGH, LOW};
 use mill::Run;
@@ -27,11 +28,24 @@ fn refused(recording: &[u8], text: &str) -> u32 {
 }
 
 #[test]
-fn what_only_x_sees_is_lost_on_kept_readings() {
-    let (text, on_full, on_kept) = ONLY_NEXT_SEES;
-    assert_eq!(runs(&r1_bytes(), text), on_full);
-    assert_eq!(thin(&r1_bytes(), &[], 96), 0);
-    assert_eq!(runs(&mill::thin(&r1_bytes(), &[]).unwrap(), text), on_kept);
+fn r1_keeps_what_comes_right_after() {
+    let (text, expected) = RIGHT_AFTER;
+    assert_eq!(runs(&r1_bytes(), text), expected);
+    for marks in [&[][..], &[40]] {
+        assert_eq!(runs(&mill::thin(&r1_bytes(), marks).unwrap(), text), expected);
+    }
+    assert_eq!(thin(&r1_bytes(), &[], 128), 0);
+    assert_eq!(thin(&r1_bytes(), &[], 127), 10);
+}
+
+#[test]
+fn what_is_not_kept_is_lost() {
+    assert_eq!(thin(&r2_bytes(), &[], 96), 0);
+    let kept = mill::thin(&r2_bytes(), &[]).unwrap();
+    for (text, on_full, on_kept) in LOST {
+        assert_eq!(runs(&r2_bytes(), text), on_full, "{text}");
+        assert_eq!(runs(&kept, text), on_kept, "{text}");
+    }
 }
 
 #[test]
@@ -55,6 +69,49 @@ fn two_hundred_and_fifty_six_runs_and_one_more() {
         let other = if curve == "A" { "B" } else { "A" };
         assert_eq!(runs(&tops(257), &format!("peaks({other})")), []);
     }
+}
+
+#[test]
+fn two_hundred_and_fifty_six_dips_and_one_more() {
+    for (curve, other) in [("A", "B"), ("B", "A")] {
+        let dips = |count: usize| bytes(&with_dips(4096, if curve == "A" { [count, 0] } else { [0, count] }));
+        let (text, formula) = (format!("dips({curve})"), format!("F(!rise({curve})&X(rise({curve})&T=v))"));
+        let every: Vec<(i64, i64)> = (0..256).map(|i| 1 + i * 4095 / 256).map(|time| (time, time)).collect();
+        assert_eq!(runs(&dips(256), &text), every);
+        assert_eq!(runs(&dips(256), &formula), every);
+        assert_eq!(question(&dips(256), text.as_bytes(), 2047), 10);
+        for text in [&text, &formula] {
+            assert_eq!(refused(&dips(257), text), 8);
+            assert_eq!(question(&dips(257), text.as_bytes(), 0), 8);
+            assert_eq!(degree(&dips(256), text.as_bytes(), 9), 0);
+            assert_eq!(degree(&dips(257), text.as_bytes(), 9), 8);
+        }
+        assert_eq!(refused(&dips(256), &format!("!dips({curve})")), 8);
+        assert_eq!(runs(&dips(255), &format!("!dips({curve})")).len(), 256);
+        assert_eq!(runs(&dips(257), &format!("dips({other})")), []);
+        // 9 is not for dips.
+        assert_eq!(refused(&dips(4096 / 2), &text), 8);
+    }
+}
+
+#[test]
+fn two_hundred_and_fifty_six_crossings_and_one_more() {
+    let crossings = |count: usize| bytes(&with_crossings(4096, count));
+    let every = |later: i64| (0..256).map(|i| 1 + i * 4094 / 256 + later).map(|time| (time, time)).collect::<Vec<_>>();
+    assert_eq!(runs(&crossings(256), "crossup"), every(0));
+    assert_eq!(runs(&crossings(256), "cross"), every(1));
+    // Each upward one and the crossing after it join in a run.
+    assert_eq!(runs(&crossings(256), "cross|crossup").len(), 256);
+    for text in ["crossup", "F(A<=B&X(A>B&T=v))", "cross", "F(A>B&X(A<=B&T=v))"] {
+        assert_eq!(refused(&crossings(256), text), 0);
+        assert_eq!(question(&crossings(256), text.as_bytes(), 2047), 10);
+        assert_eq!(refused(&crossings(257), text), 8);
+        assert_eq!(question(&crossings(257), text.as_bytes(), 0), 8);
+        assert_eq!(degree(&crossings(256), text.as_bytes(), 9), 0);
+        assert_eq!(degree(&crossings(257), text.as_bytes(), 9), 8);
+    }
+    assert_eq!(refused(&crossings(256), "!crossup"), 8);
+    assert_eq!(runs(&crossings(255), "!crossup").len(), 256);
 }
 
 #[test]
@@ -351,4 +408,27 @@ fn tops_by_the_recorded_slopes() {
     assert_eq!(runs(&slopes(&[FLAT, FALLING]), "peaks(A)"), [(1, 1)]);
     assert_eq!(runs(&slopes(&[RISING, FALLING, RISING, FALLING]), "peaks(A)"), [(1, 1), (3, 3)]);
     assert_eq!(runs(&slopes(&[RISING, FLAT, RISING]), "peaks(A)"), []);
+    assert_eq!(runs(&slopes(&[RISING, RISING]), "dips(A)"), []);
+    assert_eq!(runs(&slopes(&[RISING, FLAT, RISING]), "dips(A)"), [(2, 2)]);
+    assert_eq!(runs(&slopes(&[FLAT, RISING]), "dips(A)"), [(1, 1)]);
+    assert_eq!(runs(&slopes(&[FALLING, RISING, FALLING, RISING]), "dips(A)"), [(1, 1), (3, 3)]);
+    assert_eq!(runs(&slopes(&[FALLING, FLAT, FALLING]), "dips(A)"), []);
+    assert_eq!(runs(&slopes(&[FALLING, FLAT, FLAT, RISING, RISING]), "dips(A)"), [(3, 3)]);
+}
+
+#[test]
+fn crossings_from_and_to_a_tie() {
+    let values = with_values(&[[0, 0], [1, 0], [0, 0], [0, 1], [0, 0], [2, 1], [1, 0], [-1, 0], [0, 0]]);
+    assert_eq!(runs(&values, "crossup"), [(1, 1), (5, 5)]);
+    assert_eq!(runs(&values, "cross"), [(2, 2), (7, 7)]);
+    // The first record crosses nothing.
+    assert_eq!(runs(&with_values(&[[1, 0], [2, 0]]), "crossup|cross"), []);
+    // Never the other, nor read as it.
+    let up = with_values(&[[0, 0], [1, 0]]);
+    assert_eq!((runs(&up, "crossup"), runs(&up, "cross")), (vec![(1, 1)], vec![]));
+    for text in
+        ["crossups", "cross(A)", "crossup(A)", "crossu", "crosss", "dip(A)", "dips", "dips(T)", "F(crossup)", "X(dips(A))"]
+    {
+        assert_eq!(refused(&up, text), 6, "{text}");
+    }
 }

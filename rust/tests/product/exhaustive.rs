@@ -22,9 +22,11 @@ fn at_times(records: &[Record], times: &[i64]) -> Vec<u8> {
     bytes(&timed)
 }
 
-const TEXTS: [&str; 9] = [
+const TEXTS: [&str; 11] = [
     "peaks(A)|peaks(B)",
+    "dips(A)|!dips(B)",
     "cross",
+    "crossup",
     "lag|gaps(A)|steps(B)",
     "U(A>=v,B=v)",
     "W(A<=v,T=v)",

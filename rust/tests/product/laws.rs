@@ -1,11 +1,11 @@
 //! Covers: what the library must do whatever the independent implementation says: plain questions answer alike on kept and on
-//! full readings, and each of the first six listed questions is its formula.
+//! full readings, and each of the eight listed questions that stand for a formula is that formula, in set and in refusal 8.
 
-use crate::calls::{bytes_of, degree, pair, question};
+use crate::calls::{bytes_of, degree, pair, question, Tally};
 use crate::question::room;
 use crate::support::cases::{begin, cases, one_alone};
 use crate::support::random::Random;
-use crate::support::recordings::{self, with_many_tops};
+use crate::support::recordings::{self, with_many_events};
 use crate::support::texts;
 use mill::reference::kept::mark_bytes;
 use mill::reference::recording::{bytes, Record};
@@ -95,8 +95,8 @@ fn plain_questions_answer_alike_on_kept_readings() {
         dropped += u64::from(promises(random, &records) > 0);
     });
     assert!(one_alone() || dropped > 3_000, "readings were dropped in {dropped} cases only");
-    cases("kept as full, many tops", 600, |random| {
-        let records = with_many_tops(random);
+    cases("kept as full, many events", 1_200, |random| {
+        let records = with_many_events(random);
         promises(random, &records);
     });
     cases("kept as full, long", 40, |random| {
@@ -110,7 +110,7 @@ fn plain_questions_answer_alike_on_kept_readings() {
 #[test]
 fn answers_last() {
     cases("answers last", 4_000, |random| {
-        let records = if random.once_in(20) { with_many_tops(random) } else { recordings::any(random) };
+        let records = if random.once_in(20) { with_many_events(random) } else { recordings::any(random) };
         let full = bytes(&records);
         let marks = recordings::marks(random, &records);
         let thin = |input: &[u8], room: usize| {
@@ -148,21 +148,21 @@ fn nothing_kept_of_nothing() {
 
 #[test]
 fn listed_questions_are_their_formulas() {
+    let mut tallies = [(); 8].map(|()| Tally::default());
     cases("listed questions are their formulas", 4_000, |random| {
-        let records = if random.once_in(8) { with_many_tops(random) } else { recordings::any(random) };
+        let records = if random.once_in(8) { with_many_events(random) } else { recordings::any(random) };
         let recording = bytes(&records);
         let (curve, k, room) = (random.pick(&["A", "B"]), texts::number(random, &records), room(random));
-        for (name, written) in [
-            ("high", format!("high({curve})")),
-            ("low", format!("low({curve})")),
-            ("lowafter", format!("lowafter({curve},{k})")),
-            ("capafter", format!("capafter({curve},{k})")),
-            ("peaks", format!("peaks({curve})")),
-            ("cross", "cross".to_string()),
-        ] {
+        for ((name, written), tally) in texts::eight(curve, k).into_iter().zip(&mut tallies) {
             let formula = texts::formula(name, curve, k);
             let of_name = bytes_of(&recording, written.as_bytes(), room, mill_question);
             assert_eq!(of_name, bytes_of(&recording, formula.as_bytes(), room, mill_question), "{written} of {records:?}");
+            tally.add(mill_number(of_name.0));
         }
     });
+    for (place, tally) in tallies.iter().enumerate() {
+        tally.saw(&[0], 1_000);
+        // The last four are sets of single times: tops, dips, and crossings either way.
+        tally.saw(if place < 4 { &[] } else { &[8] }, 10);
+    }
 }

@@ -3,8 +3,8 @@
 
 use crate::calls::{pair, thin};
 use crate::support::cases::begin;
-use crate::support::recordings::{flat, with_tops, with_tops_at, with_values};
-use mill::reference::recording::bytes;
+use crate::support::recordings::{flat, with_crossings, with_dips, with_tops, with_tops_at, with_values};
+use mill::reference::recording::{bytes, FALLING, FLAT, RISING};
 
 #[test]
 fn two_hundred_and_fifty_six_tops_and_one_more() {
@@ -18,6 +18,11 @@ fn two_hundred_and_fifty_six_tops_and_one_more() {
     assert_eq!(pair(&tops(257, 0), 1, 16), 0);
     assert_eq!(pair(&tops(0, 257), 1, 16), 9);
     assert_eq!(thin(&tops(257, 257), &[], 65_536), 0);
+    // 9 is not for dips: 257 of them beside 256 tops.
+    let dips = bytes(&with_dips(4096, [257, 0]));
+    assert_eq!(pair(&dips, 0, 16), 0);
+    assert_eq!(thin(&dips, &[], 65_536), 0);
+    assert_eq!(thin(&bytes(&with_crossings(4096, 2_000)), &[], 65_536), 0);
 }
 
 #[test]
@@ -56,6 +61,39 @@ fn pairs_at_the_axis_ends() {
     assert_eq!(pair(&apart, 0, 2_000_000_001), 12);
     assert_eq!(pair(&apart, 0, -2_000_000_001), 12);
     assert_eq!(mill::pair(&apart, mill::Curve::A, -1_999_999_999), Ok(None));
+}
+
+/// The times of the kept readings, none over 255, after the comparison.
+fn kept_times(recording: &[u8]) -> Vec<u8> {
+    begin("edges", 0);
+    assert_eq!(thin(recording, &[], recording.len()), 0);
+    mill::thin(recording, &[]).unwrap().chunks(16).map(|record| record[0]).collect()
+}
+
+#[test]
+fn turns_are_kept_with_the_record_before() {
+    let (down, flat_, up) = (FALLING, FLAT, RISING);
+    for (slopes, expected) in [
+        (&[flat_, flat_, flat_, up, flat_, flat_, down, flat_][..], &[0, 2, 3, 5, 6, 7][..]),
+        (&[up, up, up, flat_, flat_, flat_, up, up, up], &[0, 5, 6, 8]),
+        (&[down, down, down, flat_, flat_, flat_, down, down, down], &[0, 5, 6, 8]),
+        (&[up, up, up, up, down, down, down, down, up, up, up], &[0, 3, 4, 7, 8, 10]),
+        (&[down, down, down, flat_, flat_, up, up, up, flat_, flat_, flat_], &[0, 4, 5, 10]),
+        (&[flat_, up, flat_, flat_, flat_], &[0, 1, 4]),
+    ] {
+        for curve in 0..2 {
+            let mut records = flat(slopes.len());
+            records.iter_mut().zip(slopes).for_each(|(record, slope)| record.slope[curve] = *slope);
+            assert_eq!(kept_times(&bytes(&records)), expected, "{slopes:?} of curve {curve}");
+        }
+    }
+}
+
+#[test]
+fn crossings_are_kept_with_the_record_before() {
+    // Greatest first, least second; then from below to a tie, above at 4, at a tie again at 7, below.
+    let recording = with_values(&[[9, 9], [0, 0], [5, 6], [5, 5], [6, 5], [7, 5], [6, 5], [5, 5], [5, 6], [5, 6]]);
+    assert_eq!(kept_times(&recording), [0, 1, 3, 4, 6, 7, 9]);
 }
 
 #[test]

@@ -4,16 +4,25 @@
 //! An answer is `empty`; or runs in ascending order, parted by `, `, each a number or `low..high`, with `Lo` and `Hi` for the
 //! axis ends; or `refused` with number and place. ```` ```mill kept ```` asks R1's kept readings without marks,
 //! ```` ```mill kept 40 50 ```` those with these marks. ```` ```mill degree 51 ```` asks for degrees of this target: `met`,
-//! `distance d, degree g` or `no value`. Blank lines, and lines that begin with `#`, say nothing. A block ```` ```ask ````
-//! holds lines `$ echo 'text' | ask`, each with what the program prints below it. Other fenced blocks are not looked at.
+//! `distance d, degree g` or `no value`. ```` ```mill R2 ````, with any of these behind it, asks R2. Blank lines, and lines that
+//! begin with `#`, say nothing. A block ```` ```ask ```` holds lines `$ echo 'text' | ask`, each with what the program prints
+//! below it. Other fenced blocks are not looked at.
 
 use crate::support::r1::{self, r1_bytes};
+use crate::support::r2::{self, r2_bytes};
 use mill::{Degree, Refusal, Run};
+
+/// Of which recording.
+#[derive(Clone, Copy, PartialEq)]
+enum Recording {
+    R1,
+    R2,
+}
 
 /// How an example is asked, and its answer written.
 #[derive(Clone)]
 enum Asked {
-    OfR1,
+    OfFull,
     OfKept(Vec<u32>),
     Degree(i64),
     AtThePrompt,
@@ -21,6 +30,7 @@ enum Asked {
 
 struct Example {
     line: usize,
+    recording: Recording,
     asked: Asked,
     text: String,
     answer: String,
@@ -30,7 +40,7 @@ struct Example {
 enum Block {
     None,
     Other,
-    Examples(Asked),
+    Examples(Recording, Asked),
 }
 
 /// The examples of the page, or what is wrong with its form.
@@ -46,7 +56,7 @@ fn examples(page: &str) -> Result<Vec<Example>, String> {
             };
             continue;
         }
-        let Block::Examples(asked) = &block else { continue };
+        let Block::Examples(recording, asked) = &block else { continue };
         let wrong = || format!("line {number} is no example: {line}");
         let (text, answer) = if let Asked::AtThePrompt = asked {
             match (line.strip_prefix("$ echo '"), found.last_mut()) {
@@ -63,7 +73,8 @@ fn examples(page: &str) -> Result<Vec<Example>, String> {
         } else {
             line.split_once("=> ").ok_or_else(wrong)?
         };
-        found.push(Example { line: number, asked: asked.clone(), text: text.trim().into(), answer: answer.trim().into() });
+        let (recording, asked) = (*recording, asked.clone());
+        found.push(Example { line: number, recording, asked, text: text.trim().into(), answer: answer.trim().into() });
     }
     match block {
         Block::None => Ok(found),
@@ -75,34 +86,43 @@ fn examples(page: &str) -> Result<Vec<Example>, String> {
 fn block_of(name: &str) -> Result<Block, String> {
     let words: Vec<&str> = name.split_whitespace().collect();
     let unread = |_| format!("numbers of '{name}'");
-    Ok(match words[..] {
-        ["mill"] => Block::Examples(Asked::OfR1),
-        ["mill", "kept", ref marks @ ..] => {
+    let (recording, how) = match words[..] {
+        ["mill", "R2", ref how @ ..] => (Recording::R2, how),
+        ["mill", ref how @ ..] => (Recording::R1, how),
+        ["ask"] => return Ok(Block::Examples(Recording::R1, Asked::AtThePrompt)),
+        _ => return Ok(Block::Other),
+    };
+    let asked = match how {
+        [] => Asked::OfFull,
+        ["kept", marks @ ..] => {
             let marks: Result<Vec<u32>, _> = marks.iter().map(|mark| mark.parse()).collect();
-            Block::Examples(Asked::OfKept(marks.map_err(unread)?))
+            Asked::OfKept(marks.map_err(unread)?)
         }
-        ["mill", "degree", target] => Block::Examples(Asked::Degree(target.parse().map_err(unread)?)),
-        ["mill", ..] => return Err(format!("unknown block '{name}'")),
-        ["ask"] => Block::Examples(Asked::AtThePrompt),
-        _ => Block::Other,
-    })
+        ["degree", target] => Asked::Degree(target.parse().map_err(unread)?),
+        _ => return Err(format!("unknown block '{name}'")),
+    };
+    Ok(Block::Examples(recording, asked))
 }
 
 /// The answer of the library, written as the page writes it.
 fn answer(example: &Example) -> String {
-    let (r1, text) = (r1_bytes(), example.text.as_bytes());
+    let recording = match example.recording {
+        Recording::R1 => r1_bytes(),
+        Recording::R2 => r2_bytes(),
+    };
+    let text = example.text.as_bytes();
     let written = match &example.asked {
-        Asked::OfR1 => mill::question(&r1, text).map(|runs| on_the_page(&runs)),
+        Asked::OfFull => mill::question(&recording, text).map(|runs| on_the_page(&runs)),
         Asked::OfKept(marks) => {
-            let kept = mill::thin(&r1, marks).expect("accepted marks");
+            let kept = mill::thin(&recording, marks).expect("accepted marks");
             mill::question(&kept, text).map(|runs| on_the_page(&runs))
         }
-        Asked::Degree(target) => mill::degree(&r1, text, *target).map(|degree| match degree {
+        Asked::Degree(target) => mill::degree(&recording, text, *target).map(|degree| match degree {
             Degree::Met => "met".into(),
             Degree::Short { distance, degree } => format!("distance {distance}, degree {degree}"),
             Degree::NoValue => "no value".into(),
         }),
-        Asked::AtThePrompt => return at_the_prompt(mill::question(&r1, text)),
+        Asked::AtThePrompt => return at_the_prompt(mill::question(&recording, text)),
     };
     written.unwrap_or_else(|refusal| refusal.to_string())
 }
@@ -158,7 +178,9 @@ fn the_page_answers_as_the_library() {
         "lowafter(",
         "capafter(",
         "peaks(",
+        "dips(",
         "cross",
+        "crossup",
         "ampl(",
         "gaps(",
         "steps(",
@@ -169,9 +191,19 @@ fn the_page_answers_as_the_library() {
         "U(",
         "W(",
     ];
-    let has = |wanted: &str| examples.iter().any(|example| matches!(example.asked, Asked::OfR1) && example.text == wanted);
+    let has = |recording: Recording, full: bool, wanted: &str| {
+        examples.iter().any(|example| {
+            let asked = if full { matches!(example.asked, Asked::OfFull) } else { matches!(example.asked, Asked::OfKept(_)) };
+            example.recording == recording && asked && example.text == wanted
+        })
+    };
     for (text, _) in r1::ANSWERS {
-        assert!(has(text), "{path} has no example {text}");
+        assert!(has(Recording::R1, true, text), "{path} has no example {text}");
+    }
+    // What R1's kept readings still answer, and what R2's do not.
+    assert!(has(Recording::R1, false, r1::RIGHT_AFTER.0));
+    for (text, ..) in r2::LOST {
+        assert!(has(Recording::R2, true, text) && has(Recording::R2, false, text), "{path} has no two examples {text} of R2");
     }
     for name in names {
         assert!(examples.iter().any(|example| example.text.contains(name)), "{path} has no example with {name}");
@@ -199,7 +231,7 @@ not => looked at
 ```
 
 ```mill kept
-F(A=60&X(A=v)) => empty
+F(A=60&X(A=v)) => 80
 ```
 ```mill kept 40
 F(T=v&A=55) => 50
@@ -210,6 +242,13 @@ peaks(A) => distance 19, degree 0.05
 peaks(A) => distance 19, degree 0.06
 high(A) => met
 lag => no value
+```
+```mill R2
+peaks(A) => 40, 60
+peaks(A) => 30, 70
+```
+```mill R2 kept 10
+X(A=v) => 8
 ```
 ```ask
 $ echo 'peaks(A)' | ask
@@ -225,16 +264,19 @@ refused 6 0
 ```
 ";
     let found = examples(page).unwrap();
-    assert_eq!(found.len(), 16);
+    assert_eq!(found.len(), 19);
     let wrong = wrong(&found);
-    assert_eq!(wrong.len(), 4, "{wrong:?}");
+    assert_eq!(wrong.len(), 5, "{wrong:?}");
     assert_eq!(wrong[0], "line 7: A=v|A>90 => 40, and not refused 9 9");
     assert_eq!(wrong[1], "line 22: F(T=v&A=55) => 50, and not empty");
     assert_eq!(wrong[2], "line 26: peaks(A) => distance 19, degree 0.05, and not distance 19, degree 0.06");
-    assert_eq!(wrong[3], "line 37: lag => runs 0\n, and not runs 1\n");
+    assert_eq!(wrong[3], "line 32: peaks(A) => 40, 60, and not 30, 70");
+    assert_eq!(wrong[4], "line 44: lag => runs 0\n, and not runs 1\n");
     assert!(examples("```mill\nlag\n```\n").is_err());
     assert!(examples("```mill\nlag => empty\n").is_err());
     assert!(examples("```mill keep\n```\n").is_err());
+    assert!(examples("```mill R3\n```\n").is_err());
+    assert!(examples("```mill kept R2\n```\n").is_err());
     assert!(examples("```mill kept x\n```\n").is_err());
     assert!(examples("```mill degree\n```\n").is_err());
     assert!(examples("```ask\nruns 0\n```\n").is_err());

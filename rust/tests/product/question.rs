@@ -1,10 +1,10 @@
 //! Covers: the question call on random recordings and texts, read and unread, with outputs of any length; sets near the limit
-//! of 256 runs; many tops; long recordings.
+//! of 256 runs; many tops, dips and crossings; long recordings.
 
 use crate::calls::{question, Tally};
 use crate::support::cases::cases;
 use crate::support::random::Random;
-use crate::support::recordings::{self, put_top, with_many_tops};
+use crate::support::recordings::{self, put_top, with_many_events, with_many_tops};
 use crate::support::texts::{self, Kind};
 use mill::reference::recording::{bytes, Record, FLAT};
 use mill::sys::MILL_SET_BYTES;
@@ -105,6 +105,27 @@ fn many_tops() {
     tally.saw(&[0, 8, 9, 10], 100);
 }
 
+/// Names of events alone, joined, complemented and met.
+#[test]
+fn many_events() {
+    let mut tally = Tally::default();
+    cases("many events", 9_000, |random| {
+        let records = with_many_events(random);
+        let names = ["peaks(A)", "peaks(B)", "dips(A)", "dips(B)", "cross", "crossup"];
+        let (one, other) = (random.pick(&names), random.pick(&names));
+        let text = match random.below(6) {
+            0 | 1 => one.into(),
+            2 => format!("{one}|{other}"),
+            3 => format!("!({one}&{other})"),
+            4 => format!("!{one}&T<v"),
+            _ => format!("!!{one}"),
+        };
+        let room = room(random);
+        tally.add(question(&bytes(&records), text.as_bytes(), room));
+    });
+    tally.saw(&[0, 8, 10], 300);
+}
+
 /// Chains of `|` and `&` over sets of about 180 runs: which two are put together first decides whether 8 is due.
 #[test]
 fn chains_near_the_limit() {
@@ -117,7 +138,22 @@ fn chains_near_the_limit() {
                 put_top(&mut records, curve, 1 + curve + 3 * top);
             }
         }
-        let parts = ["peaks(A)", "peaks(B)", "!peaks(A)", "!peaks(B)", "cross", "high(A)", "low(B)", "A<v", "A>v", "T<v", "lag"];
+        let parts = [
+            "peaks(A)",
+            "peaks(B)",
+            "!peaks(A)",
+            "!peaks(B)",
+            "dips(A)",
+            "!dips(B)",
+            "cross",
+            "crossup",
+            "high(A)",
+            "low(B)",
+            "A<v",
+            "A>v",
+            "T<v",
+            "lag",
+        ];
         let mut text = random.pick(&parts).to_string();
         for _ in 0..2 + random.below(4) {
             let sign = random.pick(&["|", "&"]);

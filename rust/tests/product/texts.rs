@@ -41,6 +41,10 @@ fn every_short_text_of_words() {
     assert_eq!(every_text("every short text of words", &words, 5), 1 + 1 + 5 + 9 + 34);
     let words = ["B<=60", "|", "&", "!", "(", ")"];
     assert_eq!(every_text("every short text of words, no temporal one", &words, 6), 1 + 1 + 4 + 7 + 21 + 46);
+    let words = ["cross", "up", "s", "!", "|", "(", ")"];
+    assert_eq!(every_text("every short text of words, crossings", &words, 5), 1 + 2 + 4 + 9 + 20);
+    let words = ["dips(", "dip(", "peaks(", "A", "B", ")", "!"];
+    assert_eq!(every_text("every short text of words, turns", &words, 4), 4 + 4);
     let words = ["lag", "low(", "lowafter(", "A", ",", "5", ")", "|", "X("];
     assert_eq!(every_text("every short text of words, listed", &words, 5), 1 + 2 + 4);
 }

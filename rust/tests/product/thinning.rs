@@ -3,9 +3,9 @@
 
 use crate::calls::{bytes_of, thin, thin_as, Tally};
 use crate::support::cases::{self, cases};
-use crate::support::r1::r1_bytes;
+use crate::support::r2::r2_bytes;
 use crate::support::random::Random;
-use crate::support::recordings::{self, damaged, flat, odd_marks, put_top, with_many_tops};
+use crate::support::recordings::{self, damaged, flat, odd_marks, put_top, with_many_events};
 use mill::reference::book::Book;
 use mill::reference::kept::mark_bytes;
 use mill::reference::recording::{bytes, Record, MOST_TIME};
@@ -18,7 +18,7 @@ fn random_thinning() {
     cases("random thinning", 40_000, |random| {
         let mut records = recordings::any(random);
         if random.once_in(60) {
-            records = with_many_tops(random);
+            records = with_many_events(random);
         }
         let mut recording = bytes(&records);
         if random.once_in(10) {
@@ -180,7 +180,7 @@ fn cut_anywhere() {
 #[test]
 fn one_reading_at_a_time() {
     cases("one reading at a time", 25, |random| {
-        let records = with_many_tops(random);
+        let records = with_many_events(random);
         let marks = mark_bytes(&recordings::marks(random, &records));
         let mut calls = Calls::begin(&marks);
         for record in &records {
@@ -193,23 +193,23 @@ fn one_reading_at_a_time() {
 #[test]
 fn refused_pieces_are_not_taken() {
     cases::begin("refused pieces are not taken", 0);
-    let r1 = r1_bytes();
+    let r2 = r2_bytes();
     let mut calls = Calls::begin(&[]);
-    assert_eq!(calls.call(&r1[..17], 1000), 1);
-    assert_eq!(calls.call(&r1[..64], 47), 10);
-    assert_eq!(calls.call(&r1[..64], 48), 0);
-    assert_eq!(calls.call(&[], 47), 10);
-    assert_eq!(calls.call(&[], 48), 0);
-    assert_eq!(calls.call(&r1[48..], 1000), 3);
-    assert_eq!(calls.call(&r1[64..], 95), 10);
-    assert_eq!(calls.call(&r1[64..], 96), 0);
-    assert_eq!(Ok(calls.held), reference::thin(&r1, &[], usize::MAX));
+    assert_eq!(calls.call(&r2[..17], 1000), 1);
+    assert_eq!(calls.call(&r2[..64], 31), 10);
+    assert_eq!(calls.call(&r2[..64], 32), 0);
+    assert_eq!(calls.call(&[], 31), 10);
+    assert_eq!(calls.call(&[], 32), 0);
+    assert_eq!(calls.call(&r2[48..], 1000), 3);
+    assert_eq!(calls.call(&r2[64..], 95), 10);
+    assert_eq!(calls.call(&r2[64..], 96), 0);
+    assert_eq!(Ok(calls.held), reference::thin(&r2, &[], usize::MAX));
     // Marks that are not accepted refuse every call, after 1, 2 and 3.
     let mut calls = Calls::begin(&[0; 3]);
     assert_eq!(calls.call(&[], 0), 11);
-    assert_eq!(calls.call(&r1[..17], 0), 1);
-    assert_eq!(calls.call(&r1[16..], 0), 11);
-    assert_eq!(Book::open(&[0; 3]).call(&r1, 0), Err(Refused::plain(11)));
+    assert_eq!(calls.call(&r2[..17], 0), 1);
+    assert_eq!(calls.call(&r2[16..], 0), 11);
+    assert_eq!(Book::open(&[0; 3]).call(&r2, 0), Err(Refused::plain(11)));
 }
 
 #[test]

@@ -1,6 +1,7 @@
-//! Covers: the safe wrapper: R1's lines through it, every refusal by its name, number and place.
+//! Covers: the safe wrapper: the lines of R1 and R2 through it, every refusal by its name, number and place.
 
-use crate::support::r1::{r1_bytes, ANSWERS, KEPT};
+use crate::support::r1::{self, r1_bytes};
+use crate::support::r2::{self, r2_bytes};
 use crate::support::recordings::{flat, with_tops};
 use mill::reference::recording::bytes;
 use mill::{Curve, Degree, Pair, Reading, Refusal, Run, Slope};
@@ -19,19 +20,26 @@ fn r1() -> Vec<u8> {
     readings.iter().enumerate().map(reading).flat_map(Reading::to_bytes).collect()
 }
 
+fn runs(recording: &[u8], text: &str) -> Vec<(i64, i64)> {
+    let runs = mill::question(recording, text.as_bytes()).expect(text);
+    runs.iter().map(|Run { low, high }| ((*low).into(), (*high).into())).collect()
+}
+
+/// The times of the kept readings, none over 255.
+fn kept_times(recording: &[u8], marks: &[u32]) -> Vec<i64> {
+    mill::thin(recording, marks).unwrap().chunks(16).map(|record| record[0].into()).collect()
+}
+
 #[test]
 fn r1_lines() {
     let recording = r1();
     assert_eq!(recording, r1_bytes());
-    for (text, expected) in ANSWERS {
-        let runs = mill::question(&recording, text.as_bytes()).expect(text);
-        let runs: Vec<(i64, i64)> = runs.iter().map(|Run { low, high }| ((*low).into(), (*high).into())).collect();
-        assert_eq!(runs, expected, "{text}");
+    for (text, expected) in r1::ANSWERS {
+        assert_eq!(runs(&recording, text), expected, "{text}");
     }
-    for (marks, expected) in KEPT {
-        let kept = mill::thin(&recording, marks).unwrap();
-        let times: Vec<i64> = kept.chunks(16).map(|record| record[0].into()).collect();
-        assert_eq!(times, expected, "{marks:?}");
+    for (marks, expected) in r1::KEPT {
+        assert_eq!(kept_times(&recording, marks), expected, "{marks:?}");
+        assert_eq!(mill::thin(&recording, marks).unwrap(), recording);
     }
     assert_eq!(mill::pair(&recording, Curve::A, 40), Ok(Some(Pair { earlier: 30, later: 70 })));
     assert_eq!(mill::pair(&recording, Curve::A, 41), Ok(None));
@@ -39,6 +47,17 @@ fn r1_lines() {
     assert_eq!(mill::degree(&recording, b"peaks(A)", 30), Ok(Degree::Met));
     assert_eq!(mill::degree(&recording, b"peaks(A)", 51), Ok(Degree::Short { distance: 19.0, degree: 0.05 }));
     assert_eq!(mill::degree(&recording, b"lag", 30), Ok(Degree::NoValue));
+}
+
+#[test]
+fn r2_lines() {
+    let recording = r2_bytes();
+    for (text, expected) in r2::ANSWERS {
+        assert_eq!(runs(&recording, text), expected, "{text}");
+    }
+    for (marks, expected) in r2::KEPT {
+        assert_eq!(kept_times(&recording, marks), expected, "{marks:?}");
+    }
 }
 
 #[test]
@@ -55,7 +74,7 @@ fn every_refusal() {
         (3, mill::pair(&bad, Curve::A, 40).unwrap_err()),
         (4, mill::pair(&[], Curve::A, 40).unwrap_err()),
         (9, mill::pair(&tops, Curve::A, 40).unwrap_err()),
-        (10, mill::thin_into(&recording, &[], &mut [0; 95]).unwrap_err()),
+        (10, mill::thin_into(&recording, &[], &mut [0; 127]).unwrap_err()),
         (11, mill::thin(&recording, &[0; 9]).unwrap_err()),
         (12, mill::pair(&recording, Curve::B, 2_000_000_001).unwrap_err()),
     ];
@@ -103,7 +122,7 @@ fn outputs_stay_behind_the_result() {
     assert_eq!(mill::question_into(&r1(), b"peaks(A)", &mut out), Ok(16));
     assert_eq!(out[16..], [7; 24]);
     let mut out = [7; 130];
-    assert_eq!(mill::thin_into(&r1(), &[], &mut out), Ok(96));
+    assert_eq!(mill::thin_into(&r2_bytes(), &[], &mut out), Ok(96));
     assert_eq!(out[96..], [7; 34]);
     assert_eq!(mill::thin_into(&r1(), &[1], &mut out), Err(Refusal::BadMarks));
 }

@@ -40,6 +40,8 @@ fn every_short_text_of_tokens() {
     // Counted by length, from the grammar.
     assert_eq!(every(&["A=v", "|", "&", "!", "(", ")", "F(", "U(", ","], 5), 1 + 1 + 5 + 9 + 34);
     assert_eq!(every(&["A=v", "|", "&", "!", "(", ")"], 6), 1 + 1 + 4 + 7 + 21 + 46);
+    // `crossup` is one name, and `cross` before `up` is nothing else.
+    assert_eq!(every(&["cross", "up", "s", "!", "|", "(", ")"], 4), 1 + 2 + 4 + 9);
     // `X(` beside a listed name has no reading.
     assert_eq!(every(&["lag", "low(", "lowafter(", "A", ",", "5", ")", "|", "X("], 5), 1 + 2 + 4);
 }
@@ -98,8 +100,24 @@ fn traps() {
         "A=v\n",
         "a=v",
         "A=V",
-        "dips(A)",
-        "crossup",
+        "dip(A)",
+        "dips",
+        "dips()",
+        "dips(T)",
+        "dips(A,5)",
+        "dips(A)s",
+        "crossu",
+        "crossups",
+        "crossupA",
+        "crossup1",
+        "crossup(A)",
+        "crossup()",
+        "crosscrossup",
+        "crossdown",
+        "cross1",
+        "F(dips(A))",
+        "X(crossup)",
+        "crossup|U(A=v,B=v)",
         "P=1",
         "dose(1)",
         "()",
@@ -143,6 +161,13 @@ fn traps() {
         "steps(A)",
         "gaps(B)",
         "ampl(A)",
+        "dips(A)",
+        "dips(B)",
+        "crossup",
+        "cross",
+        "(crossup)",
+        "cross|crossup&!cross",
+        "!dips(A)&crossup|peaks(A)",
     ] {
         assert!(agree(text), "{text}");
     }
@@ -174,6 +199,8 @@ fn grouping() {
     assert_eq!(reading(b"A=1&B=2&T=3"), Some(left));
     let tighter = Node::Or(a, Node::And(Node::Not(b).into(), c).into());
     assert_eq!(reading(b"A=1|!B=2&T=3"), Some(tighter));
+    assert_eq!(reading(b"cross|crossup"), Some(Node::Or(Node::Cross.into(), Node::Crossup.into())));
+    assert_eq!(reading(b"dips(A)&dips(B)"), Some(Node::And(Node::Dips(0).into(), Node::Dips(1).into())));
 }
 
 #[test]

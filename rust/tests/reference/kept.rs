@@ -1,12 +1,13 @@
-//! Covers: the rule of the kept readings word by word against the faster way; the limit on their number; the book against
-//! thinning the whole; marks.
+//! Covers: the rule of the kept readings word by word against the faster way; the limit on their number, and that it is attained;
+//! the book against thinning the whole; marks.
 
 use crate::support::cases::cases;
 use crate::support::r1::r1_bytes;
+use crate::support::r2::r2_bytes;
 use crate::support::recordings;
 use mill::reference::book::Book;
-use mill::reference::kept::{accepted_marks, chosen, chosen_by_rule, mark_bytes};
-use mill::reference::recording::{bytes, crossing_times, top_times};
+use mill::reference::kept::{accepted_marks, chosen, chosen_by_rule, mark_bytes, most_kept};
+use mill::reference::recording::{bytes, Record, FALLING, FLAT, RISING};
 use mill::reference::{thin, Refused};
 
 #[test]
@@ -16,9 +17,8 @@ fn the_faster_way_is_the_rule() {
         let marks = recordings::marks(random, &records);
         let chosen = chosen(&records, &marks);
         assert_eq!(chosen, chosen_by_rule(&records, &marks), "{records:?} {marks:?}");
-        let tops = top_times(&records, 0).len() + top_times(&records, 1).len();
-        let limit = 2 * (tops + crossing_times(&records).len()) + 6 + 4 * marks.len();
-        assert!(chosen.iter().filter(|kept| **kept).count() <= limit, "{records:?} {marks:?}");
+        let kept = chosen.iter().filter(|kept| **kept).count();
+        assert!(kept <= most_kept(&records, &marks), "{records:?} {marks:?}");
     });
     cases("the faster way is the rule, long", 4, |random| {
         let records = recordings::accepted(random, 4096);
@@ -27,10 +27,51 @@ fn the_faster_way_is_the_rule() {
     });
 }
 
+/// Each reason keeps records of its own: the ends, four extremes, a top and a dip of each curve, a crossing either way, and four
+/// extremes after the mark.
+#[test]
+fn the_limit_is_attained() {
+    let rows: [([i64; 2], [u8; 2]); 24] = [
+        ([50, 60], [FLAT, FLAT]),
+        ([99, 100], [FLAT, FLAT]),
+        ([1, 60], [FLAT, FLAT]),
+        ([50, 200], [FLAT, FLAT]),
+        ([2, 2], [FLAT, FLAT]),
+        ([50, 60], [FLAT, FLAT]),
+        ([50, 60], [FALLING, FLAT]),
+        ([50, 60], [FLAT, FLAT]),
+        ([50, 60], [RISING, FLAT]),
+        ([50, 60], [FLAT, FLAT]),
+        ([50, 60], [FLAT, FALLING]),
+        ([50, 60], [FLAT, FLAT]),
+        ([50, 60], [FLAT, RISING]),
+        ([60, 60], [FLAT, FLAT]),
+        ([61, 60], [FLAT, FLAT]),
+        ([61, 60], [FLAT, FLAT]),
+        ([60, 60], [FLAT, FLAT]),
+        // Two that are not kept, the second of them at the mark.
+        ([50, 60], [FLAT, FLAT]),
+        ([71, 81], [FLAT, FLAT]),
+        ([70, 75], [FLAT, FLAT]),
+        ([30, 60], [FLAT, FLAT]),
+        ([50, 80], [FLAT, FLAT]),
+        ([40, 55], [FLAT, FLAT]),
+        ([50, 60], [FLAT, FLAT]),
+    ];
+    let record =
+        |(time, (value, slope)): (usize, &([i64; 2], [u8; 2]))| Record { time: time as i64, value: *value, slope: *slope };
+    let records: Vec<Record> = rows.iter().enumerate().map(record).collect();
+    for (marks, limit) in [(&[18][..], 2 * 6 + 6 + 4), (&[18, 18], 2 * 6 + 6 + 8)] {
+        assert_eq!(most_kept(&records, marks), limit);
+        assert_eq!(chosen_by_rule(&records, marks).iter().filter(|kept| **kept).count(), 22);
+    }
+    assert_eq!(most_kept(&[], &[]), 6);
+}
+
 #[test]
 fn the_book_keeps_what_the_whole_keeps() {
     cases("the book keeps what the whole keeps", 3_000, |random| {
-        let records = recordings::any(random);
+        let records = if random.once_in(60) { recordings::with_many_events(random) } else { recordings::any(random) };
         let (whole, marks) = (bytes(&records), mark_bytes(&recordings::marks(random, &records)));
         let mut book = Book::open(&marks);
         let mut last = Ok(vec![]);
@@ -47,17 +88,17 @@ fn the_book_keeps_what_the_whole_keeps() {
 
 #[test]
 fn refused_calls_leave_the_join() {
-    let r1 = r1_bytes();
+    let (r1, r2) = (r1_bytes(), r2_bytes());
     let mut book = Book::open(&[]);
-    assert_eq!(book.call(&r1[..17], 1000), Err(Refused::plain(1)));
-    assert_eq!(book.call(&r1[..64], 47), Err(Refused::plain(10)));
+    assert_eq!(book.call(&r2[..17], 1000), Err(Refused::plain(1)));
+    assert_eq!(book.call(&r2[..64], 31), Err(Refused::plain(10)));
     assert_eq!(book.join(), []);
-    assert_eq!(book.call(&r1[..64], 48).map(|kept| kept.len()), Ok(48));
-    // The second record was dropped, so the place of the bad record is 3 and not 4.
-    assert_eq!(book.call(&r1[48..64], 1000), Err(Refused { number: 3, place: 3 }));
-    assert_eq!(book.call(&[], 47), Err(Refused::plain(10)));
-    assert_eq!(book.call(&r1[64..], 1000).map(|kept| kept.len()), Ok(96));
-    assert_eq!(book.join(), r1);
+    assert_eq!(book.call(&r2[..64], 32).map(|kept| kept.len()), Ok(32));
+    // The second record and the third were dropped, so the place of the bad record is 2 and not 4.
+    assert_eq!(book.call(&r2[48..64], 1000), Err(Refused { number: 3, place: 2 }));
+    assert_eq!(book.call(&[], 31), Err(Refused::plain(10)));
+    assert_eq!(book.call(&r2[64..], 1000).map(|kept| kept.len()), Ok(96));
+    assert_eq!(book.join(), r2);
     let mut book = Book::open(&[0; 3]);
     assert_eq!(book.call(&r1, 1000), Err(Refused::plain(11)));
     assert_eq!(book.call(&r1[..17], 1000), Err(Refused::plain(1)));

@@ -8,7 +8,7 @@ use mill::reference::{self, Degree};
 #[test]
 fn plain_rust_answers_alike() {
     cases("plain Rust answers alike", 20_000, |random| {
-        let records = if random.once_in(40) { recordings::with_many_tops(random) } else { recordings::any(random) };
+        let records = if random.once_in(20) { recordings::with_many_events(random) } else { recordings::any(random) };
         let mut recording = bytes(&records);
         if random.once_in(8) {
             recording = recordings::damaged(random, recording);

@@ -1,7 +1,8 @@
-//! Covers: recording R1's lines, the table's examples and its orders, on the independent implementation.
+//! Covers: the lines of the recordings R1 and R2, the table's examples and its orders, on the independent implementation.
 
-use crate::support::r1::{r1, r1_bytes, ANSWERS, KEPT, ONLY_NEXT_SEES};
-use crate::support::recordings::{flat, with_tops, with_tops_at};
+use crate::support::r1::{self, r1, r1_bytes};
+use crate::support::r2::{self, r2_bytes};
+use crate::support::recordings::{flat, with_crossings, with_dips, with_tops, with_tops_at};
 use mill::reference::set::{HIGH, LOW};
 use mill::reference::{degree, kept, pair, question, recording, thin, Degree, Refused};
 
@@ -26,22 +27,38 @@ fn times(bytes: &[u8]) -> Vec<i64> {
     recording::in_rules(bytes).unwrap().iter().map(|record| record.time).collect()
 }
 
-#[test]
-fn marked_lines() {
-    for (text, expected) in ANSWERS {
-        assert_eq!(runs(text), expected, "{text}");
-    }
-    for (marks, expected) in KEPT {
-        let marks: Vec<i64> = marks.iter().map(|mark| i64::from(*mark)).collect();
-        assert_eq!(times(&thin(&r1_bytes(), &kept::mark_bytes(&marks), ROOM).unwrap()), expected, "{marks:?}");
-    }
+/// The times of the readings that are kept under the marks.
+fn kept_times(recording: &[u8], marks: &[u32]) -> Vec<i64> {
+    let marks: Vec<i64> = marks.iter().map(|mark| i64::from(*mark)).collect();
+    times(&thin(recording, &kept::mark_bytes(&marks), ROOM).unwrap())
 }
 
 #[test]
-fn kept_readings_lose_what_only_x_sees() {
-    let (text, on_full, on_kept) = ONLY_NEXT_SEES;
-    assert_eq!(runs(text), on_full);
-    assert_eq!(runs_of(&thin(&r1_bytes(), &[], ROOM).unwrap(), text), on_kept);
+fn marked_lines() {
+    for (text, expected) in r1::ANSWERS {
+        assert_eq!(runs(text), expected, "{text}");
+    }
+    for (marks, expected) in r1::KEPT {
+        assert_eq!(kept_times(&r1_bytes(), marks), expected, "{marks:?}");
+    }
+    let (text, expected) = r1::RIGHT_AFTER;
+    assert_eq!(runs(text), expected);
+    assert_eq!(runs_of(&thin(&r1_bytes(), &[], ROOM).unwrap(), text), expected);
+}
+
+#[test]
+fn lines_of_r2() {
+    for (text, expected) in r2::ANSWERS {
+        assert_eq!(runs_of(&r2_bytes(), text), expected, "{text}");
+    }
+    for (marks, expected) in r2::KEPT {
+        assert_eq!(kept_times(&r2_bytes(), marks), expected, "{marks:?}");
+    }
+    let kept = thin(&r2_bytes(), &[], ROOM).unwrap();
+    for (text, on_full, on_kept) in r2::LOST {
+        assert_eq!(runs_of(&r2_bytes(), text), on_full, "{text}");
+        assert_eq!(runs_of(&kept, text), on_kept, "{text}");
+    }
 }
 
 #[test]
@@ -62,6 +79,14 @@ fn table_examples() {
     let tops = |count: usize| recording::bytes(&with_tops(4096, [count, 0]));
     assert_eq!(question(&tops(257), b"peaks(A)", ROOM), Err(refused(8)));
     assert_eq!(runs_of(&tops(256), "peaks(A)").len(), 256);
+    let dips = |count: usize| recording::bytes(&with_dips(4096, [count, 0]));
+    assert_eq!(question(&dips(257), b"dips(A)", ROOM), Err(refused(8)));
+    assert_eq!(runs_of(&dips(256), "dips(A)").len(), 256);
+    let crossings = |count: usize| recording::bytes(&with_crossings(4096, count));
+    for text in ["cross", "crossup"] {
+        assert_eq!(question(&crossings(257), text.as_bytes(), ROOM), Err(refused(8)));
+        assert_eq!(runs_of(&crossings(256), text).len(), 256);
+    }
     assert_eq!(question(&tops(257), b"gaps(A)", ROOM), Err(refused(9)));
     assert_eq!(runs_of(&tops(256), "gaps(A)").len(), 255);
     assert_eq!(pair(&tops(257), 0, 1), Err(refused(9)));

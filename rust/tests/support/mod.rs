@@ -6,6 +6,7 @@ pub mod compared;
 pub mod header;
 pub mod painted;
 pub mod r1;
+pub mod r2;
 pub mod random;
 pub mod recordings;
 pub mod small_stack;

@@ -1,4 +1,4 @@
-//! Recording R1 and its lines, as the scope prints them.
+//! Recording R1 and its lines, as the scope prints them, with those of Paper 1.
 
 use mill::reference::recording::{bytes, Record, FLAT};
 use mill::reference::set::{HIGH, LOW};
@@ -14,13 +14,15 @@ pub fn r1_bytes() -> Vec<u8> {
 }
 
 /// Texts and the runs that they answer.
-pub const ANSWERS: [(&str, &[(i64, i64)]); 11] = [
+pub const ANSWERS: [(&str, &[(i64, i64)]); 13] = [
     ("high(A)", &[(LOW, 90)]),
     ("low(A)", &[(30, HIGH)]),
     ("ampl(A)", &[(LOW, 60)]),
     ("peaks(A)", &[(30, 30), (70, 70)]),
     ("gaps(A)", &[(40, 40)]),
+    ("dips(A)", &[(50, 50)]),
     ("cross", &[(40, 40), (70, 70)]),
+    ("crossup", &[(10, 10), (50, 50)]),
     ("lag", &[]),
     ("lowafter(A,40)", &[(45, HIGH)]),
     ("lowafter(A,70)", &[]),
@@ -28,8 +30,8 @@ pub const ANSWERS: [(&str, &[(i64, i64)]); 11] = [
     ("U(A>=40,A=v)", &[(30, 30), (40, 40), (60, 60), (70, 70), (80, 80)]),
 ];
 
-/// Marks and the times of the readings that are kept.
-pub const KEPT: [(&[u32], &[i64]); 2] = [(&[], &[0, 20, 30, 40, 60, 70]), (&[40], &[0, 20, 30, 40, 50, 60, 70])];
+/// Marks and the times of the readings that are kept: all eight.
+pub const KEPT: [(&[u32], &[i64]); 2] = [(&[], &[0, 10, 20, 30, 40, 50, 60, 70]), (&[40], &[0, 10, 20, 30, 40, 50, 60, 70])];
 
-/// A text, its runs on R1, and its runs on R1's kept readings.
-pub const ONLY_NEXT_SEES: (&str, &[(i64, i64)], &[(i64, i64)]) = ("F(A=60&X(A=v))", &[(80, 80)], &[]);
+/// A text that looks at the reading after one, and its runs on R1 and on its kept readings alike.
+pub const RIGHT_AFTER: (&str, &[(i64, i64)]) = ("F(A=60&X(A=v))", &[(80, 80)]);

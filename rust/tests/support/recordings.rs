@@ -26,6 +26,33 @@ pub fn with_tops(count: usize, tops: [usize; 2]) -> Vec<Record> {
     records
 }
 
+/// A recording of `count` records with `dips` dips of either curve, evenly spaced.
+pub fn with_dips(count: usize, dips: [usize; 2]) -> Vec<Record> {
+    upside_down(with_tops(count, dips))
+}
+
+/// The same upside down: falls for rises, and for each value its opposite.
+pub fn upside_down(mut records: Vec<Record>) -> Vec<Record> {
+    for record in &mut records {
+        record.slope = record.slope.map(|slope| RISING - slope);
+        record.value = record.value.map(|value| -value);
+    }
+    records
+}
+
+/// A recording of `count` records with `crossings` crossings either way, evenly spaced: A is above B for one record at a time, and
+/// else at B as often as below it.
+pub fn with_crossings(count: usize, crossings: usize) -> Vec<Record> {
+    let mut records = flat(count);
+    for (index, record) in records.iter_mut().enumerate() {
+        record.value[1] = index as i64 % 2;
+    }
+    for crossing in 0..crossings {
+        records[1 + crossing * (count - 2) / crossings].value = [1, 0];
+    }
+    records
+}
+
 /// How many records a random recording has: few, mostly.
 pub fn length(random: &mut Random) -> usize {
     match random.below(10) {
@@ -40,7 +67,8 @@ pub fn length(random: &mut Random) -> usize {
 /// An accepted recording of `count` records.
 pub fn accepted(random: &mut Random, count: usize) -> Vec<Record> {
     let times = times(random, count);
-    let (a, b) = (values(random, &times), values(random, &times));
+    let a = values(random, &times);
+    let b = if random.once_in(4) { beside(random, &a) } else { values(random, &times) };
     let (slopes_a, slopes_b) = (slopes(random, &a), slopes(random, &b));
     (0..count).map(|i| Record { time: times[i], value: [a[i], b[i]], slope: [slopes_a[i], slopes_b[i]] }).collect()
 }
@@ -92,16 +120,36 @@ fn values(random: &mut Random, times: &[i64]) -> Vec<i64> {
     times.iter().map(|_| random.pick(&palette)).collect()
 }
 
-/// Slopes that fit the values, that alternate, that seldom change, or any.
+/// Values close to these: below, above, and often the same.
+fn beside(random: &mut Random, values: &[i64]) -> Vec<i64> {
+    values.iter().map(|value| (value + random.pick(&[-1, 0, 0, 1])).clamp(-MOST_VALUE, MOST_VALUE)).collect()
+}
+
+/// Slopes that fit the values, that alternate, that seldom change, that last for some records, or any.
 fn slopes(random: &mut Random, values: &[i64]) -> Vec<u8> {
-    let from: &[u8] = match random.below(5) {
+    let from: &[u8] = match random.below(8) {
         0 => return fitting_slopes(values),
         1 => return (0..values.len()).map(|i| if i % 2 == 0 { RISING } else { FALLING }).collect(),
         2 => &[FLAT, FLAT, FLAT, FLAT, FALLING],
-        3 => &[FALLING, FALLING, FLAT],
+        3 => &[FLAT, FLAT, FLAT, FLAT, RISING],
+        4 => &[FALLING, FALLING, FLAT],
+        5 => &[RISING, RISING, FLAT],
+        6 => return lasting_slopes(random, values.len()),
         _ => &[FALLING, FLAT, RISING],
     };
     values.iter().map(|_| random.pick(from)).collect()
+}
+
+/// Slopes that go on as they are, mostly.
+fn lasting_slopes(random: &mut Random, count: usize) -> Vec<u8> {
+    let mut slope = random.pick(&[FALLING, FLAT, RISING]);
+    let mut next = || {
+        if random.once_in(4) {
+            slope = random.pick(&[FALLING, FLAT, RISING]);
+        }
+        slope
+    };
+    (0..count).map(|_| next()).collect()
 }
 
 fn fitting_slopes(values: &[i64]) -> Vec<u8> {
@@ -211,6 +259,34 @@ pub fn with_many_tops(random: &mut Random) -> Vec<Record> {
         }
     }
     records
+}
+
+/// A recording with up to 300 dips of either curve.
+pub fn with_many_dips(random: &mut Random) -> Vec<Record> {
+    upside_down(with_many_tops(random))
+}
+
+/// A recording with up to some 300 crossings both ways; where A is not above B it is often at B.
+pub fn with_many_crossings(random: &mut Random) -> Vec<Record> {
+    let most = random.pick(&[3, 12, 66, 257, 300]);
+    let mut records = accepted(random, 2 * most + 10);
+    let stays = random.pick(&[1, 1, 1, 2, 20]);
+    let mut above = random.once_in(2);
+    for record in &mut records {
+        above ^= random.once_in(stays);
+        record.value[0] = record.value[0].clamp(1 - MOST_VALUE, MOST_VALUE - 1);
+        record.value[1] = record.value[0] + if above { -1 } else { random.pick(&[0, 0, 1]) };
+    }
+    records
+}
+
+/// A recording with many tops, many dips or many crossings both ways.
+pub fn with_many_events(random: &mut Random) -> Vec<Record> {
+    match random.below(3) {
+        0 => with_many_tops(random),
+        1 => with_many_dips(random),
+        _ => with_many_crossings(random),
+    }
 }
 
 /// A recording whose tops stand on a grid of times, some left out, so that many pairs of them lie equally far apart.

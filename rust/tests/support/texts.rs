@@ -5,7 +5,7 @@ use mill::reference::recording::Record;
 use mill::reference::set::{HIGH, LOW};
 
 /// Texts with a reading, each kind of piece among them.
-pub const GOOD: [&str; 31] = [
+pub const GOOD: [&str; 33] = [
     "A>=v",
     "B<=v",
     "T>v",
@@ -22,7 +22,9 @@ pub const GOOD: [&str; 31] = [
     "lowafter(A,40)",
     "capafter(B,0)",
     "peaks(A)",
+    "dips(B)",
     "cross",
+    "crossup",
     "ampl(A)",
     "gaps(B)",
     "steps(A)",
@@ -124,12 +126,13 @@ pub fn atom(random: &mut Random, records: &[Record]) -> String {
 /// A listed question; `k` is its after-time, if it has one.
 pub fn listed(random: &mut Random, k: i64) -> String {
     let curve = random.pick(&["A", "B"]);
-    match random.below(10) {
+    match random.below(12) {
         0 => "cross".into(),
-        1 => "lag".into(),
-        2 => format!("lowafter({curve},{k})"),
-        3 => format!("capafter({curve},{k})"),
-        _ => format!("{}({curve})", random.pick(&["high", "low", "peaks", "ampl", "gaps", "steps"])),
+        1 => "crossup".into(),
+        2 => "lag".into(),
+        3 => format!("lowafter({curve},{k})"),
+        4 => format!("capafter({curve},{k})"),
+        _ => format!("{}({curve})", random.pick(&["high", "low", "peaks", "dips", "ampl", "gaps", "steps"])),
     }
 }
 
@@ -146,7 +149,7 @@ pub fn number(random: &mut Random, records: &[Record]) -> i64 {
 /// The text with one to three changes: a byte left out, doubled, put in, replaced, swapped with the next, a cut, or a number
 /// that is just not one.
 pub fn changed(random: &mut Random, text: &str) -> Vec<u8> {
-    const BYTES: &[u8] = b"ABTvFGXUW|&!(),<>=-0123456789fallrisehighlowaftercappeaksamplgapsstepslagcross \n\0\xff";
+    const BYTES: &[u8] = b"ABTvFGXUW|&!(),<>=-0123456789fallrisehighlowaftercappeaksdipsamplgapsstepslagcrossup \n\0\xff";
     let mut bytes = text.as_bytes().to_vec();
     for _ in 0..1 + random.below(3) {
         if bytes.is_empty() {
@@ -173,7 +176,21 @@ pub fn changed(random: &mut Random, text: &str) -> Vec<u8> {
     bytes
 }
 
-/// The formula that one of the first six listed questions stands for.
+/// The eight listed questions that stand for a formula, by name and as they are written.
+pub fn eight(curve: &str, k: i64) -> [(&'static str, String); 8] {
+    [
+        ("high", format!("high({curve})")),
+        ("low", format!("low({curve})")),
+        ("lowafter", format!("lowafter({curve},{k})")),
+        ("capafter", format!("capafter({curve},{k})")),
+        ("peaks", format!("peaks({curve})")),
+        ("dips", format!("dips({curve})")),
+        ("cross", "cross".into()),
+        ("crossup", "crossup".into()),
+    ]
+}
+
+/// The formula that one of the eight stands for.
 pub fn formula(name: &str, curve: &str, k: i64) -> String {
     match name {
         "high" => format!("F({curve}>=v)"),
@@ -181,7 +198,9 @@ pub fn formula(name: &str, curve: &str, k: i64) -> String {
         "lowafter" => format!("F(T>{k}&{curve}<=v)"),
         "capafter" => format!("G(!(T>{k})|{curve}<=v)"),
         "peaks" => format!("F(!fall({curve})&X(fall({curve})&T=v))"),
+        "dips" => format!("F(!rise({curve})&X(rise({curve})&T=v))"),
         "cross" => "F(A>B&X(A<=B&T=v))".into(),
+        "crossup" => "F(A<=B&X(A>B&T=v))".into(),
         _ => unreachable!("{name} stands for no formula"),
     }
 }

@@ -70,8 +70,26 @@ fn every_short_text_of_tokens() {
     assert_eq!(every(&["A=v", "|", "&", "!", "(", ")"], 6), 1 + 1 + 4 + 7 + 21 + 46);
     // `X(` beside a listed name has no reading.
     assert_eq!(every(&["lag", "low(", "lowafter(", "A", ",", "5", ")", "|", "X("], 5), 1 + 2 + 4);
+    // `crossup` is one name, also of the pieces `cross` and `up`, and no other goes on behind `cross`.
+    assert_eq!(every(&["cross", "crossup", "up", "s", "1", "(", "A", ")", "|"], 4), 2 + 1 + 6 + 5);
+    // `dips(` of the pieces `dip` and `s(`; beside `F(` it has no reading.
+    assert_eq!(every(&["dips(", "dip", "s(", "peaks(", "A", "T", ")", "|", "F("], 5), 2 + 1);
     // `A=0` takes no digit; behind the minus 1 to 4 digits, the first not 0.
     assert_eq!(every(&["A=0", "A=-", "0", "1", "2", "9", "-"], 5), 1 + 3 * (1 + 4 + 16 + 64));
+}
+
+#[test]
+fn dips_and_upward_crossings() {
+    let good = [("dips(A)", 1), ("dips(B)", 1), ("crossup", 1), ("cross", 1), ("crossup|cross", 3), ("!(cross)&crossup", 4)];
+    for (text, nodes) in good {
+        assert_eq!(agree_by_splits(text), Ok(nodes), "{text}");
+    }
+    let crossings = ["crossups", "crossu", "crossup1", "crossupcross", "cross(A)", "crossup(A)", "crossup()", "up"];
+    let dips = ["dip(A)", "dips", "dips(T)", "dips(A", "dips()", "dips(A,40)", "dips(A)B"];
+    let mixed = ["F(crossup)", "crossup&G(A=v)", "X(dips(A))", "dips(B)|U(A=v,B=v)", "W(A>v,!dips(B))"];
+    for text in crossings.iter().chain(&dips).chain(&mixed) {
+        assert_eq!(agree_by_splits(text), Err(6), "{text}");
+    }
 }
 
 #[test]

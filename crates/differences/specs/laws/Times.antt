@@ -8,10 +8,10 @@ use mathlib.Core.List.{List, [], _∷_, map}
 use lib.ListN.{length, getD}
 use Rattle.number.specs.Axis.{origin}
 use Rattle.recording.specs.Condition.{Condition, pickFrom, when}
-use Rattle.recording.specs.Reading.{Reading, Curve, A, B, nothing}
+use Rattle.recording.specs.Reading.{Reading, Curve, A, B, nothing, a-top}
 use Rattle.grammar.specs.Syntax.{peaks, cross, gaps, steps, lag}
 use Rattle.meaning.specs.inner.Recorded.{InTime, Increasing, Recorded}
-use Rattle.meaning.specs.inner.Coded.{Coded, code, timesOf, topTimes, crossingTimes}
+use Rattle.meaning.specs.inner.Coded.{Coded, code, timesOf, codedTimes}
 use Rattle.meaning.specs.inner.Truth.{truth}
 use Rattle.differences.specs.inner.Times.{Times, lagsOf, gapsOf, stepsOf, momentsOf}
 use Rattle.runset.specs.Set.{Ascending}
@@ -74,22 +74,14 @@ module _ (r : List Reading) (h : Recorded r) where
 
 -- THE LISTED QUESTIONS
 module _ (r : List Coded) (n : ℕ) where
-  pub peaks-are : (c : Curve) → momentsOf (topTimes c r) n ≡ truth (peaks c) r n
-  unfolding truth
-  peaks-are c = refl
-
-  pub cross-is : momentsOf (crossingTimes r) n ≡ truth cross r n
-  unfolding truth
-  cross-is = refl
-
-  pub gaps-are : (c : Curve) → gapsOf (topTimes c r) n ≡ truth (gaps c) r n
+  pub gaps-are : (c : Curve) → gapsOf (codedTimes (a-top c) r) n ≡ truth (gaps c) r n
   unfolding truth
   gaps-are c = refl
 
-  pub steps-are : (c : Curve) → stepsOf (topTimes c r) n ≡ truth (steps c) r n
+  pub steps-are : (c : Curve) → stepsOf (codedTimes (a-top c) r) n ≡ truth (steps c) r n
   unfolding truth
   steps-are c = refl
 
-  pub lag-is : lagsOf (topTimes A r) (topTimes B r) n ≡ truth lag r n
+  pub lag-is : lagsOf (codedTimes (a-top A) r) (codedTimes (a-top B) r) n ≡ truth lag r n
   unfolding truth
   lag-is = refl

@@ -7,11 +7,12 @@ use mathlib.Core.Path.{_≡_, refl, sym, ap, ap₂, subst, _∙_}
 use mathlib.Core.Bool.{Bool, true, false, false≢true, _||_}
 use mathlib.Core.List.{List, [], _∷_}
 use lib.ListN.{length, getD}
-use Rattle.grammar.specs.Syntax.{Text, listed, lag}
+use Rattle.grammar.specs.Syntax.{Text, atom, listed, lag, or, and, neg, finally, globally, next, until, weakUntil}
 use Rattle.grammar.specs.declared.Row.{Row}
-use Rattle.grammar.specs.inner.Table.{row, leafTexts, build, rowAt, treeAt, Falling, binaryFrom, kinds, unaryFrom}
+use Rattle.grammar.specs.inner.Table.{row, build, rowAt, treeAt, Falling, binaryFrom, kinds, unaryFrom}
 use Rattle.meaning.specs.inner.Truth.{someNode}
 use Rattle.leaves.specs.inner.Leaf.{leafOf}
+use Rattle.evaluation.specs.laws.Leaf.{isLeaf, row-leaf}
 use Rattle.evaluation.specs.laws.Step.{four}
 use Rattle.evaluation.specs.laws.Tree.{build-leaf, tree-step, falls-first, falls-second, kind-known}
 use Rattle.evaluation.specs.inner.Evaluate.{kind, first, second, Under, here, on-first, on-second}
@@ -30,23 +31,22 @@ or-none false b e = (refl, e)
 or-false : (a b : Bool) → a ≡ false → b ≡ false → (a || b) ≡ false
 or-false a b e f = ap₂ _||_ e f
 
--- what holds of each element of a list
-Each : (Text → Type 0) → List Text → Type 0
-Each P [] = Unit {0}
-Each P (x ∷ l) = P x × Each P l
-
-each-at : (P : Text → Type 0) (l : List Text) (d : Text) → Each P l → (k : ℕ) → k < length l → P (getD l k d)
-unfolding Each
-each-at P [] d a k h = absurd (not-suc-le-zero h)
-each-at P (x ∷ l) d a zero h = a .0
-each-at P (x ∷ l) d a (suc k) h = each-at P l d (a .1) k (le-of-suc-le-suc h)
-
 module _ (G : Text → Bool) where
-  some-leaf : (r : Row) → r .kind < unaryFrom → someNode G (leafOf r) ≡ G (leafOf r)
-  unfolding someNode Each
-  some-leaf r h =
-      each-at (λ (t : Text). someNode G t ≡ G t) (leafTexts r) (listed lag)
-      (refl, (refl, (refl, (refl, (refl, (refl, (refl, (refl, (refl, (refl, (refl, (refl, (refl, (refl, (refl, tt))))))))))))))) (r .kind) h
+  one-node : (t : Text) → isLeaf t ≡ true → someNode G t ≡ G t
+  unfolding someNode isLeaf
+  one-node (atom k) h = refl
+  one-node (listed q) h = refl
+  one-node (or p q) h = absurd (false≢true h)
+  one-node (and p q) h = absurd (false≢true h)
+  one-node (neg p) h = absurd (false≢true h)
+  one-node (finally p) h = absurd (false≢true h)
+  one-node (globally p) h = absurd (false≢true h)
+  one-node (next p) h = absurd (false≢true h)
+  one-node (until p q) h = absurd (false≢true h)
+  one-node (weakUntil p q) h = absurd (false≢true h)
+
+  some-leaf : (r : Row) → someNode G (leafOf r) ≡ G (leafOf r)
+  some-leaf r = one-node (leafOf r) (row-leaf r)
 
   some-one : (k a b n : ℕ) (p q : Text) → unaryFrom ≤ k → k < binaryFrom → someNode G (build (row k a b n) p q) ≡ (G (build (row k a b n) p q) || someNode G p)
   unfolding someNode
@@ -63,7 +63,7 @@ module _ (G : Text → Bool) where
     pub here-leaf : kind table n < unaryFrom → someNode G (treeAt table n) ≡ G (treeAt table n)
     here-leaf h =
         let e = tree-step table count falling n inn ∙ build-leaf (rowAt table n) (treeAt table (first table n)) (treeAt table (second table n)) h in
-        ap (someNode G) e ∙ some-leaf (rowAt table n) h ∙ ap G (sym e)
+        ap (someNode G) e ∙ some-leaf (rowAt table n) ∙ ap G (sym e)
 
     pub here-one : unaryFrom ≤ kind table n → kind table n < binaryFrom → someNode G (treeAt table n) ≡ (G (treeAt table n) || someNode G (treeAt table (first table n)))
     here-one l h =

@@ -33,47 +33,53 @@ CAPAFTER = 8
 abbrev pub PEAKS : ℕ
 PEAKS = 9
 
+abbrev pub DIPS : ℕ
+DIPS = 10
+
 abbrev pub CROSS : ℕ
-CROSS = 10
+CROSS = 11
+
+abbrev pub CROSSUP : ℕ
+CROSSUP = 12
 
 abbrev pub AMPL : ℕ
-AMPL = 11
+AMPL = 13
 
 abbrev pub GAPS : ℕ
-GAPS = 12
+GAPS = 14
 
 abbrev pub STEPS : ℕ
-STEPS = 13
+STEPS = 15
 
 abbrev pub LAG : ℕ
-LAG = 14
+LAG = 16
 
 -- operators over one text: `!`, X, F and G
 abbrev pub NOT : ℕ
-NOT = 15
+NOT = 17
 
 abbrev pub NEXT : ℕ
-NEXT = 16
+NEXT = 18
 
 abbrev pub FINALLY : ℕ
-FINALLY = 17
+FINALLY = 19
 
 abbrev pub GLOBALLY : ℕ
-GLOBALLY = 18
+GLOBALLY = 20
 
 -- operators over two texts: `|`, `&`, U and W
 abbrev pub OR : ℕ
-OR = 19
+OR = 21
 
 abbrev pub AND : ℕ
-AND = 20
+AND = 22
 
 abbrev pub UNTIL : ℕ
-UNTIL = 21
+UNTIL = 23
 
 abbrev pub WEAK-UNTIL : ℕ
-WEAK-UNTIL = 22
+WEAK-UNTIL = 24
 
 -- a bracket, which is no node
 abbrev pub BRACKET : ℕ
-BRACKET = 23
+BRACKET = 25

@@ -13,7 +13,7 @@ use Rattle.grammar.specs.declared.Leaf.the-variants.{Node, Open, Nothing
 use Rattle.grammar.specs.Bytes.{bytes}
 use Rattle.grammar.specs.Classes.{isDigit}
 use Rattle.grammar.specs.Grammar.{decimal}
-use Rattle.grammar.specs.inner.Kinds.{COMPARE-V, COMPARE, A-TO-B, FALL, RISE, HIGH, LOW, LOWAFTER, CAPAFTER, PEAKS, CROSS, AMPL, GAPS, STEPS, LAG, NEXT, FINALLY, GLOBALLY, UNTIL, WEAK-UNTIL, BRACKET}
+use Rattle.grammar.specs.inner.Kinds.{COMPARE-V, COMPARE, A-TO-B, FALL, RISE, HIGH, LOW, LOWAFTER, CAPAFTER, PEAKS, DIPS, CROSS, CROSSUP, AMPL, GAPS, STEPS, LAG, NEXT, FINALLY, GLOBALLY, UNTIL, WEAK-UNTIL, BRACKET}
 use Rattle.grammar.specs.inner.Table.{row, unaryFrom}
 
 -- what stands at a position: the byte, or 0 past the end
@@ -50,7 +50,7 @@ relations = word 0 (bytes ">=") ∷ word 1 (bytes "<=") ∷ word 2 (bytes ">") �
 abbrev pub fields : List Word
 fields = curves ++ (word 2 (bytes "T") ∷ [])
 
--- the names, by the kinds of their leaves: those of slopes and levels, and those of tops and crossings
+-- the names, by the kinds of their leaves: those of slopes and levels; those of tops, dips and crossings, `crossup` before `cross`; and those of differences
 abbrev pub levelNames : List Word
 levelNames =
     word FALL (bytes "fall(")
@@ -64,8 +64,14 @@ levelNames =
 abbrev pub topNames : List Word
 topNames =
     word PEAKS (bytes "peaks(")
+    ∷ word DIPS (bytes "dips(")
+    ∷ word CROSSUP (bytes "crossup")
     ∷ word CROSS (bytes "cross")
-    ∷ word AMPL (bytes "ampl(")
+    ∷ []
+
+abbrev pub differenceNames : List Word
+differenceNames =
+    word AMPL (bytes "ampl(")
     ∷ word GAPS (bytes "gaps(")
     ∷ word STEPS (bytes "steps(")
     ∷ word LAG (bytes "lag")
@@ -84,7 +90,7 @@ openings =
 
 -- what a primary text begins with
 abbrev pub heads : List Word
-heads = fields ++ (levelNames ++ (topNames ++ openings))
+heads = fields ++ (levelNames ++ (topNames ++ (differenceNames ++ openings)))
 
 -- NUMBERS. The digits in front
 abbrev pub digitRun : List ℕ → List ℕ
@@ -139,14 +145,21 @@ unfoldable pub timedAt : List ℕ → ℕ → ℕ → ℕ → Leaf
 timedAt s k c j =
     cond (eqb (byte s j) 44) (whenFound (numberAt s (j + 1)) (λ n e. closedBy s 41 (row k c 0 n) e)) Nothing
 
+-- `lowafter` and `capafter` have a number
+abbrev pub isTimed : ℕ → Bool
+isTimed k = eqb k LOWAFTER || eqb k CAPAFTER
+
 -- the arguments of the name of kind k, from i on
 unfoldable pub argumentsAt : List ℕ → ℕ → ℕ → Leaf
 argumentsAt s k i =
-    whenFound (firstOf curves s i) (λ c j. cond (eqb k LOWAFTER || eqb k CAPAFTER) (timedAt s k c j) (closedBy s 41 (row k c 0 0) j))
+    whenFound (firstOf curves s i) (λ c j. cond (isTimed k) (timedAt s k c j) (closedBy s 41 (row k c 0 0) j))
 
--- `cross` and `lag` have no arguments
+-- `cross`, `crossup` and `lag` have no arguments
+abbrev pub isBare : ℕ → Bool
+isBare k = eqb k CROSS || (eqb k CROSSUP || eqb k LAG)
+
 unfoldable pub namedAt : List ℕ → ℕ → ℕ → Leaf
-namedAt s k i = cond (eqb k CROSS || eqb k LAG) (Node (row k 0 0 0) i) (argumentsAt s k i)
+namedAt s k i = cond (isBare k) (Node (row k 0 0 0) i) (argumentsAt s k i)
 
 unfoldable pub headedAt : List ℕ → ℕ → ℕ → Leaf
 headedAt s k i = cond (ltb k FALL) (comparisonAt s k i) (cond (ltb k unaryFrom) (namedAt s k i) (Open k i))

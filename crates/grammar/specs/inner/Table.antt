@@ -6,7 +6,7 @@ use lib.ListN.{getD}
 use Rattle.recording.specs.Reading.{Curve, A, B, curveOf}
 use Rattle.grammar.specs.declared.Row.{Row}
 use Rattle.grammar.specs.inner.Kinds.{NOT, OR, BRACKET}
-use Rattle.grammar.specs.Syntax.{Field, of, T, Relation, ge, le, gt, lt, eq, v, number, compare, A-to-B, fall, rise, high, low, lowafter, capafter, peaks, cross, ampl, gaps, steps, lag, Text, atom, listed, or, and, neg, finally, globally, next, until, weakUntil}
+use Rattle.grammar.specs.Syntax.{Field, of, T, Relation, ge, le, gt, lt, eq, v, number, compare, A-to-B, fall, rise, high, low, lowafter, capafter, peaks, dips, cross, crossup, ampl, gaps, steps, lag, Text, atom, listed, or, and, neg, finally, globally, next, until, weakUntil}
 
 abbrev pub row : ℕ → ℕ → ℕ → ℕ → Row
 row k a b n = record { kind = k; first = a; second = b; number = n }
@@ -19,7 +19,7 @@ fieldOf n = getD (of A ∷ of B ∷ T ∷ []) n T
 abbrev pub relationOf : ℕ → Relation
 relationOf n = getD (ge ∷ le ∷ gt ∷ lt ∷ eq ∷ []) n eq
 
--- kinds 0 to 14, the leaves: of a field or a curve, `first` is its code; `second` the relation's; `number` an index on the axis
+-- the kinds before NOT, the leaves: of a field or a curve, `first` is its code; `second` the relation's; `number` an index on the axis
 abbrev pub leafTexts : Row → List Text
 leafTexts r =
     atom (compare (fieldOf (r .first)) (relationOf (r .second)) v)
@@ -32,18 +32,20 @@ leafTexts r =
     ∷ listed (lowafter (curveOf (r .first)) (r .number))
     ∷ listed (capafter (curveOf (r .first)) (r .number))
     ∷ listed (peaks (curveOf (r .first)))
+    ∷ listed (dips (curveOf (r .first)))
     ∷ listed cross
+    ∷ listed crossup
     ∷ listed (ampl (curveOf (r .first)))
     ∷ listed (gaps (curveOf (r .first)))
     ∷ listed (steps (curveOf (r .first)))
     ∷ listed lag
     ∷ []
 
--- kinds 15 to 18, with one child: `!`, X, F, G
+-- the kinds before OR, with one child: `!`, X, F, G
 abbrev pub unaries : Text → List Text
 unaries p = neg p ∷ next p ∷ finally p ∷ globally p ∷ []
 
--- kinds 19 to 22, with two children: `|`, `&`, U, W
+-- the kinds before BRACKET, with two children: `|`, `&`, U, W
 abbrev pub binaries : Text → Text → List Text
 binaries p q = or p q ∷ and p q ∷ until p q ∷ weakUntil p q ∷ []
 

@@ -12,7 +12,7 @@ use Rattle.grammar.specs.declared.Class.the-variants.{Digit, Letter, Sig
 use Rattle.grammar.specs.Bytes.{bytes}
 use Rattle.grammar.specs.Classes.{classOf, isDigit, among, listedClass}
 use Rattle.grammar.specs.Syntax.{Field, of, T, Relation, ge, le, gt, lt, eq, Operand, Atom, Listed, Text}
-use Rattle.grammar.specs.Grammar.{AllDigits, Numeral, zero-itself, plain, minus, curveWord, fieldWord, relationWord, OperandWord, the-v, a-number, AtomWord, compared, curves, falling, rising, ListedWord, a-high, a-low, a-lowafter, a-capafter, a-peaks, a-cross, an-ampl, a-gaps, a-steps, a-lag, Level, Reads, one-conjunction, bar, one-negation, ampersand, one-primary, bang, bracketed, an-F, a-G, an-X, a-U, a-W, an-atom, a-listed, ReadsWhole}
+use Rattle.grammar.specs.Grammar.{AllDigits, Numeral, zero-itself, plain, minus, curveWord, fieldWord, relationWord, OperandWord, the-v, a-number, AtomWord, compared, curves, falling, rising, ListedWord, a-high, a-low, a-lowafter, a-capafter, a-peaks, a-dips, a-cross, a-crossup, an-ampl, a-gaps, a-steps, a-lag, Level, Reads, one-conjunction, bar, one-negation, ampersand, one-primary, bang, bracketed, an-F, a-G, an-X, a-U, a-W, an-atom, a-listed, ReadsWhole}
 use Rattle.grammar.specs.laws.Word.{and-left, and-right}
 
 abbrev pub number : Class → ℕ
@@ -149,7 +149,9 @@ clean-listed (a-low c) = with-curve (bytes "low(") c refl
 clean-listed (a-lowafter c m) = with-time (bytes "lowafter(") c refl m
 clean-listed (a-capafter c m) = with-time (bytes "capafter(") c refl m
 clean-listed (a-peaks c) = with-curve (bytes "peaks(") c refl
+clean-listed (a-dips c) = with-curve (bytes "dips(") c refl
 clean-listed a-cross = refl
+clean-listed a-crossup = refl
 clean-listed (an-ampl c) = with-curve (bytes "ampl(") c refl
 clean-listed (a-gaps c) = with-curve (bytes "gaps(") c refl
 clean-listed (a-steps c) = with-curve (bytes "steps(") c refl

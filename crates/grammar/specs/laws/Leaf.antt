@@ -7,7 +7,7 @@ use native.Mathlib.Omega.{arith}
 use lib.Dec.{eqb, ltb, leb, lit<}
 use lib.ListN.{length, getD, length-append}
 use borrow.Author.Tests.{eq-eqb, ne-eqb, eqb-true, eqb-false, lt-ltb, le-ltb, ltb-true}
-use Rattle.number.specs.Axis.{origin}
+use Rattle.number.specs.laws.Boolean.{none-left}
 use Rattle.recording.specs.Reading.{Curve, A, B, curveOf}
 use Rattle.grammar.specs.declared.Row.{Row}
 use Rattle.grammar.specs.declared.Found.{Found}
@@ -15,13 +15,14 @@ use Rattle.grammar.specs.declared.Found.the-variants.{At, Missing}
 use Rattle.grammar.specs.declared.Leaf.{Leaf}
 use Rattle.grammar.specs.declared.Leaf.the-variants.{Node, Open, Nothing}
 use Rattle.grammar.specs.Bytes.{bytes}
-use Rattle.grammar.specs.Classes.{isDigit}
-use Rattle.grammar.specs.Syntax.{Field, of, T, Relation, ge, le, gt, lt, eq, Operand, v, number, Atom, compare, A-to-B, fall, rise, Listed, high, low, lowafter, capafter, peaks, cross, ampl, gaps, steps, lag, Text, atom, listed, or, and, neg, finally, globally, next, until, weakUntil}
-use Rattle.grammar.specs.Grammar.{Numeral, curveWord, fieldWord, relationWord, OperandWord, the-v, a-number, AtomWord, compared, curves as A-with-B, falling, rising, ListedWord, a-high, a-low, a-lowafter, a-capafter, a-peaks, a-cross, an-ampl, a-gaps, a-steps, a-lag, Level, alternation, primary, Reads, bracketed, an-F, a-G, an-X, a-U, a-W, an-atom, a-listed}
-use Rattle.grammar.specs.inner.Table.{row, fieldOf, relationOf, build}
-use Rattle.grammar.specs.inner.Lexer.{byte, firstOf, curves, relations, fields, levelNames, topNames, openings, heads, numberAt, whenFound, closedBy, operandAt, comparisonAt, timedAt, argumentsAt, namedAt, headedAt, leafAt}
+use Rattle.grammar.specs.Classes.{isDigit, isLetter}
+use Rattle.grammar.specs.Syntax.{Field, of, T, Relation, ge, le, gt, lt, eq, Operand, v, number, Atom, compare, A-to-B, fall, rise, Listed, high, low, lowafter, capafter, peaks, dips, cross, crossup, ampl, gaps, steps, lag, Text, atom, listed, or, and, neg, finally, globally, next, until, weakUntil}
+use Rattle.grammar.specs.Grammar.{Numeral, curveWord, fieldWord, relationWord, OperandWord, the-v, a-number, AtomWord, compared, curves as A-with-B, falling, rising, ListedWord, a-high, a-low, a-lowafter, a-capafter, a-peaks, a-dips, a-cross, a-crossup, an-ampl, a-gaps, a-steps, a-lag, Level, alternation, primary, Reads, bracketed, an-F, a-G, an-X, a-U, a-W, an-atom, a-listed}
+use Rattle.grammar.specs.inner.Kinds.{COMPARE-V, COMPARE, A-TO-B, FALL, RISE, HIGH, LOW, LOWAFTER, CAPAFTER, PEAKS, DIPS, CROSS, CROSSUP, AMPL, GAPS, STEPS, LAG, NEXT, FINALLY, GLOBALLY, UNTIL, WEAK-UNTIL, BRACKET}
+use Rattle.grammar.specs.inner.Table.{row, fieldOf, relationOf, build, unaryFrom, binaryFrom, kinds}
+use Rattle.grammar.specs.inner.Lexer.{byte, firstOf, curves, relations, fields, levelNames, topNames, differenceNames, openings, heads, numberAt, whenFound, closedBy, operandAt, comparisonAt, timedAt, isTimed, argumentsAt, isBare, namedAt, headedAt, leafAt}
 use Rattle.grammar.specs.inner.Parse.{leafOf, node}
-use Rattle.grammar.specs.laws.Word.{Stands, Spelt, Each, each-of-both, nth, inside, bound, before, behind, together, one-byte, found, found-is, and-left, and-right}
+use Rattle.grammar.specs.laws.Word.{Stands, Spelt, Each, each-of-both, noByte, equalsSign, letterOrDigit, tellable, bound, before, behind, together, one-byte, found, found-is}
 use Rattle.grammar.specs.laws.Number.{number-sound, number-complete, numeral-first}
 
 -- the word w stands in s from i up to j
@@ -44,19 +45,19 @@ pub record Held (s : List ℕ) (l : Level) (i j : ℕ) (t : Text) : Type 0 where
 
 -- SOUNDNESS. What the code of a head stands for
 pub data Opening : ℕ → List ℕ → Type 0 where
-  round : Opening 23 (bytes "(")
-  single : {k : ℕ} {w : List ℕ} → 15 ≤ k → k < 19 → 0 < length w → ((x : List ℕ) (p : Text) → Reads alternation x p → Reads primary (w ++ x ++ bytes ")") (node k p p)) → Opening k w
-  double : {k : ℕ} {w : List ℕ} → 19 ≤ k → k < 23 → 0 < length w
+  round : Opening BRACKET (bytes "(")
+  single : {k : ℕ} {w : List ℕ} → unaryFrom ≤ k → k < binaryFrom → 0 < length w → ((x : List ℕ) (p : Text) → Reads alternation x p → Reads primary (w ++ x ++ bytes ")") (node k p p)) → Opening k w
+  double : {k : ℕ} {w : List ℕ} → binaryFrom ≤ k → k < kinds → 0 < length w
       → ((x y : List ℕ) (p q : Text) → Reads alternation x p → Reads alternation y q → Reads primary (w ++ x ++ bytes "," ++ y ++ bytes ")") (node k p q)) → Opening k w
 
 data Head : ℕ → List ℕ → Type 0 where
-  field : {k : ℕ} → k < 3 → Head k (fieldWord (fieldOf k))
-  with-curve : {k : ℕ} {w : List ℕ} → 3 ≤ k → k < 15 → (eqb k 10 || eqb k 14) ≡ false → (eqb k 7 || eqb k 8) ≡ false
+  field : {k : ℕ} → k < FALL → Head k (fieldWord (fieldOf k))
+  with-curve : {k : ℕ} {w : List ℕ} → FALL ≤ k → k < unaryFrom → isBare k ≡ false → isTimed k ≡ false
       → ((c : ℕ) → Reads primary (w ++ curveWord (curveOf c) ++ bytes ")") (leafOf (row k c 0 0))) → Head k w
-  with-time : {k : ℕ} {w : List ℕ} → 3 ≤ k → k < 15 → (eqb k 10 || eqb k 14) ≡ false → (eqb k 7 || eqb k 8) ≡ true
+  with-time : {k : ℕ} {w : List ℕ} → FALL ≤ k → k < unaryFrom → isBare k ≡ false → isTimed k ≡ true
       → ((c n : ℕ) (x : List ℕ) → Numeral x n → Reads primary (w ++ curveWord (curveOf c) ++ bytes "," ++ x ++ bytes ")") (leafOf (row k c 0 n))) → Head k w
-  bare : {k : ℕ} {w : List ℕ} → 3 ≤ k → k < 15 → (eqb k 10 || eqb k 14) ≡ true → Reads primary w (leafOf (row k 0 0 0)) → Head k w
-  opening : {k : ℕ} {w : List ℕ} → 15 ≤ k → Opening k w → Head k w
+  bare : {k : ℕ} {w : List ℕ} → FALL ≤ k → k < unaryFrom → isBare k ≡ true → Reads primary w (leafOf (row k 0 0 0)) → Head k w
+  opening : {k : ℕ} {w : List ℕ} → unaryFrom ≤ k → Opening k w → Head k w
 
 fields-mean : Each Head fields
 fields-mean = (field (lit< tt), refl, (field (lit< tt), refl, (field (lit< tt), refl, tt)))
@@ -65,15 +66,19 @@ level-names-mean : Each Head levelNames
 level-names-mean = (with-curve (lit< tt) (lit< tt) refl refl (λ c. an-atom (falling (curveOf c))), refl, (with-curve (lit< tt) (lit< tt) refl refl (λ c. an-atom (rising (curveOf c))), refl, (with-curve (lit< tt) (lit< tt) refl refl (λ c. a-listed (a-high (curveOf c))), refl, (with-curve (lit< tt) (lit< tt) refl refl (λ c. a-listed (a-low (curveOf c))), refl, (with-time (lit< tt) (lit< tt) refl refl (λ c n x m. a-listed (a-lowafter (curveOf c) m)), refl, (with-time (lit< tt) (lit< tt) refl refl (λ c n x m. a-listed (a-capafter (curveOf c) m)), refl, tt))))))
 
 top-names-mean : Each Head topNames
-top-names-mean = (with-curve (lit< tt) (lit< tt) refl refl (λ c. a-listed (a-peaks (curveOf c))), refl, (bare (lit< tt) (lit< tt) refl (a-listed a-cross), refl, (with-curve (lit< tt) (lit< tt) refl refl (λ c. a-listed (an-ampl (curveOf c))), refl, (with-curve (lit< tt) (lit< tt) refl refl (λ c. a-listed (a-gaps (curveOf c))), refl, (with-curve (lit< tt) (lit< tt) refl refl (λ c. a-listed (a-steps (curveOf c))), refl, (bare (lit< tt) (lit< tt) refl (a-listed a-lag), refl, tt))))))
+top-names-mean = (with-curve (lit< tt) (lit< tt) refl refl (λ c. a-listed (a-peaks (curveOf c))), refl, (with-curve (lit< tt) (lit< tt) refl refl (λ c. a-listed (a-dips (curveOf c))), refl, (bare (lit< tt) (lit< tt) refl (a-listed a-crossup), refl, (bare (lit< tt) (lit< tt) refl (a-listed a-cross), refl, tt))))
+
+difference-names-mean : Each Head differenceNames
+difference-names-mean = (with-curve (lit< tt) (lit< tt) refl refl (λ c. a-listed (an-ampl (curveOf c))), refl, (with-curve (lit< tt) (lit< tt) refl refl (λ c. a-listed (a-gaps (curveOf c))), refl, (with-curve (lit< tt) (lit< tt) refl refl (λ c. a-listed (a-steps (curveOf c))), refl, (bare (lit< tt) (lit< tt) refl (a-listed a-lag), refl, tt))))
 
 openings-mean : Each Head openings
 openings-mean = (opening (lit< tt) (single (lit< tt) (lit< tt) (lit< tt) (λ x p r. an-X r)), refl, (opening (lit< tt) (single (lit< tt) (lit< tt) (lit< tt) (λ x p r. an-F r)), refl, (opening (lit< tt) (single (lit< tt) (lit< tt) (lit< tt) (λ x p r. a-G r)), refl, (opening (lit< tt) (double (lit< tt) (lit< tt) (lit< tt) (λ x y p q r t. a-U r t)), refl, (opening (lit< tt) (double (lit< tt) (lit< tt) (lit< tt) (λ x y p q r t. a-W r t)), refl, (opening (lit< tt) round, refl, tt))))))
 
 heads-mean : Each Head heads
 heads-mean =
-    each-of-both Head fields (levelNames ++ (topNames ++ openings)) fields-mean
-    (each-of-both Head levelNames (topNames ++ openings) level-names-mean (each-of-both Head topNames openings top-names-mean openings-mean))
+    each-of-both Head fields (levelNames ++ (topNames ++ (differenceNames ++ openings))) fields-mean
+    (each-of-both Head levelNames (topNames ++ (differenceNames ++ openings)) level-names-mean
+    (each-of-both Head topNames (differenceNames ++ openings) top-names-mean (each-of-both Head differenceNames openings difference-names-mean openings-mean)))
 
 abbrev Relating : ℕ → List ℕ → Type 0
 Relating n w = relationWord (relationOf n) ≡ w
@@ -120,21 +125,21 @@ module _ (s : List ℕ) where
   operand-held {i} f n j e q h a = go (eqb (byte s j) 118) (eqb (byte s j) 66) (eqb f 0) (numberAt s j) refl refl refl refl h
     where
       go : (x y z : Bool) (u : Found) → eqb (byte s j) 118 ≡ x → eqb (byte s j) 66 ≡ y → eqb f 0 ≡ z → numberAt s j ≡ u
-          → cond x (Node (row 0 f n 0) (j + 1)) (cond (y && z) (Node (row 2 0 n 0) (j + 1)) (whenFound u (λ m k. Node (row 1 f n m) k))) ≡ Node q e → Held s primary i e (leafOf q)
+          → cond x (Node (row COMPARE-V f n 0) (j + 1)) (cond (y && z) (Node (row A-TO-B 0 n 0) (j + 1)) (whenFound u (λ m k. Node (row COMPARE f n m) k))) ≡ Node q e → Held s primary i e (leafOf q)
       go true y z u ex ey ez eu g =
-          held (j + 1) e (row 0 f n 0) q g (run-then s (fieldWord (fieldOf f) ++ relationWord (relationOf n)) (bytes "v") a (run-byte s j 118 (omega arith) (eqb-true (byte s j) 118 ex)))
+          held (j + 1) e (row COMPARE-V f n 0) q g (run-then s (fieldWord (fieldOf f) ++ relationWord (relationOf n)) (bytes "v") a (run-byte s j 118 (omega arith) (eqb-true (byte s j) 118 ex)))
           (an-atom (compared (fieldOf f) (relationOf n) the-v))
       go false true true u ex ey ez eu g =
           let b : Run s i j (bytes "A" ++ relationWord (relationOf n)) = subst (λ (m : ℕ). Run s i j (fieldWord (fieldOf m) ++ relationWord (relationOf n))) (eqb-true f 0 ez) a in
-          held (j + 1) e (row 2 0 n 0) q g (run-then s (bytes "A" ++ relationWord (relationOf n)) (bytes "B") b (run-byte s j 66 (omega arith) (eqb-true (byte s j) 66 ey)))
+          held (j + 1) e (row A-TO-B 0 n 0) q g (run-then s (bytes "A" ++ relationWord (relationOf n)) (bytes "B") b (run-byte s j 66 (omega arith) (eqb-true (byte s j) 66 ey)))
           (an-atom (A-with-B (relationOf n)))
       go false true false (At m k) ex ey ez eu g =
           let c = number-sound s j m k eu in
-          held k e (row 1 f n m) q g (run-then s (fieldWord (fieldOf f) ++ relationWord (relationOf n)) (c .spelling) a (record { here = c .here; upto = c .upto }))
+          held k e (row COMPARE f n m) q g (run-then s (fieldWord (fieldOf f) ++ relationWord (relationOf n)) (c .spelling) a (record { here = c .here; upto = c .upto }))
           (an-atom (compared (fieldOf f) (relationOf n) (a-number (c .holds))))
       go false false z (At m k) ex ey ez eu g =
           let c = number-sound s j m k eu in
-          held k e (row 1 f n m) q g (run-then s (fieldWord (fieldOf f) ++ relationWord (relationOf n)) (c .spelling) a (record { here = c .here; upto = c .upto }))
+          held k e (row COMPARE f n m) q g (run-then s (fieldWord (fieldOf f) ++ relationWord (relationOf n)) (c .spelling) a (record { here = c .here; upto = c .upto }))
           (an-atom (compared (fieldOf f) (relationOf n) (a-number (c .holds))))
       go false true false Missing ex ey ez eu g = absurd-leaf q e g
       go false false z Missing ex ey ez eu g = absurd-leaf q e g
@@ -162,7 +167,7 @@ module _ (s : List ℕ) where
       go true Missing ex eu g = absurd-leaf q e g
       go false u ex eu g = absurd-leaf q e g
 
-  curved-held : {i : ℕ} {w : List ℕ} (k j e : ℕ) (q : Row) → argumentsAt s k j ≡ Node q e → Run s i j w → (eqb k 7 || eqb k 8) ≡ false
+  curved-held : {i : ℕ} {w : List ℕ} (k j e : ℕ) (q : Row) → argumentsAt s k j ≡ Node q e → Run s i j w → isTimed k ≡ false
       → ((c : ℕ) → Reads primary (w ++ curveWord (curveOf c) ++ bytes ")") (leafOf (row k c 0 0))) → Held s primary i e (leafOf q)
   unfolding argumentsAt
   curved-held {i} {w} k j e q h a t b = go (firstOf curves s j) refl (rw t at h)
@@ -171,7 +176,7 @@ module _ (s : List ℕ) where
       go (At c m) eu g = closed-held m e (row k c 0 0) q g (run-then s w (curveWord (curveOf c)) a (curve-run j c m eu)) (b c)
       go Missing eu g = absurd-leaf q e g
 
-  aftertime-held : {i : ℕ} {w : List ℕ} (k j e : ℕ) (q : Row) → argumentsAt s k j ≡ Node q e → Run s i j w → (eqb k 7 || eqb k 8) ≡ true
+  aftertime-held : {i : ℕ} {w : List ℕ} (k j e : ℕ) (q : Row) → argumentsAt s k j ≡ Node q e → Run s i j w → isTimed k ≡ true
       → ((c n : ℕ) (x : List ℕ) → Numeral x n → Reads primary (w ++ curveWord (curveOf c) ++ bytes "," ++ x ++ bytes ")") (leafOf (row k c 0 n))) → Held s primary i e (leafOf q)
   unfolding argumentsAt
   aftertime-held {i} {w} k j e q h a t b = go (firstOf curves s j) refl (rw t at h)
@@ -182,12 +187,12 @@ module _ (s : List ℕ) where
 
   headed-held : {i : ℕ} {w : List ℕ} (k j e : ℕ) (q : Row) → Head k w → Run s i j w → headedAt s k j ≡ Node q e → Held s primary i e (leafOf q)
   unfolding headedAt namedAt
-  headed-held k j e q (field l) a h = comparison-held k j e q (rw (lt-ltb k 3 l) at h) a
-  headed-held k j e q (with-curve l m x y b) a h = curved-held k j e q (rw (le-ltb k 3 l, lt-ltb k 15 m, x) at h) a y b
-  headed-held k j e q (with-time l m x y b) a h = aftertime-held k j e q (rw (le-ltb k 3 l, lt-ltb k 15 m, x) at h) a y b
-  headed-held k j e q (bare l m x b) a h = held j e (row k 0 0 0) q (rw (le-ltb k 3 l, lt-ltb k 15 m, x) at h) a b
+  headed-held k j e q (field l) a h = comparison-held k j e q (rw (lt-ltb k FALL l) at h) a
+  headed-held k j e q (with-curve l m x y b) a h = curved-held k j e q (rw (le-ltb k FALL l, lt-ltb k unaryFrom m, x) at h) a y b
+  headed-held k j e q (with-time l m x y b) a h = aftertime-held k j e q (rw (le-ltb k FALL l, lt-ltb k unaryFrom m, x) at h) a y b
+  headed-held k j e q (bare l m x b) a h = held j e (row k 0 0 0) q (rw (le-ltb k FALL l, lt-ltb k unaryFrom m, x) at h) a b
   headed-held k j e q (opening l o) a h =
-      let g = rw (le-ltb k 3 (omega arith), le-ltb k 15 l) at h in
+      let g = rw (le-ltb k FALL (omega arith), le-ltb k unaryFrom l) at h in
       let z : _≡_ {A = ℕ} 0 1 = cc in absurd (omega arith)
 
   pub leaf-held : (i j : ℕ) (q : Row) → leafAt s i ≡ Node q j → Held s primary i j (leafOf q)
@@ -219,9 +224,9 @@ module _ (s : List ℕ) where
   operand-shut : (f n j : ℕ) → Shut (operandAt s f n j)
   unfolding operandAt
   operand-shut f n j =
-      cond-shut (eqb (byte s j) 118) (Node (row 0 f n 0) (j + 1)) _ tt
-      (cond-shut (eqb (byte s j) 66 && eqb f 0) (Node (row 2 0 n 0) (j + 1)) _ tt
-      (when-shut (numberAt s j) (λ m k. Node (row 1 f n m) k) (λ m k. tt)))
+      cond-shut (eqb (byte s j) 118) (Node (row COMPARE-V f n 0) (j + 1)) _ tt
+      (cond-shut (eqb (byte s j) 66 && eqb f 0) (Node (row A-TO-B 0 n 0) (j + 1)) _ tt
+      (when-shut (numberAt s j) (λ m k. Node (row COMPARE f n m) k) (λ m k. tt)))
 
   comparison-shut : (f j : ℕ) → Shut (comparisonAt s f j)
   unfolding comparisonAt
@@ -236,18 +241,18 @@ module _ (s : List ℕ) where
   named-shut : (k j : ℕ) → Shut (namedAt s k j)
   unfolding namedAt argumentsAt
   named-shut k j =
-      cond-shut (eqb k 10 || eqb k 14) (Node (row k 0 0 0) j) _ tt
-      (when-shut (firstOf curves s j) (λ c m. cond (eqb k 7 || eqb k 8) (timedAt s k c m) (closedBy s 41 (row k c 0 0) m))
-      (λ c m. cond-shut (eqb k 7 || eqb k 8) (timedAt s k c m) (closedBy s 41 (row k c 0 0) m) (timed-shut k c m) (closed-shut (row k c 0 0) m)))
+      cond-shut (isBare k) (Node (row k 0 0 0) j) _ tt
+      (when-shut (firstOf curves s j) (λ c m. cond (isTimed k) (timedAt s k c m) (closedBy s 41 (row k c 0 0) m))
+      (λ c m. cond-shut (isTimed k) (timedAt s k c m) (closedBy s 41 (row k c 0 0) m) (timed-shut k c m) (closed-shut (row k c 0 0) m)))
 
   headed-open : {i : ℕ} {w : List ℕ} (k j n e : ℕ) → Head k w → Run s i j w → headedAt s k j ≡ Open n e → Spelt s Opening i n e
   unfolding headedAt
-  headed-open k j n e (field l) a h = absurd (subst Shut (rw (lt-ltb k 3 l) at h) (comparison-shut k j))
-  headed-open k j n e (with-curve l m x y b) a h = absurd (subst Shut (rw (le-ltb k 3 l, lt-ltb k 15 m) at h) (named-shut k j))
-  headed-open k j n e (with-time l m x y b) a h = absurd (subst Shut (rw (le-ltb k 3 l, lt-ltb k 15 m) at h) (named-shut k j))
-  headed-open k j n e (bare l m x b) a h = absurd (subst Shut (rw (le-ltb k 3 l, lt-ltb k 15 m) at h) (named-shut k j))
+  headed-open k j n e (field l) a h = absurd (subst Shut (rw (lt-ltb k FALL l) at h) (comparison-shut k j))
+  headed-open k j n e (with-curve l m x y b) a h = absurd (subst Shut (rw (le-ltb k FALL l, lt-ltb k unaryFrom m) at h) (named-shut k j))
+  headed-open k j n e (with-time l m x y b) a h = absurd (subst Shut (rw (le-ltb k FALL l, lt-ltb k unaryFrom m) at h) (named-shut k j))
+  headed-open k j n e (bare l m x b) a h = absurd (subst Shut (rw (le-ltb k FALL l, lt-ltb k unaryFrom m) at h) (named-shut k j))
   headed-open {i} {w} k j n e (opening l o) a h =
-      let g = rw (le-ltb k 3 (omega arith), le-ltb k 15 l) at h in
+      let g = rw (le-ltb k FALL (omega arith), le-ltb k unaryFrom l) at h in
       let x : k ≡ n = cc in
       let y : j ≡ e = cc in
       record { spelling = w; holds = subst (λ (m : ℕ). Opening m w) x o; here = a .here; upto = sym y ∙ a .upto }
@@ -292,6 +297,10 @@ relation-code gt = refl
 relation-code lt = refl
 relation-code eq = refl
 
+-- a name or a number ends there: no letter and no digit follows that would carry it on
+abbrev pub WordEnds : List ℕ → ℕ → Type 0
+WordEnds s j = letterOrDigit (byte s j) ≡ false
+
 -- the leaf that is found at i, and where it stops
 pub record Lexed (s : List ℕ) (i j : ℕ) (t : Text) : Type 0 where
   pub made : Row
@@ -300,22 +309,25 @@ pub record Lexed (s : List ℕ) (i j : ℕ) (t : Text) : Type 0 where
 
 module _ (s : List ℕ) where
   curve-found : (i : ℕ) (c : Curve) → Stands s i (curveWord c) → firstOf curves s i ≡ At (curveCode c) (i + 1)
-  curve-found i A st = found s curves 0 i (lit< tt) refl st
-  curve-found i B st = found s curves 1 i (lit< tt) refl st
+  curve-found i A st = found s noByte curves 0 (bytes "A") i refl st refl
+  curve-found i B st = found s noByte curves 1 (bytes "B") i refl st refl
 
   field-found : (i : ℕ) (f : Field) → Stands s i (fieldWord f) → firstOf heads s i ≡ At (fieldCode f) (i + 1)
-  field-found i (of A) st = found s heads 0 i (lit< tt) refl st
-  field-found i (of B) st = found s heads 1 i (lit< tt) refl st
-  field-found i T st = found s heads 2 i (lit< tt) refl st
+  field-found i (of A) st = found s noByte heads 0 (bytes "A") i refl st refl
+  field-found i (of B) st = found s noByte heads 1 (bytes "B") i refl st refl
+  field-found i T st = found s noByte heads 2 (bytes "T") i refl st refl
 
   relation-found : (i : ℕ) (r : Relation) → Stands s i (relationWord r) → (byte s (i + length (relationWord r)) ≡ 61 → ⊥) → firstOf relations s i ≡ At (relationCode r) (i + length (relationWord r))
-  relation-found i ge st n = rw (st .0, st .1 .0)
-  relation-found i le st n = rw (st .0, st .1 .0)
-  relation-found i gt st n = rw (st .0, ne-eqb (byte s (i + 1)) 61 n)
-  relation-found i lt st n = rw (st .0, ne-eqb (byte s (i + 1)) 61 n)
-  relation-found i eq st n = rw (st .0)
+  relation-found i r st n = found s equalsSign relations (relationCode r) (relationWord r) i (relation-tellable r) st (ne-eqb (byte s (i + length (relationWord r))) 61 n)
+    where
+      relation-tellable : (r : Relation) → tellable equalsSign relations (relationCode r) (relationWord r) ≡ true
+      relation-tellable ge = refl
+      relation-tellable le = refl
+      relation-tellable gt = refl
+      relation-tellable lt = refl
+      relation-tellable eq = refl
 
-  field-low : (f : Field) → fieldCode f < 3
+  field-low : (f : Field) → fieldCode f < FALL
   field-low (of A) = lit< tt
   field-low (of B) = lit< tt
   field-low T = lit< tt
@@ -324,7 +336,7 @@ module _ (s : List ℕ) where
   comparison-at : (i j : ℕ) (f : Field) (r : Relation) → Stands s i (fieldWord f) → Stands s (i + 1) (relationWord r) → j ≡ i + 1 + length (relationWord r) → (byte s j ≡ 61 → ⊥) → leafAt s i ≡ operandAt s (fieldCode f) (relationCode r) j
   unfolding leafAt headedAt comparisonAt
   comparison-at i j f r a b e n =
-      rw (field-found i f a, lt-ltb (fieldCode f) 3 (field-low f), relation-found (i + 1) r b (λ q. n (ap (byte s) e ∙ q)))
+      rw (field-found i f a, lt-ltb (fieldCode f) FALL (field-low f), relation-found (i + 1) r b (λ q. n (ap (byte s) e ∙ q)))
       (ap (operandAt s (fieldCode f) (relationCode r)) (sym e))
 
   field-length : (f : Field) → length (fieldWord f) ≡ 1
@@ -342,8 +354,8 @@ module _ (s : List ℕ) where
   operand-first j (a-number m) st e = omega (arith, numeral-first s j m st)
 
   abbrev operandRow : ℕ → ℕ → Operand → Row
-  operandRow f r v = row 0 f r 0
-  operandRow f r (number n) = row 1 f r n
+  operandRow f r v = row COMPARE-V f r 0
+  operandRow f r (number n) = row COMPARE f r n
 
   operand-found : {w : List ℕ} {o : Operand} (f r j : ℕ) → OperandWord w o → Stands s j w → isDigit (byte s (j + length w)) ≡ false → operandAt s f r j ≡ Node (operandRow f r o) (j + length w)
   unfolding operandAt
@@ -383,7 +395,7 @@ module _ (s : List ℕ) where
       let front = before s (bytes "A" ++ relationWord r) (bytes "B") i st in
       let back : Stands s j (bytes "B") = subst (λ (k : ℕ). Stands s k (bytes "B")) (omega arith) (behind s (bytes "A" ++ relationWord r) (bytes "B") i st) in
       let x = back .0 in
-      lexed (j + 1) _ (row 2 0 (relationCode r) 0)
+      lexed (j + 1) _ (row A-TO-B 0 (relationCode r) 0)
       (comparison-at i j (of A) r (before s (bytes "A") (relationWord r) i front) (behind s (bytes "A") (relationWord r) i front) refl (λ q. omega arith)
       ∙ rw (ne-eqb (byte s j) 118 (omega arith), eq-eqb (byte s j) 66 x))
       (ap (λ (q : Relation). atom (A-to-B q)) (relation-code r)) (omega arith)
@@ -392,8 +404,8 @@ module _ (s : List ℕ) where
   closed-at : (r : Row) (j : ℕ) → byte s j ≡ 41 → closedBy s 41 r j ≡ Node r (j + 1)
   closed-at r j e = rw (eq-eqb (byte s j) 41 e)
 
-  curved-lexed : {t : Text} (k : ℕ) (w : List ℕ) (c : Curve) (i : ℕ) → (Stands s i w → firstOf heads s i ≡ At k (i + length w)) → 3 ≤ k → k < 15
-      → (eqb k 10 || eqb k 14) ≡ false → (eqb k 7 || eqb k 8) ≡ false → leafOf (row k (curveCode c) 0 0) ≡ t
+  curved-lexed : {t : Text} (k : ℕ) (w : List ℕ) (c : Curve) (i : ℕ) → tellable noByte heads k w ≡ true → FALL ≤ k → k < unaryFrom
+      → isBare k ≡ false → isTimed k ≡ false → leafOf (row k (curveCode c) 0 0) ≡ t
       → Stands s i (w ++ curveWord c ++ bytes ")") → Lexed s i (i + length (w ++ curveWord c ++ bytes ")")) t
   unfolding leafAt headedAt namedAt argumentsAt
   curved-lexed k w c i find l m x y t st =
@@ -404,11 +416,11 @@ module _ (s : List ℕ) where
       let front = before s (w ++ curveWord c) (bytes ")") i st in
       let back : Stands s (j + 1) (bytes ")") = subst (λ (n : ℕ). Stands s n (bytes ")")) (omega arith) (behind s (w ++ curveWord c) (bytes ")") i st) in
       lexed (j + 1 + 1) _ (row k (curveCode c) 0 0)
-      (rw (find (before s w (curveWord c) i front), le-ltb k 3 l, lt-ltb k 15 m, x, curve-found j c (behind s w (curveWord c) i front), y) (closed-at (row k (curveCode c) 0 0) (j + 1) (back .0)))
+      (rw (found s noByte heads k w i find (before s w (curveWord c) i front) refl, le-ltb k FALL l, lt-ltb k unaryFrom m, x, curve-found j c (behind s w (curveWord c) i front), y) (closed-at (row k (curveCode c) 0 0) (j + 1) (back .0)))
       t (omega arith)
 
-  timed-lexed : {t : Text} {u : List ℕ} {n : ℕ} (k : ℕ) (w : List ℕ) (c : Curve) (i : ℕ) → (Stands s i w → firstOf heads s i ≡ At k (i + length w)) → 3 ≤ k → k < 15
-      → (eqb k 10 || eqb k 14) ≡ false → (eqb k 7 || eqb k 8) ≡ true → leafOf (row k (curveCode c) 0 n) ≡ t → Numeral u n
+  timed-lexed : {t : Text} {u : List ℕ} {n : ℕ} (k : ℕ) (w : List ℕ) (c : Curve) (i : ℕ) → tellable noByte heads k w ≡ true → FALL ≤ k → k < unaryFrom
+      → isBare k ≡ false → isTimed k ≡ true → leafOf (row k (curveCode c) 0 n) ≡ t → Numeral u n
       → Stands s i (w ++ curveWord c ++ bytes "," ++ u ++ bytes ")") → Lexed s i (i + length (w ++ curveWord c ++ bytes "," ++ u ++ bytes ")")) t
   unfolding leafAt headedAt namedAt argumentsAt timedAt
   timed-lexed {t} {u} {n} k w c i find l m x y t′ num st =
@@ -426,59 +438,66 @@ module _ (s : List ℕ) where
       let close : Stands s (j + 1 + 1 + length u) (bytes ")") = subst (λ (q : ℕ). Stands s q (bytes ")")) (omega arith) (behind s (w ++ curveWord c ++ bytes "," ++ u) (bytes ")") i st) in
       let stop : isDigit (byte s (j + 1 + 1 + length u)) ≡ false = rw (close .0) refl in
       lexed (j + 1 + 1 + length u + 1) _ (row k (curveCode c) 0 n)
-      (rw (find (before s w (curveWord c) i s1), le-ltb k 3 l, lt-ltb k 15 m, x, curve-found j c (behind s w (curveWord c) i s1), y, eq-eqb (byte s (j + 1)) 44 (comma .0), number-complete s (j + 1 + 1) num digits stop)
+      (rw (found s noByte heads k w i find (before s w (curveWord c) i s1) refl, le-ltb k FALL l, lt-ltb k unaryFrom m, x, curve-found j c (behind s w (curveWord c) i s1), y, eq-eqb (byte s (j + 1)) 44 (comma .0), number-complete s (j + 1 + 1) num digits stop)
       (closed-at (row k (curveCode c) 0 n) (j + 1 + 1 + length u) (close .0)))
       t′ (omega arith)
 
-  bare-lexed : {t : Text} (k : ℕ) (w : List ℕ) (i : ℕ) → firstOf heads s i ≡ At k (i + length w) → 3 ≤ k → k < 15
-      → (eqb k 10 || eqb k 14) ≡ true → leafOf (row k 0 0 0) ≡ t → Lexed s i (i + length w) t
+  bare-lexed : {t : Text} (k : ℕ) (w : List ℕ) (i : ℕ) → tellable letterOrDigit heads k w ≡ true → FALL ≤ k → k < unaryFrom
+      → isBare k ≡ true → leafOf (row k 0 0 0) ≡ t → Stands s i w → WordEnds s (i + length w) → Lexed s i (i + length w) t
   unfolding leafAt headedAt namedAt
-  bare-lexed k w i find l m x t = lexed (i + length w) _ (row k 0 0 0) (rw (find, le-ltb k 3 l, lt-ltb k 15 m, x)) t refl
+  bare-lexed k w i find l m x t st e = lexed (i + length w) _ (row k 0 0 0) (rw (found s letterOrDigit heads k w i find st e, le-ltb k FALL l, lt-ltb k unaryFrom m, x)) t refl
 
-  pub atom-lexed : {w : List ℕ} {a : Atom} (i : ℕ) → AtomWord w a → Stands s i w → isDigit (byte s (i + length w)) ≡ false → Lexed s i (i + length w) (atom a)
-  atom-lexed i (compared f r o) st e = compared-lexed i f r o st e
+  pub atom-lexed : {w : List ℕ} {a : Atom} (i : ℕ) → AtomWord w a → Stands s i w → WordEnds s (i + length w) → Lexed s i (i + length w) (atom a)
+  atom-lexed {w} i (compared f r o) st e = compared-lexed i f r o st (none-left (isDigit (byte s (i + length w))) (isLetter (byte s (i + length w))) e)
   atom-lexed i (A-with-B r) st e = curves-lexed i r st
-  atom-lexed i (falling c) st e = curved-lexed 3 (bytes "fall(") c i (found s heads 3 i (lit< tt) refl) (lit< tt) (lit< tt) refl refl (ap (λ (x : Curve). atom (fall x)) (curve-code c)) st
-  atom-lexed i (rising c) st e = curved-lexed 4 (bytes "rise(") c i (found s heads 4 i (lit< tt) refl) (lit< tt) (lit< tt) refl refl (ap (λ (x : Curve). atom (rise x)) (curve-code c)) st
+  atom-lexed i (falling c) st e = curved-lexed FALL (bytes "fall(") c i refl (lit< tt) (lit< tt) refl refl (ap (λ (x : Curve). atom (fall x)) (curve-code c)) st
+  atom-lexed i (rising c) st e = curved-lexed RISE (bytes "rise(") c i refl (lit< tt) (lit< tt) refl refl (ap (λ (x : Curve). atom (rise x)) (curve-code c)) st
 
-  pub listed-lexed : {w : List ℕ} {q : Listed} (i : ℕ) → ListedWord w q → Stands s i w → Lexed s i (i + length w) (listed q)
-  listed-lexed i (a-high c) st = curved-lexed 5 (bytes "high(") c i (found s heads 5 i (lit< tt) refl) (lit< tt) (lit< tt) refl refl (ap (λ (x : Curve). listed (high x)) (curve-code c)) st
-  listed-lexed i (a-low c) st = curved-lexed 6 (bytes "low(") c i (found s heads 6 i (lit< tt) refl) (lit< tt) (lit< tt) refl refl (ap (λ (x : Curve). listed (low x)) (curve-code c)) st
-  listed-lexed i (a-lowafter {k = n} c m) st = timed-lexed 7 (bytes "lowafter(") c i (found s heads 7 i (lit< tt) refl) (lit< tt) (lit< tt) refl refl (ap (λ (x : Curve). listed (lowafter x n)) (curve-code c)) m st
-  listed-lexed i (a-capafter {k = n} c m) st = timed-lexed 8 (bytes "capafter(") c i (found s heads 8 i (lit< tt) refl) (lit< tt) (lit< tt) refl refl (ap (λ (x : Curve). listed (capafter x n)) (curve-code c)) m st
-  listed-lexed i (a-peaks c) st = curved-lexed 9 (bytes "peaks(") c i (found s heads 9 i (lit< tt) refl) (lit< tt) (lit< tt) refl refl (ap (λ (x : Curve). listed (peaks x)) (curve-code c)) st
-  listed-lexed i a-cross st = bare-lexed 10 (bytes "cross") i (found s heads 10 i (lit< tt) refl st) (lit< tt) (lit< tt) refl refl
-  listed-lexed i (an-ampl c) st = curved-lexed 11 (bytes "ampl(") c i (found s heads 11 i (lit< tt) refl) (lit< tt) (lit< tt) refl refl (ap (λ (x : Curve). listed (ampl x)) (curve-code c)) st
-  listed-lexed i (a-gaps c) st = curved-lexed 12 (bytes "gaps(") c i (found s heads 12 i (lit< tt) refl) (lit< tt) (lit< tt) refl refl (ap (λ (x : Curve). listed (gaps x)) (curve-code c)) st
-  listed-lexed i (a-steps c) st = curved-lexed 13 (bytes "steps(") c i (found s heads 13 i (lit< tt) refl) (lit< tt) (lit< tt) refl refl (ap (λ (x : Curve). listed (steps x)) (curve-code c)) st
-  listed-lexed i a-lag st = bare-lexed 14 (bytes "lag") i (found s heads 14 i (lit< tt) refl st) (lit< tt) (lit< tt) refl refl
+  pub listed-lexed : {w : List ℕ} {q : Listed} (i : ℕ) → ListedWord w q → Stands s i w → WordEnds s (i + length w) → Lexed s i (i + length w) (listed q)
+  listed-lexed i (a-high c) st e = curved-lexed HIGH (bytes "high(") c i refl (lit< tt) (lit< tt) refl refl (ap (λ (x : Curve). listed (high x)) (curve-code c)) st
+  listed-lexed i (a-low c) st e = curved-lexed LOW (bytes "low(") c i refl (lit< tt) (lit< tt) refl refl (ap (λ (x : Curve). listed (low x)) (curve-code c)) st
+  listed-lexed i (a-lowafter {k = n} c m) st e = timed-lexed LOWAFTER (bytes "lowafter(") c i refl (lit< tt) (lit< tt) refl refl (ap (λ (x : Curve). listed (lowafter x n)) (curve-code c)) m st
+  listed-lexed i (a-capafter {k = n} c m) st e = timed-lexed CAPAFTER (bytes "capafter(") c i refl (lit< tt) (lit< tt) refl refl (ap (λ (x : Curve). listed (capafter x n)) (curve-code c)) m st
+  listed-lexed i (a-peaks c) st e = curved-lexed PEAKS (bytes "peaks(") c i refl (lit< tt) (lit< tt) refl refl (ap (λ (x : Curve). listed (peaks x)) (curve-code c)) st
+  listed-lexed i (a-dips c) st e = curved-lexed DIPS (bytes "dips(") c i refl (lit< tt) (lit< tt) refl refl (ap (λ (x : Curve). listed (dips x)) (curve-code c)) st
+  listed-lexed i a-cross st e = bare-lexed CROSS (bytes "cross") i refl (lit< tt) (lit< tt) refl refl st e
+  listed-lexed i a-crossup st e = bare-lexed CROSSUP (bytes "crossup") i refl (lit< tt) (lit< tt) refl refl st e
+  listed-lexed i (an-ampl c) st e = curved-lexed AMPL (bytes "ampl(") c i refl (lit< tt) (lit< tt) refl refl (ap (λ (x : Curve). listed (ampl x)) (curve-code c)) st
+  listed-lexed i (a-gaps c) st e = curved-lexed GAPS (bytes "gaps(") c i refl (lit< tt) (lit< tt) refl refl (ap (λ (x : Curve). listed (gaps x)) (curve-code c)) st
+  listed-lexed i (a-steps c) st e = curved-lexed STEPS (bytes "steps(") c i refl (lit< tt) (lit< tt) refl refl (ap (λ (x : Curve). listed (steps x)) (curve-code c)) st
+  listed-lexed i a-lag st e = bare-lexed LAG (bytes "lag") i refl (lit< tt) (lit< tt) refl refl st e
+
+  -- `crossup` IS NEVER READ AS `cross`, wherever it stands and whatever follows
+  pub crossup-whole : (i : ℕ) → Stands s i (bytes "crossup") → leafAt s i ≡ Node (row CROSSUP 0 0 0) (i + 7)
+  unfolding leafAt headedAt namedAt
+  crossup-whole i st = rw (found s noByte heads CROSSUP (bytes "crossup") i refl st refl)
 
   -- the openings
-  opened-at : (k : ℕ) (w : List ℕ) (i : ℕ) → firstOf heads s i ≡ At k (i + length w) → 15 ≤ k → leafAt s i ≡ Open k (i + length w)
+  opened-at : (k : ℕ) (w : List ℕ) (i : ℕ) → tellable noByte heads k w ≡ true → unaryFrom ≤ k → Stands s i w → leafAt s i ≡ Open k (i + length w)
   unfolding leafAt headedAt
-  opened-at k w i find l = rw (find, le-ltb k 3 (omega arith), le-ltb k 15 l)
+  opened-at k w i find l st = rw (found s noByte heads k w i find st refl, le-ltb k FALL (omega arith), le-ltb k unaryFrom l)
 
-  pub X-opens : (i : ℕ) → Stands s i (bytes "X(") → leafAt s i ≡ Open 16 (i + 2)
-  X-opens i st = opened-at 16 (bytes "X(") i (found s heads 15 i (lit< tt) refl st) (lit< tt)
+  pub X-opens : (i : ℕ) → Stands s i (bytes "X(") → leafAt s i ≡ Open NEXT (i + 2)
+  X-opens i st = opened-at NEXT (bytes "X(") i refl (lit< tt) st
 
-  pub F-opens : (i : ℕ) → Stands s i (bytes "F(") → leafAt s i ≡ Open 17 (i + 2)
-  F-opens i st = opened-at 17 (bytes "F(") i (found s heads 16 i (lit< tt) refl st) (lit< tt)
+  pub F-opens : (i : ℕ) → Stands s i (bytes "F(") → leafAt s i ≡ Open FINALLY (i + 2)
+  F-opens i st = opened-at FINALLY (bytes "F(") i refl (lit< tt) st
 
-  pub G-opens : (i : ℕ) → Stands s i (bytes "G(") → leafAt s i ≡ Open 18 (i + 2)
-  G-opens i st = opened-at 18 (bytes "G(") i (found s heads 17 i (lit< tt) refl st) (lit< tt)
+  pub G-opens : (i : ℕ) → Stands s i (bytes "G(") → leafAt s i ≡ Open GLOBALLY (i + 2)
+  G-opens i st = opened-at GLOBALLY (bytes "G(") i refl (lit< tt) st
 
-  pub U-opens : (i : ℕ) → Stands s i (bytes "U(") → leafAt s i ≡ Open 21 (i + 2)
-  U-opens i st = opened-at 21 (bytes "U(") i (found s heads 18 i (lit< tt) refl st) (lit< tt)
+  pub U-opens : (i : ℕ) → Stands s i (bytes "U(") → leafAt s i ≡ Open UNTIL (i + 2)
+  U-opens i st = opened-at UNTIL (bytes "U(") i refl (lit< tt) st
 
-  pub W-opens : (i : ℕ) → Stands s i (bytes "W(") → leafAt s i ≡ Open 22 (i + 2)
-  W-opens i st = opened-at 22 (bytes "W(") i (found s heads 19 i (lit< tt) refl st) (lit< tt)
+  pub W-opens : (i : ℕ) → Stands s i (bytes "W(") → leafAt s i ≡ Open WEAK-UNTIL (i + 2)
+  W-opens i st = opened-at WEAK-UNTIL (bytes "W(") i refl (lit< tt) st
 
-  pub round-opens : (i : ℕ) → Stands s i (bytes "(") → leafAt s i ≡ Open 23 (i + 1)
-  round-opens i st = opened-at 23 (bytes "(") i (found s heads 20 i (lit< tt) refl st) (lit< tt)
+  pub round-opens : (i : ℕ) → Stands s i (bytes "(") → leafAt s i ≡ Open BRACKET (i + 1)
+  round-opens i st = opened-at BRACKET (bytes "(") i refl (lit< tt) st
 
 -- the kind of a leaf is one of the kinds of leaves
 abbrev Low : Leaf → Type 0
-Low (Node r j) = r .kind < 15
+Low (Node r j) = r .kind < unaryFrom
 Low (Open k j) = Unit {0}
 Low Nothing = Unit {0}
 
@@ -491,35 +510,35 @@ when-low (At n j) k h = h n j
 when-low Missing k h = tt
 
 module _ (s : List ℕ) where
-  closed-low : (r : Row) (j : ℕ) → r .kind < 15 → Low (closedBy s 41 r j)
+  closed-low : (r : Row) (j : ℕ) → r .kind < unaryFrom → Low (closedBy s 41 r j)
   closed-low r j h = cond-low (eqb (byte s j) 41) (Node r (j + 1)) Nothing (λ e. h) (λ e. tt)
 
   operand-low : (f n j : ℕ) → Low (operandAt s f n j)
   unfolding operandAt
   operand-low f n j =
-      cond-low (eqb (byte s j) 118) (Node (row 0 f n 0) (j + 1)) _ (λ e. lit< tt)
-      (λ e. cond-low (eqb (byte s j) 66 && eqb f 0) (Node (row 2 0 n 0) (j + 1)) _ (λ q. lit< tt)
-      (λ q. when-low (numberAt s j) (λ m k. Node (row 1 f n m) k) (λ m k. lit< tt)))
+      cond-low (eqb (byte s j) 118) (Node (row COMPARE-V f n 0) (j + 1)) _ (λ e. lit< tt)
+      (λ e. cond-low (eqb (byte s j) 66 && eqb f 0) (Node (row A-TO-B 0 n 0) (j + 1)) _ (λ q. lit< tt)
+      (λ q. when-low (numberAt s j) (λ m k. Node (row COMPARE f n m) k) (λ m k. lit< tt)))
 
-  timed-low : (k c j : ℕ) → k < 15 → Low (timedAt s k c j)
+  timed-low : (k c j : ℕ) → k < unaryFrom → Low (timedAt s k c j)
   unfolding timedAt
   timed-low k c j h =
       cond-low (eqb (byte s j) 44) _ Nothing
       (λ e. when-low (numberAt s (j + 1)) (λ n m. closedBy s 41 (row k c 0 n) m) (λ n m. closed-low (row k c 0 n) m h)) (λ e. tt)
 
-  named-low : (k j : ℕ) → k < 15 → Low (namedAt s k j)
+  named-low : (k j : ℕ) → k < unaryFrom → Low (namedAt s k j)
   unfolding namedAt argumentsAt
   named-low k j h =
-      cond-low (eqb k 10 || eqb k 14) (Node (row k 0 0 0) j) _ (λ e. h)
-      (λ e. when-low (firstOf curves s j) (λ c m. cond (eqb k 7 || eqb k 8) (timedAt s k c m) (closedBy s 41 (row k c 0 0) m))
-      (λ c m. cond-low (eqb k 7 || eqb k 8) (timedAt s k c m) (closedBy s 41 (row k c 0 0) m) (λ q. timed-low k c m h) (λ q. closed-low (row k c 0 0) m h)))
+      cond-low (isBare k) (Node (row k 0 0 0) j) _ (λ e. h)
+      (λ e. when-low (firstOf curves s j) (λ c m. cond (isTimed k) (timedAt s k c m) (closedBy s 41 (row k c 0 0) m))
+      (λ c m. cond-low (isTimed k) (timedAt s k c m) (closedBy s 41 (row k c 0 0) m) (λ q. timed-low k c m h) (λ q. closed-low (row k c 0 0) m h)))
 
   headed-low : (k j : ℕ) → Low (headedAt s k j)
   unfolding headedAt comparisonAt
   headed-low k j =
-      cond-low (ltb k 3) _ _ (λ e. when-low (firstOf relations s j) (operandAt s k) (operand-low k))
-      (λ e. cond-low (ltb k 15) (namedAt s k j) (Open k j) (λ q. named-low k j (ltb-true k 15 q)) (λ q. tt))
+      cond-low (ltb k FALL) _ _ (λ e. when-low (firstOf relations s j) (operandAt s k) (operand-low k))
+      (λ e. cond-low (ltb k unaryFrom) (namedAt s k j) (Open k j) (λ q. named-low k j (ltb-true k unaryFrom q)) (λ q. tt))
 
-  pub leaf-low : (i j : ℕ) (r : Row) → leafAt s i ≡ Node r j → r .kind < 15
+  pub leaf-low : (i j : ℕ) (r : Row) → leafAt s i ≡ Node r j → r .kind < unaryFrom
   unfolding leafAt
   leaf-low i j r e = subst Low e (when-low (firstOf heads s i) (headedAt s) headed-low)

@@ -13,14 +13,15 @@ use Rattle.grammar.specs.declared.Row.{Row}
 use Rattle.grammar.specs.declared.Leaf.{Leaf}
 use Rattle.grammar.specs.declared.Leaf.the-variants.{Node, Open, Nothing}
 use Rattle.grammar.specs.Bytes.{bytes}
-use Rattle.grammar.specs.Classes.{isDigit}
 use Rattle.grammar.specs.Syntax.{of, T, Atom, Listed, Text, atom, listed}
 use Rattle.grammar.specs.Size.{mixed}
-use Rattle.grammar.specs.Grammar.{AtomWord, compared, curves as A-with-B, falling, rising, ListedWord, a-high, a-low, a-lowafter, a-capafter, a-peaks, a-cross, an-ampl, a-gaps, a-steps, a-lag, Level, alternation, conjunction, negation, primary, Reads, one-conjunction, bar, one-negation, ampersand, one-primary, bang, bracketed, an-F, a-G, an-X, a-U, a-W, an-atom, a-listed, ReadsWhole}
+use Rattle.grammar.specs.Grammar.{AtomWord, compared, curves as A-with-B, falling, rising, ListedWord, a-high, a-low, a-lowafter, a-capafter, a-peaks, a-dips, a-cross, a-crossup, an-ampl, a-gaps, a-steps, a-lag, Level, alternation, conjunction, negation, primary, Reads, one-conjunction, bar, one-negation, ampersand, one-primary, bang, bracketed, an-F, a-G, an-X, a-U, a-W, an-atom, a-listed, ReadsWhole}
+use Rattle.grammar.specs.inner.Kinds.{NOT, NEXT, FINALLY, GLOBALLY, UNTIL, WEAK-UNTIL, BRACKET}
+use Rattle.grammar.specs.inner.Table.{binaryFrom, kinds}
 use Rattle.grammar.specs.inner.Lexer.{byte, leafAt}
 use Rattle.grammar.specs.inner.Parse.{Joiner, bars, ampersands, sign, Task, chain, more, not-at, prim-at, argument, part, joinKind, leafOf, node, Out, got, unread, after, pick, opened, begun, closed, parse, rank, Parsed, one, none, unmixed, atEnd, parsed}
-use Rattle.grammar.specs.laws.Word.{Stands, Spelt, inside, bound, before, behind, together, same-word, stands-self}
-use Rattle.grammar.specs.laws.Leaf.{Run, run-then, run-byte, Held, Opening, round, single, double, leaf-held, open-held, Lexed, atom-lexed, listed-lexed, X-opens, F-opens, G-opens, U-opens, W-opens, round-opens}
+use Rattle.grammar.specs.laws.Word.{Stands, Spelt, letterOrDigit, inside, bound, before, behind, together, same-word, stands-self}
+use Rattle.grammar.specs.laws.Leaf.{Run, run-then, run-byte, Held, Opening, round, single, double, leaf-held, open-held, WordEnds, Lexed, atom-lexed, listed-lexed, X-opens, F-opens, G-opens, U-opens, W-opens, round-opens}
 
 -- the level of a chain, and of its parts
 abbrev level : Joiner → Level
@@ -64,7 +65,7 @@ module _ (s : List ℕ) where
         reads = read-joined o (x .reads) (y .reads);
       }
 
-  held-bang : {i j : ℕ} {t : Text} → byte s i ≡ 33 → Held s negation (i + 1) j t → Held s negation i j (node 15 t t)
+  held-bang : {i j : ℕ} {t : Text} → byte s i ≡ 33 → Held s negation (i + 1) j t → Held s negation i j (node NOT t t)
   held-bang {i} b x =
       record { spelling = bytes "!" ++ x .spelling; run = run-then s (bytes "!") (x .spelling) (run-byte s i 33 (lit< tt) b) (x .run); reads = bang (x .reads) }
 
@@ -93,7 +94,7 @@ module _ (s : List ℕ) where
   more-sound o t i unread k true e h m = tt
   more-sound o t i p k false e h m = λ a q. q
 
-  not-sound : (i : ℕ) (o p : Out) (b : Bool) → eqb (byte s i) 33 ≡ b → Sound s (not-at (i + 1)) o → Sound s (prim-at i) p → Sound s (not-at i) (pick b (λ _. after o (λ t j. got (node 15 t t) j)) (λ _. p))
+  not-sound : (i : ℕ) (o p : Out) (b : Bool) → eqb (byte s i) 33 ≡ b → Sound s (not-at (i + 1)) o → Sound s (prim-at i) p → Sound s (not-at i) (pick b (λ _. after o (λ t j. got (node NOT t t) j)) (λ _. p))
   not-sound i (got t j) p true e h m = held-bang (eqb-true (byte s i) 33 e) h
   not-sound i unread p true e h m = tt
   not-sound i o (got t j) false e h m = held-primary m
@@ -143,8 +144,8 @@ module _ (s : List ℕ) where
 
   opened-sound : {i j : ℕ} (k : ℕ) (w : List ℕ) (arg : ℕ → ℕ → Out) → Opening k w → Run s i j w → ((b m : ℕ) → Sound s (argument b m) (arg b m)) → Sound s (prim-at i) (opened k arg j)
   opened-sound {j = j} k w arg round a f = round-sound (arg 41 j) a (f 41 j)
-  opened-sound {j = j} k w arg (single h l n r) a f = rw (ne-eqb k 23 (omega arith), lt-ltb k 19 l) (single-sound k w (arg 41 j) a r (f 41 j))
-  opened-sound {j = j} k w arg (double l m n r) a f = rw (ne-eqb k 23 (omega arith), le-ltb k 19 l) (double-sound k w (arg 44 j) arg a r f (f 44 j))
+  opened-sound {j = j} k w arg (single h l n r) a f = rw (ne-eqb k BRACKET (omega arith), lt-ltb k binaryFrom l) (single-sound k w (arg 41 j) a r (f 41 j))
+  opened-sound {j = j} k w arg (double l m n r) a f = rw (ne-eqb k BRACKET (omega arith), le-ltb k binaryFrom l) (double-sound k w (arg 44 j) arg a r f (f 44 j))
 
   prim-sound : (i : ℕ) (l : Leaf) (arg : ℕ → ℕ → Out) → leafAt s i ≡ l → ((b m : ℕ) → Sound s (argument b m) (arg b m)) → Sound s (prim-at i) (begun l arg)
   prim-sound i (Node r j) arg e f = leaf-held s i j r e
@@ -162,19 +163,15 @@ module _ (s : List ℕ) where
   sound (suc f) (prim-at i) = prim-sound i (leafAt s i) (λ b j. parse s f (argument b j)) refl (λ b j. sound f (argument b j))
   sound (suc f) (argument b i) = argument-sound b i (parse s f (chain bars i)) (sound f (chain bars i))
 
--- COMPLETENESS: with enough fuel `parse` gives each reading that the next byte does not carry on
+-- COMPLETENESS: with enough fuel `parse` gives each reading that the next byte does not carry on: no letter and no digit follows a primary text
 abbrev Finds : List ℕ → Task → Out → Type 0
 Finds s g p = (f : ℕ) → rank s g < f → parse s f g ≡ p
 
--- no digit stands there
-abbrev NoDigit : List ℕ → ℕ → Type 0
-NoDigit s j = isDigit (byte s j) ≡ false
-
 abbrev Complete : List ℕ → Level → ℕ → ℕ → Text → Type 0
-Complete s alternation i j t = (p : Out) → NoDigit s j → (byte s j ≡ 38 → ⊥) → Finds s (more bars t j) p → Finds s (chain bars i) p
-Complete s conjunction i j t = (p : Out) → NoDigit s j → Finds s (more ampersands t j) p → Finds s (chain ampersands i) p
-Complete s negation i j t = NoDigit s j → Finds s (not-at i) (got t j)
-Complete s primary i j t = NoDigit s j → Finds s (prim-at i) (got t j)
+Complete s alternation i j t = (p : Out) → WordEnds s j → (byte s j ≡ 38 → ⊥) → Finds s (more bars t j) p → Finds s (chain bars i) p
+Complete s conjunction i j t = (p : Out) → WordEnds s j → Finds s (more ampersands t j) p → Finds s (chain ampersands i) p
+Complete s negation i j t = WordEnds s j → Finds s (not-at i) (got t j)
+Complete s primary i j t = WordEnds s j → Finds s (prim-at i) (got t j)
 
 -- what is read is not empty
 pub longer : {l : Level} {w : List ℕ} {t : Text} → Reads l w t → 0 < length w
@@ -207,7 +204,9 @@ longer (a-listed q) = listed-longer q
     listed-longer (a-lowafter c m) = omega arith
     listed-longer (a-capafter c m) = omega arith
     listed-longer (a-peaks c) = omega arith
+    listed-longer (a-dips c) = omega arith
     listed-longer a-cross = omega arith
+    listed-longer a-crossup = omega arith
     listed-longer (an-ampl c) = omega arith
     listed-longer (a-gaps c) = omega arith
     listed-longer (a-steps c) = omega arith
@@ -247,7 +246,7 @@ module _ (s : List ℕ) where
       let x = rank-high o (i + 1) in
       rw (eq-eqb (byte s i) (sign o) e, h f (omega arith)) (k f (omega arith))
 
-  bang-finds : (i j : ℕ) (t : Text) → i + 1 < j → j ≤ length s → byte s i ≡ 33 → Finds s (not-at (i + 1)) (got t j) → Finds s (not-at i) (got (node 15 t t) j)
+  bang-finds : (i j : ℕ) (t : Text) → i + 1 < j → j ≤ length s → byte s i ≡ 33 → Finds s (not-at (i + 1)) (got t j) → Finds s (not-at i) (got (node NOT t t) j)
   unfolding parse
   bang-finds i j t a b e h zero r = absurd (omega arith)
   bang-finds i j t a b e h (suc f) r = rw (eq-eqb (byte s i) 33 e, h f (omega arith))
@@ -267,21 +266,21 @@ module _ (s : List ℕ) where
   leaf-finds i j t l zero r = absurd (omega arith)
   leaf-finds i j t l (suc f) r = rw (l .at-once) (ap (λ (u : Text). got u j) (l .stands-for))
 
-  round-finds : (i j e : ℕ) (t : Text) → i < j → j ≤ length s → leafAt s i ≡ Open 23 j → Finds s (argument 41 j) (got t e) → Finds s (prim-at i) (got t e)
+  round-finds : (i j e : ℕ) (t : Text) → i < j → j ≤ length s → leafAt s i ≡ Open BRACKET j → Finds s (argument 41 j) (got t e) → Finds s (prim-at i) (got t e)
   unfolding parse
   round-finds i j e t a b l h zero r = absurd (omega arith)
   round-finds i j e t a b l h (suc f) r = rw l (h f (omega arith))
 
-  single-finds : (k i j e : ℕ) (t : Text) → k < 19 → i < j → j ≤ length s → leafAt s i ≡ Open k j → Finds s (argument 41 j) (got t e) → Finds s (prim-at i) (got (node k t t) e)
+  single-finds : (k i j e : ℕ) (t : Text) → k < binaryFrom → i < j → j ≤ length s → leafAt s i ≡ Open k j → Finds s (argument 41 j) (got t e) → Finds s (prim-at i) (got (node k t t) e)
   unfolding parse
   single-finds k i j e t c a b l h zero r = absurd (omega arith)
-  single-finds k i j e t c a b l h (suc f) r = rw (l, ne-eqb k 23 (omega arith), lt-ltb k 19 c, h f (omega arith))
+  single-finds k i j e t c a b l h (suc f) r = rw (l, ne-eqb k BRACKET (omega arith), lt-ltb k binaryFrom c, h f (omega arith))
 
-  double-finds : (k i j m e : ℕ) (t u : Text) → 19 ≤ k → k < 23 → i < j → j ≤ m → m ≤ length s → leafAt s i ≡ Open k j
+  double-finds : (k i j m e : ℕ) (t u : Text) → binaryFrom ≤ k → k < kinds → i < j → j ≤ m → m ≤ length s → leafAt s i ≡ Open k j
       → Finds s (argument 44 j) (got t m) → Finds s (argument 41 m) (got u e) → Finds s (prim-at i) (got (node k t u) e)
   unfolding parse
   double-finds k i j m e t u c d a b q l h g zero r = absurd (omega arith)
-  double-finds k i j m e t u c d a b q l h g (suc f) r = rw (l, ne-eqb k 23 (omega arith), le-ltb k 19 c, h f (omega arith), g f (omega arith))
+  double-finds k i j m e t u c d a b q l h g (suc f) r = rw (l, ne-eqb k BRACKET (omega arith), le-ltb k binaryFrom c, h f (omega arith), g f (omega arith))
 
   -- no primary begins with `!`
   no-bang : {w : List ℕ} {t : Text} (i : ℕ) → Reads primary w t → Stands s i w → byte s i ≡ 33 → ⊥
@@ -308,18 +307,20 @@ module _ (s : List ℕ) where
       go (a-lowafter c m) st = omega (arith, st .0)
       go (a-capafter c m) st = omega (arith, st .0)
       go (a-peaks c) st = omega (arith, st .0)
+      go (a-dips c) st = omega (arith, st .0)
       go a-cross st = omega (arith, st .0)
+      go a-crossup st = omega (arith, st .0)
       go (an-ampl c) st = omega (arith, st .0)
       go (a-gaps c) st = omega (arith, st .0)
       go (a-steps c) st = omega (arith, st .0)
       go a-lag st = omega (arith, st .0)
 
   -- a whole text before a bracket or a comma
-  whole-finds : (b i j : ℕ) (t : Text) → (isDigit b ≡ false) → (b ≡ 38 → ⊥) → (b ≡ 124 → ⊥) → byte s j ≡ b → Complete s alternation i j t → Finds s (argument b i) (got t (j + 1))
+  whole-finds : (b i j : ℕ) (t : Text) → letterOrDigit b ≡ false → (b ≡ 38 → ⊥) → (b ≡ 124 → ⊥) → byte s j ≡ b → Complete s alternation i j t → Finds s (argument b i) (got t (j + 1))
   whole-finds b i j t d n m e c =
       argument-finds b i j t e (c (got t j) (rw e d) (λ q. n (sym e ∙ q)) (stop-finds bars t j (λ q. m (sym e ∙ q))))
 
-  single-complete : {w : List ℕ} {t : Text} (k i e : ℕ) (o : List ℕ) → k < 19 → Reads alternation w t → (Stands s i o → leafAt s i ≡ Open k (i + length o)) → 0 < length o
+  single-complete : {w : List ℕ} {t : Text} (k i e : ℕ) (o : List ℕ) → k < binaryFrom → Reads alternation w t → (Stands s i o → leafAt s i ≡ Open k (i + length o)) → 0 < length o
       → Stands s i (o ++ w ++ bytes ")") → e ≡ i + length (o ++ w ++ bytes ")") → ((j : ℕ) → Stands s (i + length o) w → j ≡ i + length o + length w → Complete s alternation (i + length o) j t)
       → Finds s (prim-at i) (got (node k t t) e)
   single-complete {w} {t} k i e o l r opens n st q c =
@@ -334,7 +335,7 @@ module _ (s : List ℕ) where
       (single-finds k i (i + length o) (j + 1) t l (omega arith) (omega arith) (opens (before s o w i s1))
       (whole-finds 41 (i + length o) j t refl (λ x. omega arith) (λ x. omega arith) (close .0) (c j sw refl)))
 
-  double-complete : (w x : List ℕ) (t u : Text) (k i e : ℕ) (o : List ℕ) → 19 ≤ k → k < 23 → (Stands s i o → leafAt s i ≡ Open k (i + length o)) → 0 < length o
+  double-complete : (w x : List ℕ) (t u : Text) (k i e : ℕ) (o : List ℕ) → binaryFrom ≤ k → k < kinds → (Stands s i o → leafAt s i ≡ Open k (i + length o)) → 0 < length o
       → Stands s i (o ++ w ++ bytes "," ++ x ++ bytes ")") → e ≡ i + length (o ++ w ++ bytes "," ++ x ++ bytes ")")
       → ((h j : ℕ) → Stands s h w → j ≡ h + length w → Complete s alternation h j t) → ((h j : ℕ) → Stands s h x → j ≡ h + length x → Complete s alternation h j u)
       → Finds s (prim-at i) (got (node k t u) e)
@@ -409,13 +410,13 @@ module _ (s : List ℕ) where
       λ d. subst (λ (m : ℕ). Finds s (prim-at i) (got p m)) (let z : i + 1 + length w + 1 ≡ e = omega arith in z)
       (round-finds i (i + 1) (i + 1 + length w + 1) p (omega arith) (omega arith) (round-opens s i (before s (bytes "(") (w ++ bytes ")") i st))
       (whole-finds 41 (i + 1) (i + 1 + length w) p refl (λ x. omega arith) (λ x. omega arith) (close .0) c))
-  complete (an-F {w} {p} r) i e st q = λ d. single-complete {w = w} 17 i e (bytes "F(") (lit< tt) r (F-opens s i) (lit< tt) st q (λ j sw z. complete r (i + 2) j sw z)
-  complete (a-G {w} {p} r) i e st q = λ d. single-complete {w = w} 18 i e (bytes "G(") (lit< tt) r (G-opens s i) (lit< tt) st q (λ j sw z. complete r (i + 2) j sw z)
-  complete (an-X {w} {p} r) i e st q = λ d. single-complete {w = w} 16 i e (bytes "X(") (lit< tt) r (X-opens s i) (lit< tt) st q (λ j sw z. complete r (i + 2) j sw z)
-  complete (a-U {x} {y} {p} {q = u} r t) i e st q = λ d. double-complete x y p u 21 i e (bytes "U(") (lit< tt) (lit< tt) (U-opens s i) (lit< tt) st q (λ h j sw z. complete r h j sw z) (λ h j sw z. complete t h j sw z)
-  complete (a-W {x} {y} {p} {q = u} r t) i e st q = λ d. double-complete x y p u 22 i e (bytes "W(") (lit< tt) (lit< tt) (W-opens s i) (lit< tt) st q (λ h j sw z. complete r h j sw z) (λ h j sw z. complete t h j sw z)
+  complete (an-F {w} {p} r) i e st q = λ d. single-complete {w = w} FINALLY i e (bytes "F(") (lit< tt) r (F-opens s i) (lit< tt) st q (λ j sw z. complete r (i + 2) j sw z)
+  complete (a-G {w} {p} r) i e st q = λ d. single-complete {w = w} GLOBALLY i e (bytes "G(") (lit< tt) r (G-opens s i) (lit< tt) st q (λ j sw z. complete r (i + 2) j sw z)
+  complete (an-X {w} {p} r) i e st q = λ d. single-complete {w = w} NEXT i e (bytes "X(") (lit< tt) r (X-opens s i) (lit< tt) st q (λ j sw z. complete r (i + 2) j sw z)
+  complete (a-U {x} {y} {p} {q = u} r t) i e st q = λ d. double-complete x y p u UNTIL i e (bytes "U(") (lit< tt) (lit< tt) (U-opens s i) (lit< tt) st q (λ h j sw z. complete r h j sw z) (λ h j sw z. complete t h j sw z)
+  complete (a-W {x} {y} {p} {q = u} r t) i e st q = λ d. double-complete x y p u WEAK-UNTIL i e (bytes "W(") (lit< tt) (lit< tt) (W-opens s i) (lit< tt) st q (λ h j sw z. complete r h j sw z) (λ h j sw z. complete t h j sw z)
   complete (an-atom {w} {a} x) i e st q = λ d. leaf-finds i e (atom a) (subst (λ (m : ℕ). Lexed s i m (atom a)) (sym q) (atom-lexed s i x st (rw q at d)))
-  complete (a-listed {w} {q = a} x) i e st q = λ d. leaf-finds i e (listed a) (subst (λ (m : ℕ). Lexed s i m (listed a)) (sym q) (listed-lexed s i x st))
+  complete (a-listed {w} {q = a} x) i e st q = λ d. leaf-finds i e (listed a) (subst (λ (m : ℕ). Lexed s i m (listed a)) (sym q) (listed-lexed s i x st (rw q at d)))
 
   -- the computed reading is the reading by the rules
   reads-computed : (t : Text) → ReadsWhole s t → parsed s ≡ one t

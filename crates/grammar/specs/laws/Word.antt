@@ -1,18 +1,19 @@
 -- Words that stand in a text: putting them together and taking them apart, and the first of a table that stands there.
 use mathlib.Core.Path.{_≡_, refl, sym, ap, subst, _∙_}
-use mathlib.Core.Bool.{Bool, true, false, cond, not, _&&_, _||_}
+use mathlib.Core.Bool.{Bool, true, false, true≢false, cond, not, _&&_, _||_}
 use mathlib.Core.List.{List, [], _∷_, _++_}
 use Prim.Native.Nat.{ℕ, zero, suc, _+_, _≤_, _<_}
 use native.Mathlib.Omega.{arith}
 use native.Mathlib.Nat.{add-assoc}
 use native.Mathlib.Numerals.{add-one}
 use lib.Dec.{eqb, ltb}
-use lib.ListN.{length, getD, List·getD-eq-default, length-append}
+use lib.ListN.{length, List·getD-eq-default, length-append}
 use lib.Seq.{getD-append-seam, append-snoc}
 use borrow.Author.Tests.{eq-eqb, ne-eqb, eqb-true, eqb-false, ltb-true, ltb-false}
 use Rattle.grammar.specs.declared.Found.{Found}
 use Rattle.grammar.specs.declared.Found.the-variants.{At, Missing}
-use Rattle.grammar.specs.inner.Lexer.{byte, spelledAt, Word, word, firstOf}
+use Rattle.grammar.specs.Classes.{isDigit, isLetter}
+use Rattle.grammar.specs.inner.Lexer.{byte, spelledAt, Word, firstOf}
 
 -- the word w stands in s from i on
 abbrev pub Stands : List ℕ → ℕ → List ℕ → Type 0
@@ -82,11 +83,28 @@ abbrev pub solid : List ℕ → Bool
 solid [] = false
 solid (b ∷ w) = plain (b ∷ w)
 
--- the words differ at some place that both have
-abbrev pub clash : List ℕ → List ℕ → Bool
-clash [] y = false
-clash (a ∷ x) [] = false
-clash (a ∷ x) (b ∷ y) = not (eqb a b) || clash x y
+-- CARRIERS: the bytes that would carry a word on, so that they do not follow it
+abbrev pub Carrier : Type 0
+Carrier = ℕ → Bool
+
+-- of a word that has its bracket: none, for any byte may follow it
+abbrev pub noByte : Carrier
+noByte b = false
+
+-- of a relation: `=`, which makes `>=` of `>`
+abbrev pub equalsSign : Carrier
+equalsSign b = eqb b 61
+
+-- of a name without arguments, or of a number: a letter as in `crossup` behind `cross`, or a digit
+abbrev pub letterOrDigit : Carrier
+letterOrDigit b = isDigit b || isLetter b
+
+-- x, with no carrier behind it, is not y: they differ at some place that both have, or a carrier stands in y behind x
+abbrev pub toldApart : Carrier → List ℕ → List ℕ → Bool
+toldApart on [] [] = false
+toldApart on [] (b ∷ y) = on b
+toldApart on (a ∷ x) [] = false
+toldApart on (a ∷ x) (b ∷ y) = not (eqb a b) || toldApart on x y
 
 module _ (s : List ℕ) where
   pub spelled : (w : List ℕ) (i : ℕ) → Stands s i w → spelledAt s i w ≡ true
@@ -107,41 +125,57 @@ module _ (s : List ℕ) where
       let z = inside s i (omega (arith, ltb-true 0 b (and-left (ltb 0 b) (plain w) p))) in
       stands (b ∷ w) i p (omega arith) h
 
-  pub unspelled : (x y : List ℕ) (i : ℕ) → Stands s i x → clash x y ≡ true → spelledAt s i y ≡ false
-  unspelled [] y i h e = let z : _≡_ {A = ℕ} 0 1 = cc in absurd (omega arith)
-  unspelled (a ∷ x) [] i h e = let z : _≡_ {A = ℕ} 0 1 = cc in absurd (omega arith)
-  unspelled (a ∷ x) (b ∷ y) i h e = rw (h .0) (go (eqb a b) e (unspelled x y (i + 1) (h .1)))
+  pub unspelled : (on : Carrier) (x y : List ℕ) (i : ℕ) → Stands s i x → on (byte s (i + length x)) ≡ false → toldApart on x y ≡ true → spelledAt s i y ≡ false
+  unspelled on [] [] i h n e = let z : _≡_ {A = ℕ} 0 1 = cc in absurd (omega arith)
+  unspelled on [] (b ∷ y) i h n e =
+      let k : i + 0 ≡ i = omega arith in
+      rw (ne-eqb (byte s i) b (λ q. true≢false (sym e ∙ ap on (sym (ap (byte s) k ∙ q)) ∙ n)))
+  unspelled on (a ∷ x) [] i h n e = let z : _≡_ {A = ℕ} 0 1 = cc in absurd (omega arith)
+  unspelled on (a ∷ x) (b ∷ y) i h n e =
+      let k : i + suc (length x) ≡ i + 1 + length x = omega arith in
+      rw (h .0) (go (eqb a b) e (unspelled on x y (i + 1) (h .1) (rw k at n)))
     where
-      go : (t : Bool) → (not t || clash x y) ≡ true → (clash x y ≡ true → spelledAt s (i + 1) y ≡ false) → (t && spelledAt s (i + 1) y) ≡ false
+      go : (t : Bool) → (not t || toldApart on x y) ≡ true → (toldApart on x y ≡ true → spelledAt s (i + 1) y ≡ false) → (t && spelledAt s (i + 1) y) ≡ false
       go true g k = k g
       go false g k = refl
 
--- TABLES of words
-abbrev pub nth : List Word → ℕ → Word
-nth ws n = getD ws n (word 0 [])
+-- TABLES of words: one of them has the code and the spelling
+abbrev pub sameWord : List ℕ → List ℕ → Bool
+sameWord [] [] = true
+sameWord [] (b ∷ y) = false
+sameWord (a ∷ x) [] = false
+sameWord (a ∷ x) (b ∷ y) = eqb a b && sameWord x y
 
--- the word clashes with each of the table; and each two of the table clash
-abbrev pub alone : List ℕ → List Word → Bool
-alone x [] = true
-alone x (w ∷ ws) = clash (w .spelling) x && alone x ws
+same-word-is : (x y : List ℕ) → sameWord x y ≡ true → x ≡ y
+same-word-is [] [] e = refl
+same-word-is [] (b ∷ y) e = absurd (true≢false (sym e))
+same-word-is (a ∷ x) [] e = absurd (true≢false (sym e))
+same-word-is (a ∷ x) (b ∷ y) e =
+    let p = eqb-true a b (and-left (eqb a b) (sameWord x y) e) in
+    let q = same-word-is x y (and-right (eqb a b) (sameWord x y) e) in
+    cc
 
-abbrev pub apart : List Word → Bool
-apart [] = true
-apart (w ∷ ws) = alone (w .spelling) ws && apart ws
+abbrev pub isWord : Word → ℕ → List ℕ → Bool
+isWord x k w = eqb (x .code) k && sameWord (x .spelling) w
 
-pub alone-at : (x : List ℕ) (ws : List Word) (n : ℕ) → n < length ws → alone x ws ≡ true → clash (nth ws n .spelling) x ≡ true
-alone-at x [] n h e = absurd (omega arith)
-alone-at x (w ∷ ws) zero h e = and-left (clash (w .spelling) x) (alone x ws) e
-alone-at x (w ∷ ws) (suc n) h e = alone-at x ws n (omega arith) (and-right (clash (w .spelling) x) (alone x ws) e)
+-- w is the word of code k in the table, and is told apart from each word before it
+abbrev pub tellable : Carrier → List Word → ℕ → List ℕ → Bool
+tellable on [] k w = false
+tellable on (x ∷ ws) k w = isWord x k w || (toldApart on w (x .spelling) && tellable on ws k w)
 
 module _ (s : List ℕ) where
-  -- in a table whose words clash, the word that stands is found
-  pub found : (ws : List Word) (n i : ℕ) → n < length ws → apart ws ≡ true → Stands s i (nth ws n .spelling) → firstOf ws s i ≡ At (nth ws n .code) (i + length (nth ws n .spelling))
-  found [] n i h e st = absurd (omega arith)
-  found (w ∷ ws) zero i h e st = rw (spelled s (w .spelling) i st)
-  found (w ∷ ws) (suc n) i h e st =
-      rw (unspelled s (nth ws n .spelling) (w .spelling) i st (alone-at (w .spelling) ws n (omega arith) (and-left (alone (w .spelling) ws) (apart ws) e)))
-      (found ws n i (omega arith) (and-right (alone (w .spelling) ws) (apart ws) e) st)
+  -- THE WORD THAT STANDS IS FOUND where no carrier follows, also where it begins another word of the table
+  pub found : (on : Carrier) (ws : List Word) (k : ℕ) (w : List ℕ) (i : ℕ) → tellable on ws k w ≡ true → Stands s i w → on (byte s (i + length w)) ≡ false → firstOf ws s i ≡ At k (i + length w)
+  found on [] k w i e st n = absurd (true≢false (sym e))
+  found on (x ∷ ws) k w i e st n = go (isWord x k w) refl e (λ h. found on ws k w i h st n)
+    where
+      go : (b : Bool) → isWord x k w ≡ b → (b || (toldApart on w (x .spelling) && tellable on ws k w)) ≡ true → (tellable on ws k w ≡ true → firstOf ws s i ≡ At k (i + length w)) → firstOf (x ∷ ws) s i ≡ At k (i + length w)
+      go true q h r =
+          let c = eqb-true (x .code) k (and-left (eqb (x .code) k) (sameWord (x .spelling) w) q) in
+          let y = same-word-is (x .spelling) w (and-right (eqb (x .code) k) (sameWord (x .spelling) w) q) in
+          rw (c, y, spelled s w i st)
+      go false q h r =
+          rw (unspelled s on w (x .spelling) i st n (and-left (toldApart on w (x .spelling)) (tellable on ws k w) h)) (r (and-right (toldApart on w (x .spelling)) (tellable on ws k w) h))
 
 -- P holds of each word of the table and its code, and the word is not empty and has no byte 0
 abbrev pub Each : (ℕ → List ℕ → Type 0) → List Word → Type 0

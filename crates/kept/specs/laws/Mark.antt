@@ -6,9 +6,9 @@ use mathlib.Core.List.{List, [], _∷_}
 use lib.Dec.{eqb}
 use borrow.Author.Tests.{eqb-true, eq-eqb}
 use Rattle.number.specs.laws.Boolean.{same, or-left, or-right, or-cases}
-use Rattle.recording.specs.Condition.{Condition, pick, _∪_}
-use Rattle.recording.specs.Reading.{Reading, top, crossing}
-use Rattle.kept.specs.Kept.{first, last, withBefore, forSome, eitherCurve, extremes, anyTime, after, kept}
+use Rattle.recording.specs.Condition.{Condition, pick}
+use Rattle.recording.specs.Reading.{Reading}
+use Rattle.kept.specs.Kept.{anyOf, forSome, extremes, after, reasons, kept}
 
 -- k is one of the marks
 abbrev pub isMark : ℕ → List ℕ → Bool
@@ -38,7 +38,4 @@ module _ {X : Type 0} (ρ : ℕ → Condition X) (before : List X) (x : X) (rest
 
 -- the same marks, in any order, however often
 pub kept-marks : (marks others : List ℕ) → ((k : ℕ) → isMark k marks ≡ isMark k others) → (r : List Reading) → kept marks r ≡ kept others r
-kept-marks marks others h r =
-    λ i. pick
-    (λ b x a. (first ∪ last ∪ extremes anyTime ∪ (λ b x a. same-marks (λ k. extremes (after k)) b x a marks others h i)
-    ∪ eitherCurve (λ c. withBefore (top c)) ∪ withBefore crossing) b x a) r
+kept-marks marks others h r = λ i. pick (λ b x a. anyOf reasons b x a || same-marks (λ k. extremes (after k)) b x a marks others h i) r

@@ -4,6 +4,7 @@ use native.Mathlib.Omega.{arith}
 use Rattle.recording.specs.Reading.{Curve}
 use Rattle.grammar.specs.Syntax as asks
 use Rattle.grammar.specs.Syntax.{Text}
+use Rattle.grammar.specs.inner.Kinds.{AMPL}
 use Rattle.meaning.specs.inner.Truth.{val, truth}
 use Rattle.meaning.specs.inner.Coded.{coded}
 use Rattle.leaves.specs.inner.Span.{Spans}
@@ -22,7 +23,7 @@ returns : tie.Need-returns
 unfolding val
 returns c =
     let s = c .before .before .before in
-    by-kind (λ (p : Text). Spans (λ v. val (coded (s .args .rec .now)) v p (s .args .i)) (c .ampl .result)) (s .args .row) 11 (s .pre .1)
+    by-kind (λ (p : Text). Spans (λ v. val (coded (s .args .rec .now)) v p (s .args .i)) (c .ampl .result)) (s .args .row) AMPL (s .pre .1)
     (subst (λ (k : Curve). Spans (λ v. truth (asks.ampl k) (coded (s .args .rec .now)) v) (c .ampl .result)) (c .before .curve .ensures .1) (c .ampl .ensures))
 
 pub amplitude-spec : {M : Type 1} → statement M

@@ -12,17 +12,17 @@ use lib.Seq.{take-all, ext-getD, getD-take, length-take-le, getD-set-same, getD-
 use Rattle.number.specs.Axis.{axis}
 use Rattle.number.specs.laws.Order.{less-or-not}
 use Rattle.recording.specs.Condition.{pick}
-use Rattle.recording.specs.Reading.{Curve, top, crossing}
+use Rattle.recording.specs.Reading.{Event, event, edge}
 use Rattle.recording.specs.Recording.{readings, mostRecords, Accepted}
 use Rattle.recording.specs.laws.Acceptance.{accepted-sound}
 use Rattle.tops.specs.Tops as raw
 use Rattle.tops.specs.inner.Scan.{Scanned}
 use Rattle.tops.specs.laws.Scan.{scanned-at}
-use Rattle.tops.specs.laws.Top.{tops-half, crossings-half}
-use Rattle.meaning.specs.inner.Coded.{codedTop, codedCrossing, topTimes, crossingTimes}
+use Rattle.tops.specs.laws.Event.{events-half}
+use Rattle.meaning.specs.inner.Coded.{codedSign, codedTimes}
 use Rattle.meaning.specs.laws.Recorded.{accepted-recorded}
 use Rattle.meaning.specs.laws.Pick.{map-map}
-use Rattle.meaning.specs.laws.Listed.{all-settled, tops-code, crossings-code}
+use Rattle.meaning.specs.laws.Listed.{all-settled, event-code}
 use Rattle.differences.specs.inner.Times.{Times}
 use Rattle.differences.specs.laws.Times.{picked-times}
 use Rattle.meaning.specs.inner.Coded.{coded}
@@ -93,36 +93,22 @@ module _ (raw found old new : List ℕ) (count : ℕ) (is : found ≡ map indexO
           let l : k < length raw = omega (arith, s .counted) in
           getD-take count final k 0 i ∙ t .shifted k i ∙ ap indexOf (scanned-at raw old new count k s l (omega (arith, room))) ∙ sym (map-at indexOf raw k l)
 
--- ---- tops and crossings
+-- ---- events
 
 module _ (rec : List ℕ) (a : Accepted rec) where
   few : length (readings rec) ≤ mostRecords
   few = omega (arith, length-readings rec, accepted-sound rec a .few)
 
-  pub top-stamps : (c : Curve) → topTimes c (coded rec) ≡ map indexOf (raw.topTimes c (readings rec))
-  unfolding raw.topTimes
-  top-stamps c =
-      tops-code c (readings rec) (all-settled (readings rec) (accepted-recorded rec a .in-range))
-      ∙ sym (map-map raw.recordedTime indexOf (pick (top c) (readings rec)))
+  pub event-stamps : (e : Event) → codedTimes e (coded rec) ≡ map indexOf (raw.eventTimes e (readings rec))
+  unfolding raw.eventTimes
+  event-stamps e =
+      event-code e (readings rec) (all-settled (readings rec) (accepted-recorded rec a .in-range))
+      ∙ sym (map-map raw.recordedTime indexOf (pick (event e) (readings rec)))
 
-  pub top-times : (c : Curve) → Times (topTimes c (coded rec))
-  top-times c = picked-times (readings rec) (accepted-recorded rec a) (codedTop c)
+  pub event-times : (e : Event) → Times (codedTimes e (coded rec))
+  event-times e = picked-times (readings rec) (accepted-recorded rec a) (edge (codedSign e))
 
-  pub tops-few : (c : Curve) → length (topTimes c (coded rec)) ≤ mostEdges
-  tops-few c =
-      let e = ap length (top-stamps c) ∙ length-map (raw.topTimes c (readings rec)) indexOf in
-      omega (arith, tops-half c (readings rec), few)
-
-  pub crossing-stamps : crossingTimes (coded rec) ≡ map indexOf (raw.crossingTimes (readings rec))
-  unfolding raw.crossingTimes
-  crossing-stamps =
-      crossings-code (readings rec) (all-settled (readings rec) (accepted-recorded rec a .in-range))
-      ∙ sym (map-map raw.recordedTime indexOf (pick crossing (readings rec)))
-
-  pub crossing-times : Times (crossingTimes (coded rec))
-  crossing-times = picked-times (readings rec) (accepted-recorded rec a) codedCrossing
-
-  pub crossings-few : length (crossingTimes (coded rec)) ≤ mostEdges
-  crossings-few =
-      let e = ap length crossing-stamps ∙ length-map (raw.crossingTimes (readings rec)) indexOf in
-      omega (arith, crossings-half (readings rec), few)
+  pub events-few : (e : Event) → length (codedTimes e (coded rec)) ≤ mostEdges
+  events-few e =
+      let s = ap length (event-stamps e) ∙ length-map (raw.eventTimes e (readings rec)) indexOf in
+      omega (arith, events-half e (readings rec), few)

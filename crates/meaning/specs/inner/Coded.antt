@@ -1,13 +1,13 @@
 -- Readings as code holds them: the time and the values as indices of the axis.
 use Prim.Native.Nat.{ℕ, suc, _+_, _-_}
-use mathlib.Core.Bool.{Bool}
+use mathlib.Core.Bool.{Bool, not}
 use mathlib.Core.List.{List, map}
 use lib.Dec.{leb, ltb, eqb}
 use lib.IntN.{ℤ, pos, negsuc}
 use Rattle.number.specs.Axis.{origin}
 use Rattle.recording.specs.Condition.{Condition, pick}
 use Rattle.recording.specs.Recording.{readings}
-use Rattle.recording.specs.Reading.{Reading, Curve, A, B, edge, nothing}
+use Rattle.recording.specs.Reading.{Reading, Curve, A, B, Event, a-top, a-dip, a-crossing, an-upcrossing, edge, nothing}
 
 -- the index of a whole number of the axis
 abbrev pub index : ℤ → ℕ
@@ -60,18 +60,16 @@ codedCrossed x = leb (x .a) (x .b)
 abbrev pub codedAfter : ℕ → Coded → Bool
 codedAfter k x = ltb k (x .time)
 
-abbrev pub codedTop : Curve → Condition Coded
-codedTop c = edge (codedFalls c)
-
-abbrev pub codedCrossing : Condition Coded
-codedCrossing = edge codedCrossed
+-- an event is an edge of its sign
+abbrev pub codedSign : Event → Coded → Bool
+codedSign (a-top c) x = codedFalls c x
+codedSign (a-dip c) x = codedRises c x
+codedSign a-crossing x = codedCrossed x
+codedSign an-upcrossing x = not (codedCrossed x)
 
 -- the times of the records of which the condition holds
 abbrev pub timesOf : Condition Coded → List Coded → List ℕ
 timesOf ρ r = map (λ (x : Coded). x .time) (pick ρ r)
 
-abbrev pub topTimes : Curve → List Coded → List ℕ
-topTimes c r = timesOf (codedTop c) r
-
-abbrev pub crossingTimes : List Coded → List ℕ
-crossingTimes r = timesOf codedCrossing r
+abbrev pub codedTimes : Event → List Coded → List ℕ
+codedTimes e r = timesOf (edge (codedSign e)) r

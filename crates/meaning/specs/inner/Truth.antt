@@ -8,9 +8,9 @@ use lib.ListN.{length, getD}
 use Rattle.number.specs.Axis.{origin}
 use Rattle.runset.specs.Runs.{runCount, mostRuns}
 use Rattle.recording.specs.Condition.{someOf}
-use Rattle.recording.specs.Reading.{Curve, A, B}
-use Rattle.grammar.specs.Syntax.{Field, of, T, Relation, ge, le, gt, lt, eq, Operand, v, number, Atom, compare, A-to-B, fall, rise, Listed, high, low, lowafter, capafter, peaks, cross, ampl, gaps, steps, lag, Text, atom, listed, or, and, neg, finally, globally, next, until, weakUntil}
-use Rattle.meaning.specs.inner.Coded.{Coded, blank, codedValue, codedFalls, codedRises, codedAfter, topTimes, crossingTimes}
+use Rattle.recording.specs.Reading.{Curve, A, B, a-top, a-dip, a-crossing, an-upcrossing}
+use Rattle.grammar.specs.Syntax.{Field, of, T, Relation, ge, le, gt, lt, eq, Operand, v, number, Atom, compare, A-to-B, fall, rise, Listed, high, low, lowafter, capafter, peaks, dips, cross, crossup, ampl, gaps, steps, lag, Text, atom, listed, or, and, neg, finally, globally, next, until, weakUntil}
+use Rattle.meaning.specs.inner.Coded.{Coded, blank, codedValue, codedFalls, codedRises, codedAfter, codedTimes}
 use Rattle.grammar.specs.Size.{temporal}
 use Rattle.tops.specs.Tops.{mostTops}
 
@@ -46,12 +46,14 @@ truth (high c) r n = someOf (λ x. leb n (codedValue c x)) r
 truth (low c) r n = someOf (λ x. leb (codedValue c x) n) r
 truth (lowafter c k) r n = someOf (λ x. codedAfter k x && leb (codedValue c x) n) r
 truth (capafter c k) r n = allOf (λ x. not (codedAfter k x) || leb (codedValue c x) n) r
-truth (peaks c) r n = among n (topTimes c r)
-truth cross r n = among n (crossingTimes r)
+truth (peaks c) r n = among n (codedTimes (a-top c) r)
+truth (dips c) r n = among n (codedTimes (a-dip c) r)
+truth cross r n = among n (codedTimes a-crossing r)
+truth crossup r n = among n (codedTimes an-upcrossing r)
 truth (ampl c) r n = someOf (λ x. someOf (λ y. leb (codedValue c x + n) (codedValue c y + origin)) r) r
-truth (gaps c) r n = somePair (apart n) (topTimes c r)
-truth (steps c) r n = someStep (apart n) (topTimes c r)
-truth lag r n = someOf (λ s. someOf (apart n s) (topTimes B r)) (topTimes A r)
+truth (gaps c) r n = somePair (apart n) (codedTimes (a-top c) r)
+truth (steps c) r n = someStep (apart n) (codedTimes (a-top c) r)
+truth lag r n = someOf (λ s. someOf (apart n s) (codedTimes (a-top B) r)) (codedTimes (a-top A) r)
 
 -- ---- atoms
 
@@ -150,7 +152,7 @@ unfoldable pub refused8 : List Coded → Text → Bool
 refused8 r p = cond (temporal p) (someBelow (overAt r p) (length r)) (overAt r p 0)
 
 abbrev pub manyTops : Curve → List Coded → Bool
-manyTops c r = ltb mostTops (length (topTimes c r))
+manyTops c r = ltb mostTops (length (codedTimes (a-top c) r))
 
 abbrev pub asksTooMany : List Coded → Listed → Bool
 asksTooMany r (high c) = false
@@ -158,7 +160,9 @@ asksTooMany r (low c) = false
 asksTooMany r (lowafter c k) = false
 asksTooMany r (capafter c k) = false
 asksTooMany r (peaks c) = false
+asksTooMany r (dips c) = false
 asksTooMany r cross = false
+asksTooMany r crossup = false
 asksTooMany r (ampl c) = false
 asksTooMany r (gaps c) = manyTops c r
 asksTooMany r (steps c) = manyTops c r

@@ -12,9 +12,9 @@ use lib.Signed.{leZ, ltZ, _≤ℤ_, _<ℤ_, ltZ-no, clashℤ}
 use borrow.Author.Tests.{ltb-true, lt-ltb}
 use Rattle.number.specs.Axis.{origin, whole}
 use Rattle.recording.specs.Condition.{Condition, pick, someOf}
-use Rattle.recording.specs.Reading.{Reading, Curve, A, B, value, top, crossing, nothing}
-use Rattle.grammar.specs.Syntax.{Listed, high, low, lowafter, capafter, peaks, cross, ampl, gaps, steps, lag, Text, atom, listed, or, and, neg, finally, globally, next, until, weakUntil}
-use Rattle.meaning.specs.Listed.{recordAt, SomeRecord, EachRecord, Meets, timeOf, After, between, Says}
+use Rattle.recording.specs.Reading.{Reading, Curve, A, B, value, top, Event, a-top, a-dip, a-crossing, an-upcrossing, event, nothing}
+use Rattle.grammar.specs.Syntax.{Listed, high, low, lowafter, capafter, peaks, dips, cross, crossup, ampl, gaps, steps, lag, Text, atom, listed, or, and, neg, finally, globally, next, until, weakUntil}
+use Rattle.meaning.specs.Listed.{recordAt, SomeRecord, EachRecord, TimeOf, timeOf, After, between, Says}
 use Rattle.meaning.specs.Meaning.{readingAt, AtomSays, Holds}
 use Rattle.meaning.specs.Overfull.{children, Node, itself, below, Overfull, TooManyTops}
 use Rattle.grammar.specs.Size.{temporal, afterTime, afterTimes}
@@ -53,7 +53,7 @@ module _ (r : List Reading) (z : ℤ) where
   unfolding is-apart
   apart-at i j = so-decided (ℤ-discrete (between r i j) z)
 
-  of-times : (ρ : Condition Reading) → So (someOf (is-time z) (times ρ r)) ↔ ((i : ℕ) × Meets ρ r i × (timeOf (recordAt r i) ≡ z))
+  of-times : (ρ : Condition Reading) → So (someOf (is-time z) (times ρ r)) ↔ TimeOf ρ r z
   of-times ρ = (
     λ h. let f = key-find nothing ρ (λ x. x .time) (is-time z) [] r h in (f .0, f .1, time-at (f .0) .0 (f .2)),
     λ f. key-at nothing ρ (λ x. x .time) (is-time z) [] r (f .0) (f .1) (time-at (f .0) .1 (f .2)),
@@ -97,6 +97,10 @@ module _ {marks : List ℕ} {r s : List Reading} (l : Alike marks r s) where
   capped k c z r s found cap i h a = ltZ-no (not-T (ltZ z (value c (recordAt s i))) (λ t.
       let f = found (i, h, (a, record { lt = t })) in clashℤ (f .2 .1) (cap (f .0) (f .1) (f .2 .0))))
 
+  event-alike : (e : Event) (z : ℤ) → TimeOf (event e) r z ↔ TimeOf (event e) s z
+  event-alike e z = through (someOf (is-time z) (times (event e) r)) (someOf (is-time z) (times (event e) s))
+      (ap (someOf (is-time z)) (l .events e)) (of-times r z (event e)) (of-times s z (event e))
+
   says-alike : (q : Listed) → ((k : ℕ) → List·Memᴰ k (afterTime q) → List·Memᴰ k (map markIndex marks)) → (z : ℤ) → Says q r z ↔ Says q s z
   unfolding Says
   says-alike (high c) m z = l .up c z
@@ -105,20 +109,20 @@ module _ {marks : List ℕ} {r s : List Reading} (l : Alike marks r s) where
   says-alike (capafter c k) m z =
       let a = l .up-after k (m k (List·Memᴰ·head refl)) c z in
       (capped k c z r s (a .1), capped k c z s r (a .0))
-  says-alike (peaks c) m z = through (someOf (is-time z) (times (top c) r)) (someOf (is-time z) (times (top c) s))
-      (ap (someOf (is-time z)) (l .tops c)) (of-times r z (top c)) (of-times s z (top c))
-  says-alike cross m z = through (someOf (is-time z) (times crossing r)) (someOf (is-time z) (times crossing s))
-      (ap (someOf (is-time z)) (l .crossings)) (of-times r z crossing) (of-times s z crossing)
+  says-alike (peaks c) m z = event-alike (a-top c) z
+  says-alike (dips c) m z = event-alike (a-dip c) z
+  says-alike cross m z = event-alike a-crossing z
+  says-alike crossup m z = event-alike an-upcrossing z
   says-alike (ampl c) m z = (
     λ h. (h .0, l .down c (h .0) .0 (h .1), l .up c (h .0 +ℤ z) .0 (h .2)),
     λ h. (h .0, l .down c (h .0) .1 (h .1), l .up c (h .0 +ℤ z) .1 (h .2)),
   )
   says-alike (gaps c) m z = through (somePair (is-apart z) (times (top c) r)) (somePair (is-apart z) (times (top c) s))
-      (ap (somePair (is-apart z)) (l .tops c)) (of-gaps r z c) (of-gaps s z c)
+      (ap (somePair (is-apart z)) (l .events (a-top c))) (of-gaps r z c) (of-gaps s z c)
   says-alike (steps c) m z = through (someStep (is-apart z) (times (top c) r)) (someStep (is-apart z) (times (top c) s))
-      (ap (someStep (is-apart z)) (l .tops c)) (of-steps r z c) (of-steps s z c)
+      (ap (someStep (is-apart z)) (l .events (a-top c))) (of-steps r z c) (of-steps s z c)
   says-alike lag m z =
-      let a = l .tops A in let b = l .tops B in
+      let a = l .events (a-top A) in let b = l .events (a-top B) in
       through (someOf (λ t. someOf (is-apart z t) (times (top B) r)) (times (top A) r)) (someOf (λ t. someOf (is-apart z t) (times (top B) s)) (times (top A) s))
       (λ i. someOf (λ t. someOf (is-apart z t) (b i)) (a i)) (of-lag r z) (of-lag s z)
 
@@ -194,8 +198,7 @@ flipped l = record {
   down = λ c z. back (l .down c z);
   up-after = λ k m c z. back (l .up-after k m c z);
   down-after = λ k m c z. back (l .down-after k m c z);
-  tops = λ c. sym (l .tops c);
-  crossings = sym (l .crossings);
+  events = λ e. sym (l .events e);
 }
 
 overfull-alike : {marks : List ℕ} {r s : List Reading} → Alike marks r s → (p : Text) → Plain marks p → 0 < length s → Overfull r p → Overfull s p
@@ -222,7 +225,7 @@ tops-alike {marks} {r} {s} l p t = record {
   many =
       let a = length-map (pick (top (t .curve)) r) (λ x. x .time) in
       let b = length-map (pick (top (t .curve)) s) (λ x. x .time) in
-      let e = ap length (l .tops (t .curve)) in
+      let e = ap length (l .events (a-top (t .curve))) in
       omega (arith, t .many);
 }
 
@@ -270,8 +273,7 @@ pub record Tested (marks : List ℕ) (r s : List Reading) : Type 0 where
       → someOf (λ x. ltb m (x .time) && ltZ z (value c x)) r ≡ someOf (λ x. ltb m (x .time) && ltZ z (value c x)) s
   pub down-after : (m : ℕ) → List·Memᴰ m marks → (c : Curve) (z : ℤ)
       → someOf (λ x. ltb m (x .time) && leZ (value c x) z) r ≡ someOf (λ x. ltb m (x .time) && leZ (value c x) z) s
-  pub tops : (c : Curve) → pick (top c) r ≡ pick (top c) s
-  pub crossings : pick crossing r ≡ pick crossing s
+  pub events : (e : Event) → pick (event e) r ≡ pick (event e) s
 
 pub tested-alike : {marks : List ℕ} {r s : List Reading} → Tested marks r s → Alike marks r s
 tested-alike {marks} {r} {s} t = record {
@@ -280,8 +282,7 @@ tested-alike {marks} {r} {s} t = record {
   down = λ c z. some-alike (λ x. leZ (value c x) z) (λ x. value c x ≤ℤ z) (λ x. le-test (value c x) z) r s (t .down c z);
   up-after = λ k e c z. up k (mark-of marks k e) c z;
   down-after = λ k e c z. down k (mark-of marks k e) c z;
-  tops = λ c. ap (map (λ (x : Reading). x .time)) (t .tops c);
-  crossings = ap (map (λ (x : Reading). x .time)) (t .crossings);
+  events = λ e. ap (map (λ (x : Reading). x .time)) (t .events e);
 }
   where
     up : (k : ℕ) → ((m : ℕ) × List·Memᴰ m marks × (markIndex m ≡ k)) → (c : Curve) (z : ℤ)

@@ -12,12 +12,12 @@ use lib.Signed.{_≤ℤ_}
 use borrow.Author.Tests.{leb-true}
 use Rattle.number.specs.Axis.{origin, whole}
 use Rattle.recording.specs.Condition.{Condition, pickFrom, someOf}
-use Rattle.recording.specs.Reading.{Reading, Curve, A, B, value, falls, crossed, top, crossing, nothing}
+use Rattle.recording.specs.Reading.{Reading, Curve, A, B, value, falls, rises, crossed, top, dip, crossing, upcrossing, edge, Event, a-top, a-dip, a-crossing, an-upcrossing, event, nothing}
 use Rattle.recording.specs.Recording.{inRange}
-use Rattle.grammar.specs.Syntax.{Listed, high, low, lowafter, capafter, peaks, cross, ampl, gaps, steps, lag}
-use Rattle.meaning.specs.Listed.{recordAt, SomeRecord, EachRecord, Meets, timeOf, After, between, Says}
+use Rattle.grammar.specs.Syntax.{Listed, high, low, lowafter, capafter, peaks, dips, cross, crossup, ampl, gaps, steps, lag}
+use Rattle.meaning.specs.Listed.{recordAt, SomeRecord, EachRecord, TimeOf, timeOf, After, between, Says}
 use Rattle.meaning.specs.inner.Recorded.{InRange}
-use Rattle.meaning.specs.inner.Coded.{Coded, code, index, codedValue, codedFalls, codedCrossed, codedAfter, codedTop, codedCrossing, timesOf, topTimes, crossingTimes}
+use Rattle.meaning.specs.inner.Coded.{Coded, code, index, codedValue, codedFalls, codedRises, codedCrossed, codedAfter, codedSign, timesOf, codedTimes}
 use Rattle.meaning.specs.inner.Truth.{allOf, somePair, someStep, among, apart, truth}
 use Rattle.number.specs.laws.Boolean.{same, then, both, so-and, and-left, imp-or, or-imp}
 use Rattle.meaning.specs.laws.Whole.{Stands, stands-whole, le-test, le-index, lt-index, eq-index, apart-index, wide-index}
@@ -51,11 +51,15 @@ settled-at [] s i h = absurd (omega arith)
 settled-at (x ∷ r) s zero h = s .0
 settled-at (x ∷ r) s (suc i) h = settled-at r (s .1) i (omega arith)
 
--- ---- tops and crossings of a coded recording
+-- ---- the events of a coded recording
 
 falls-code : (c : Curve) (x : Reading) → codedFalls c (code x) ≡ falls c x
 falls-code A x = refl
 falls-code B x = refl
+
+rises-code : (c : Curve) (x : Reading) → codedRises c (code x) ≡ rises c x
+rises-code A x = refl
+rises-code B x = refl
 
 crossed-code : (x : Reading) → Settled x → codedCrossed (code x) ≡ crossed x
 crossed-code x s = same _ _
@@ -72,11 +76,13 @@ times-code : (ρ : Condition Reading) (σ : Condition Coded) (r : List Reading) 
 times-code ρ σ r s turned =
     ap (map (λ (x : Coded). x .time)) (pick-map Settled code ρ σ turned [] r tt s) ∙ map-map code (λ x. x .time) (pickFrom ρ [] r)
 
-pub tops-code : (c : Curve) (r : List Reading) → AllSettled r → topTimes c (map code r) ≡ keysOf stamp (top c) [] r
-tops-code c r s = times-code (top c) (codedTop c) r s (edge-map Settled code (falls c) (codedFalls c) (λ x h. falls-code c x))
-
-pub crossings-code : (r : List Reading) → AllSettled r → crossingTimes (map code r) ≡ keysOf stamp crossing [] r
-crossings-code r s = times-code crossing codedCrossing r s (edge-map Settled code crossed codedCrossed crossed-code)
+pub event-code : (e : Event) (r : List Reading) → AllSettled r → codedTimes e (map code r) ≡ keysOf stamp (event e) [] r
+event-code (a-top c) r s = times-code (top c) (edge (codedSign (a-top c))) r s (edge-map Settled code (falls c) (codedFalls c) (λ x h. falls-code c x))
+event-code (a-dip c) r s = times-code (dip c) (edge (codedSign (a-dip c))) r s (edge-map Settled code (rises c) (codedRises c) (λ x h. rises-code c x))
+event-code a-crossing r s = times-code crossing (edge (codedSign a-crossing)) r s (edge-map Settled code crossed codedCrossed crossed-code)
+event-code an-upcrossing r s =
+    times-code upcrossing (edge (codedSign an-upcrossing)) r s
+    (edge-map Settled code (λ x. not (crossed x)) (λ x. not (codedCrossed x)) (λ x h. ap not (crossed-code x h)))
 
 -- ---- some record, each record
 
@@ -147,7 +153,7 @@ module _ (r : List Reading) (s : AllSettled r) (z : ℤ) (n : ℕ) (is : Stands 
       )
 
   -- v is the time of a record of which the condition holds
-  of-times : (ρ : Condition Reading) (l : List ℕ) → l ≡ keysOf stamp ρ [] r → So (among n l) ↔ ((i : ℕ) × Meets ρ r i × (timeOf (recordAt r i) ≡ z))
+  of-times : (ρ : Condition Reading) (l : List ℕ) → l ≡ keysOf stamp ρ [] r → So (among n l) ↔ TimeOf ρ r z
   of-times ρ l e = rewritten (among n l) (among n (keysOf stamp ρ [] r)) (ap (among n) e) (
     λ h. let f = key-find nothing ρ stamp (eqb n) [] r h in (f .0, f .1, sym (at (f .0) .0 (f .2))),
     λ f. key-at nothing ρ stamp (eqb n) [] r (f .0) (f .1) (at (f .0) .1 (sym (f .2))),
@@ -156,20 +162,23 @@ module _ (r : List Reading) (s : AllSettled r) (z : ℤ) (n : ℕ) (is : Stands 
       at : (i : ℕ) → So (eqb n (stamp (recordAt r i))) ↔ (z ≡ timeOf (recordAt r i))
       at i = eq-index z (timeOf (recordAt r i)) n (stamp (recordAt r i)) is (stands-time (recordAt r i))
 
+  of-event : (e : Event) → So (among n (codedTimes e (map code r))) ↔ TimeOf (event e) r z
+  of-event e = of-times (event e) (codedTimes e (map code r)) (event-code e r s)
+
   between-index : (i j : ℕ) → So (apart n (stamp (recordAt r i)) (stamp (recordAt r j))) ↔ (between r i j ≡ z)
   between-index i j = apart-index (timeOf (recordAt r i)) (timeOf (recordAt r j)) z (stamp (recordAt r i)) (stamp (recordAt r j)) n
       (stands-time (recordAt r i)) (stands-time (recordAt r j)) is
 
   of-gaps : (c : Curve) → So (truth (gaps c) (map code r) n) ↔ Says (gaps c) r z
   unfolding truth Says
-  of-gaps c = rewritten _ (somePair (apart n) (keysOf stamp (top c) [] r)) (ap (somePair (apart n)) (tops-code c r s)) (
+  of-gaps c = rewritten _ (somePair (apart n) (keysOf stamp (top c) [] r)) (ap (somePair (apart n)) (event-code (a-top c) r s)) (
     λ h. let f = pair-find nothing (top c) stamp (apart n) [] r h in (f .0, f .1, f .2, f .3, f .4, between-index (f .0) (f .1) .0 (f .5)),
     λ f. pair-at nothing (top c) stamp (apart n) [] r (f .0) (f .1) (f .2) (f .3) (f .4) (between-index (f .0) (f .1) .1 (f .5)),
   )
 
   of-steps : (c : Curve) → So (truth (steps c) (map code r) n) ↔ Says (steps c) r z
   unfolding truth Says
-  of-steps c = rewritten _ (someStep (apart n) (keysOf stamp (top c) [] r)) (ap (someStep (apart n)) (tops-code c r s)) (
+  of-steps c = rewritten _ (someStep (apart n) (keysOf stamp (top c) [] r)) (ap (someStep (apart n)) (event-code (a-top c) r s)) (
     λ h. let f = step-find nothing (top c) stamp (apart n) [] r h in (f .0, f .1, (f .2, f .5), f .3, f .4, between-index (f .0) (f .1) .0 (f .6)),
     λ f. step-at nothing (top c) stamp (apart n) [] r (f .0) (f .1) (f .2 .0) (f .3) (f .4) (f .2 .1) (between-index (f .0) (f .1) .1 (f .5)),
   )
@@ -177,7 +186,7 @@ module _ (r : List Reading) (s : AllSettled r) (z : ℤ) (n : ℕ) (is : Stands 
   of-lag : So (truth lag (map code r) n) ↔ Says lag r z
   unfolding truth Says
   of-lag = rewritten _ (someOf (λ t. someOf (apart n t) (keysOf stamp (top B) [] r)) (keysOf stamp (top A) [] r))
-      (λ i. someOf (λ t. someOf (apart n t) (tops-code B r s i)) (tops-code A r s i)) (
+      (λ i. someOf (λ t. someOf (apart n t) (event-code (a-top B) r s i)) (event-code (a-top A) r s i)) (
         λ h.
             let f = key-find nothing (top A) stamp (λ t. someOf (apart n t) (keysOf stamp (top B) [] r)) [] r h in
             let g = key-find nothing (top B) stamp (apart n (stamp (recordAt r (f .0)))) [] r (f .2) in
@@ -193,8 +202,10 @@ module _ (r : List Reading) (s : AllSettled r) (z : ℤ) (n : ℕ) (is : Stands 
   says-at (low c) = of-low c
   says-at (lowafter c k) = of-lowafter c k
   says-at (capafter c k) = of-capafter c k
-  says-at (peaks c) = of-times (top c) (topTimes c (map code r)) (tops-code c r s)
-  says-at cross = of-times crossing (crossingTimes (map code r)) (crossings-code r s)
+  says-at (peaks c) = of-event (a-top c)
+  says-at (dips c) = of-event (a-dip c)
+  says-at cross = of-event a-crossing
+  says-at crossup = of-event an-upcrossing
   says-at (ampl c) = of-ampl c
   says-at (gaps c) = of-gaps c
   says-at (steps c) = of-steps c

@@ -10,16 +10,16 @@ use lib.ListN.{length, length-map}
 use borrow.Author.Tests.{ltb-true, lt-ltb}
 use Rattle.runset.specs.Runs.{runCount, mostRuns}
 use Rattle.recording.specs.Condition.{pick}
-use Rattle.recording.specs.Reading.{Reading, Curve, A, B, top}
-use Rattle.grammar.specs.Syntax.{Listed, high, low, lowafter, capafter, peaks, cross, ampl, gaps, steps, lag, Text, atom, listed, or, and, neg, finally, globally, next, until, weakUntil}
+use Rattle.recording.specs.Reading.{Reading, Curve, A, B, top, a-top}
+use Rattle.grammar.specs.Syntax.{Listed, high, low, lowafter, capafter, peaks, dips, cross, crossup, ampl, gaps, steps, lag, Text, atom, listed, or, and, neg, finally, globally, next, until, weakUntil}
 use Rattle.meaning.specs.Overfull.{children, Node, itself, below, IsSet, Overfull, Differences, of-gaps, of-steps, of-lag, TooManyTops}
 use Rattle.grammar.specs.Size.{temporal}
 use Rattle.tops.specs.Tops.{mostTops}
 use Rattle.meaning.specs.inner.Recorded.{InRange}
-use Rattle.meaning.specs.inner.Coded.{code, topTimes}
+use Rattle.meaning.specs.inner.Coded.{code, codedTimes}
 use Rattle.meaning.specs.inner.Truth.{val, someNode, runsAt, largeAt, overAt, someBelow, refused8, manyTops, asksTooMany, ofListed, refused9}
 use Rattle.number.specs.laws.Boolean.{same, or-left, or-right, or-cases}
-use Rattle.meaning.specs.laws.Listed.{all-settled, stamp, tops-code}
+use Rattle.meaning.specs.laws.Listed.{all-settled, stamp, event-code}
 use Rattle.meaning.specs.laws.Truth.{val-holds}
 use Rattle.meaning.specs.laws.Run.{runs-ext}
 
@@ -152,13 +152,13 @@ module _ (r : List Reading) (h : InRange r) where
 -- ---- REFUSAL 9
 
 module _ (r : List Reading) (h : InRange r) where
-  tops-count : (c : Curve) → length (topTimes c (map code r)) ≡ length (pick (top c) r)
-  tops-count c = ap length (tops-code c r (all-settled r h)) ∙ length-map (pick (top c) r) stamp
+  tops-count : (c : Curve) → length (codedTimes (a-top c) (map code r)) ≡ length (pick (top c) r)
+  tops-count c = ap length (event-code (a-top c) r (all-settled r h)) ∙ length-map (pick (top c) r) stamp
 
   many-tops : (c : Curve) → So (manyTops c (map code r)) ↔ (mostTops < length (pick (top c) r))
   many-tops c = (
-    λ e. omega (arith, ltb-true mostTops (length (topTimes c (map code r))) e, tops-count c),
-    λ l. lt-ltb mostTops (length (topTimes c (map code r))) (omega (arith, tops-count c)),
+    λ e. omega (arith, ltb-true mostTops (length (codedTimes (a-top c) (map code r))) e, tops-count c),
+    λ l. lt-ltb mostTops (length (codedTimes (a-top c) (map code r))) (omega (arith, tops-count c)),
   )
 
   abbrev Asks : Listed → Type 0
@@ -170,7 +170,9 @@ module _ (r : List Reading) (h : InRange r) where
   asks-find (lowafter c k) e = absurd (false≢true e)
   asks-find (capafter c k) e = absurd (false≢true e)
   asks-find (peaks c) e = absurd (false≢true e)
+  asks-find (dips c) e = absurd (false≢true e)
   asks-find cross e = absurd (false≢true e)
+  asks-find crossup e = absurd (false≢true e)
   asks-find (ampl c) e = absurd (false≢true e)
   asks-find (gaps c) e = (c, of-gaps, many-tops c .0 e)
   asks-find (steps c) e = (c, of-steps, many-tops c .0 e)

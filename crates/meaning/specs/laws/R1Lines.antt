@@ -1,71 +1,52 @@
--- The marked lines of R1: the set of each is computed, its extremes read off, and its runs compared.
+-- Document 01, "Recording R1", and Paper 1: the readings of R1, and its marked lines for questions by their trees. As texts, and with those of thinning, they
+-- stand in crate `promises`.
 use Prim.Native.Nat.{ℕ, _+_, _<_}
 use native.Mathlib.Omega.{arith}
-use mathlib.Core.Path.{_≡_, refl, sym, ap, _∙_, subst}
-use mathlib.Core.Bool.{Bool, true, false, _&&_, _||_, So, false≢true}
-use mathlib.Core.Logic.{⊎-elim, _↔_}
-use mathlib.Core.List.{List, [], _∷_, map, List·Memᴰ, List·Memᴰ·not-nil, List·Memᴰ·cases-cons}
+use mathlib.Core.Path.{_≡_, refl, sym, ap, _∙_}
+use mathlib.Core.Bool.{Bool, true, false, _||_}
+use mathlib.Core.List.{List, [], _∷_, map, List·Memᴰ, List·Memᴰ·not-nil}
 use lib.Dec.{leb, eqb}
 use lib.IntN.{pos}
 use lib.Signed.{leZ-yes, ltZ-yes}
 use borrow.Author.Tests.{leb-true, le-leb, eqb-true, eq-eqb}
-use Rattle.number.specs.Axis.{origin, axis, whole}
-use Rattle.recording.specs.Reading.{A, B, value, nothing}
+use Rattle.number.specs.Axis.{origin, axis}
+use Rattle.recording.specs.Condition.{someOf}
+use Rattle.recording.specs.Reading.{Reading, A, B, value, nothing}
 use Rattle.recording.specs.Recording.{inRange}
-use Rattle.grammar.specs.Syntax.{ge, eq, of, v, number, compare, high, low, lowafter, capafter, peaks, cross, ampl, gaps, lag, atom, listed, until}
+use Rattle.grammar.specs.Syntax.{ge, eq, of, v, number, compare, high, low, lowafter, capafter, peaks, dips, cross, crossup, ampl, gaps, lag, atom, listed, until}
+use Rattle.meaning.specs.Ranges.{_to_, just, Lo, Hi, Maximal}
 use Rattle.meaning.specs.inner.Recorded.{InRange}
-use Rattle.meaning.specs.inner.Coded.{Coded, code, index, codedValue, codedAfter}
-use Rattle.meaning.specs.inner.Truth.{among, truth, val}
-use Rattle.number.specs.laws.Boolean.{same, then, back, either, both, so-or, so-and, and-left, and-right, and-make}
-use Rattle.meaning.specs.laws.Whole.{Stands, stands-whole, le-index}
-use Rattle.meaning.specs.laws.Truth.{val-holds}
+use Rattle.meaning.specs.inner.Coded.{Coded, code, codedValue, codedAfter}
+use Rattle.meaning.specs.inner.Truth.{truth, val}
+use Rattle.number.specs.laws.Boolean.{same}
 use Rattle.meaning.specs.laws.Pick.{Each, all-at}
 use Rattle.meaning.specs.laws.Extreme.{Greatest, Least, greatest-some, least-some, spread, among-same}
-use Rattle.meaning.specs.R1.{R1, Run, _to_, just, Lo, Hi, _is_, InRuns, Maximal, Example, marked, at, Holding}
-use Rattle.recording.specs.Condition.{someOf}
+use Rattle.meaning.specs.laws.Lines.{Example, _is_, at, Holding, within, OnAxis, alone, up-to, from-on, ones, told, _also_}
 
--- ---- runs by indices
+-- a reading of R1: T, A and the slope of A; B is 50 and flat
+abbrev pub r1 : ℕ → ℕ → ℕ → Reading
+r1 t x s = record { time = t; a = pos x; b = pos 50; slope-a = s; slope-b = 1 }
 
-abbrev within : ℕ → Run → Bool
-within n x = leb (index (x .low)) n && leb n (index (x .high))
+abbrev pub R1 : List Reading
+R1 = r1 0 40 2 ∷ r1 10 60 2 ∷ r1 20 80 2 ∷ r1 30 70 0 ∷ r1 40 30 0 ∷ r1 50 55 2 ∷ r1 60 90 2 ∷ r1 70 45 0 ∷ []
 
-abbrev OnAxis : Run → Type 0
-OnAxis x = Stands (x .low) (index (x .low)) origin × Stands (x .high) (index (x .high)) origin
-
-in-runs : (l : List Run) → Each OnAxis l → (n : ℕ) → So (someOf (within n) l) ↔ InRuns l (whole n)
-in-runs [] s n = (λ e. false≢true e, λ e. absurd e)
-in-runs (x ∷ l) s n = then (so-or (within n x) (someOf (within n) l)) (either
-    (then (so-and (leb (index (x .low)) n) (leb n (index (x .high)))) (both
-    (le-index (x .low) (whole n) (index (x .low)) n (s .0 .0) (stands-whole n))
-    (le-index (whole n) (x .high) n (index (x .high)) (stands-whole n) (s .0 .1))))
-    (in-runs l (s .1) n))
-
-alone : (e : Bool) → e ≡ (e || false)
-alone true = refl
-alone false = refl
-
--- a run from the low end of the axis; one to the high end; one number
-up-to : (n m : ℕ) → leb n m ≡ ((leb 0 n && leb n m) || false)
-up-to n m = ap (λ (e : Bool). e && leb n m) (sym (le-leb 0 n (omega arith))) ∙ alone (leb 0 n && leb n m)
-
-from-on : (n m : ℕ) → n < axis → leb m n ≡ ((leb m n && leb n 4000000000) || false)
-from-on n m h = and-true (leb m n) ∙ ap (λ (e : Bool). leb m n && e) (sym (le-leb n 4000000000 (omega arith))) ∙ alone (leb m n && leb n 4000000000)
-  where
-    and-true : (e : Bool) → e ≡ (e && true)
-    and-true true = refl
-    and-true false = refl
-
-one : (n t : ℕ) → eqb n t ≡ (leb t n && leb n t)
-one n t = same _ _
-    (λ h. and-make (leb t n) _ (le-leb t n (omega (arith, eqb-true n t h))) (le-leb n t (omega (arith, eqb-true n t h))))
-    (λ h. eq-eqb n t (omega (arith, leb-true t n (and-left (leb t n) _ h), leb-true n t (and-right (leb t n) _ h))))
-
--- some numbers, each a run
-ones : (l : List ℕ) (n : ℕ) → among n (map at l) ≡ someOf (within n) (map just l)
-ones [] n = refl
-ones (t ∷ l) n = let a = one n (at t) in let b = ones l n in λ i. a i || b i
-
--- ---- the lines
+-- the marked lines
+abbrev pub marked : List Example
+marked =
+    listed (high A) is ((Lo to pos 90) ∷ [])
+    ∷ listed (low A) is ((pos 30 to Hi) ∷ [])
+    ∷ listed (ampl A) is ((Lo to pos 60) ∷ [])
+    ∷ listed (peaks A) is (just 30 ∷ just 70 ∷ [])
+    ∷ listed (gaps A) is (just 40 ∷ [])
+    ∷ listed cross is (just 40 ∷ just 70 ∷ [])
+    ∷ listed (dips A) is (just 50 ∷ [])
+    ∷ listed crossup is (just 10 ∷ just 50 ∷ [])
+    ∷ listed lag is []
+    ∷ listed (lowafter A (at 40)) is ((pos 45 to Hi) ∷ [])
+    ∷ listed (lowafter A (at 70)) is []
+    ∷ listed (capafter A (at 70)) is ((Lo to Hi) ∷ [])
+    ∷ until (atom (compare (of A) ge (number (at 40)))) (atom (compare (of A) eq v)) is (just 30 ∷ just 40 ∷ just 60 ∷ just 70 ∷ just 80 ∷ [])
+    ∷ []
 
 r1-in-range : InRange R1
 r1-in-range i h A = all-at nothing (λ x. inRange (value A x)) R1 refl i h
@@ -74,11 +55,8 @@ r1-in-range i h B = all-at nothing (λ x. inRange (value B x)) R1 refl i h
 abbrev coded : List Coded
 coded = map code R1
 
-told : (l : Example) → Each OnAxis (l .runs) → ((n : ℕ) → n < axis → val coded n (l .text) 0 ≡ someOf (within n) (l .runs)) → Maximal (l .runs) → Holding l
-told l s e m = record {
-  set = λ n h. then (back (in-runs (l .runs) s n)) (then (λ k. e n h ∙ k, λ k. sym (e n h) ∙ k) (val-holds R1 r1-in-range n (l .text) 0 (omega arith)));
-  maximal = m;
-}
+line : (l : Example) → Each OnAxis (l .runs) → ((n : ℕ) → n < axis → val coded n (l .text) 0 ≡ someOf (within n) (l .runs)) → Maximal (l .runs) → Holding R1 l
+line = told R1 r1-in-range
 
 -- the greatest A is 90, the least 30; after 40 the least is 45
 greatest-A : Greatest (λ (x : Coded). true) (codedValue A) coded (at 90)
@@ -124,6 +102,14 @@ cross-set : (n : ℕ) → n < axis → val coded n (listed cross) 0 ≡ someOf (
 unfolding val truth
 cross-set n h = ones (40 ∷ 70 ∷ []) n
 
+dips-set : (n : ℕ) → n < axis → val coded n (listed (dips A)) 0 ≡ someOf (within n) (just 50 ∷ [])
+unfolding val truth
+dips-set n h = ones (50 ∷ []) n
+
+crossup-set : (n : ℕ) → n < axis → val coded n (listed crossup) 0 ≡ someOf (within n) (just 10 ∷ just 50 ∷ [])
+unfolding val truth
+crossup-set n h = ones (10 ∷ 50 ∷ []) n
+
 lag-set : (n : ℕ) → n < axis → val coded n (listed lag) 0 ≡ false
 unfolding val truth
 lag-set n h = refl
@@ -146,25 +132,22 @@ unfolding val
 until-set n h =
     among-same n (map at (40 ∷ 60 ∷ 80 ∷ 70 ∷ 30 ∷ [])) (map at (30 ∷ 40 ∷ 60 ∷ 70 ∷ 80 ∷ [])) refl refl ∙ ones (30 ∷ 40 ∷ 60 ∷ 70 ∷ 80 ∷ []) n
 
--- a line, and then the lines after it
-infixr 5 _also_
-_also_ : {l x : Example} {r : List Example} → Holding x → (List·Memᴰ l r → Holding l) → List·Memᴰ l (x ∷ r) → Holding l
-(t also rest) m = ⊎-elim (λ e. subst Holding (sym e) t) rest (List·Memᴰ·cases-cons m)
-
 -- THE MARKED LINES HOLD OF R1
-pub marked-lines : (l : Example) → List·Memᴰ l marked → Holding l
+pub marked-lines : (l : Example) → List·Memᴰ l marked → Holding R1 l
 marked-lines l =
-    told (listed (high A) is ((Lo to pos 90) ∷ [])) ((refl, refl), tt) high-set (leZ-yes tt)
-    also told (listed (low A) is ((pos 30 to Hi) ∷ [])) ((refl, refl), tt) low-set (leZ-yes tt)
-    also told (listed (ampl A) is ((Lo to pos 60) ∷ [])) ((refl, refl), tt) ampl-set (leZ-yes tt)
-    also told (listed (peaks A) is (just 30 ∷ just 70 ∷ [])) ((refl, refl), ((refl, refl), tt)) peaks-set (leZ-yes tt, ltZ-yes tt, leZ-yes tt)
-    also told (listed (gaps A) is (just 40 ∷ [])) ((refl, refl), tt) gaps-set (leZ-yes tt)
-    also told (listed cross is (just 40 ∷ just 70 ∷ [])) ((refl, refl), ((refl, refl), tt)) cross-set (leZ-yes tt, ltZ-yes tt, leZ-yes tt)
-    also told (listed lag is []) tt lag-set tt
-    also told (listed (lowafter A (at 40)) is ((pos 45 to Hi) ∷ [])) ((refl, refl), tt) lowafter-40-set (leZ-yes tt)
-    also told (listed (lowafter A (at 70)) is []) tt lowafter-70-set tt
-    also told (listed (capafter A (at 70)) is ((Lo to Hi) ∷ [])) ((refl, refl), tt) capafter-70-set (leZ-yes tt)
-    also told (until (atom (compare (of A) ge (number (at 40)))) (atom (compare (of A) eq v)) is (just 30 ∷ just 40 ∷ just 60 ∷ just 70 ∷ just 80 ∷ []))
+    line (listed (high A) is ((Lo to pos 90) ∷ [])) ((refl, refl), tt) high-set (leZ-yes tt)
+    also line (listed (low A) is ((pos 30 to Hi) ∷ [])) ((refl, refl), tt) low-set (leZ-yes tt)
+    also line (listed (ampl A) is ((Lo to pos 60) ∷ [])) ((refl, refl), tt) ampl-set (leZ-yes tt)
+    also line (listed (peaks A) is (just 30 ∷ just 70 ∷ [])) ((refl, refl), ((refl, refl), tt)) peaks-set (leZ-yes tt, ltZ-yes tt, leZ-yes tt)
+    also line (listed (gaps A) is (just 40 ∷ [])) ((refl, refl), tt) gaps-set (leZ-yes tt)
+    also line (listed cross is (just 40 ∷ just 70 ∷ [])) ((refl, refl), ((refl, refl), tt)) cross-set (leZ-yes tt, ltZ-yes tt, leZ-yes tt)
+    also line (listed (dips A) is (just 50 ∷ [])) ((refl, refl), tt) dips-set (leZ-yes tt)
+    also line (listed crossup is (just 10 ∷ just 50 ∷ [])) ((refl, refl), ((refl, refl), tt)) crossup-set (leZ-yes tt, ltZ-yes tt, leZ-yes tt)
+    also line (listed lag is []) tt lag-set tt
+    also line (listed (lowafter A (at 40)) is ((pos 45 to Hi) ∷ [])) ((refl, refl), tt) lowafter-40-set (leZ-yes tt)
+    also line (listed (lowafter A (at 70)) is []) tt lowafter-70-set tt
+    also line (listed (capafter A (at 70)) is ((Lo to Hi) ∷ [])) ((refl, refl), tt) capafter-70-set (leZ-yes tt)
+    also line (until (atom (compare (of A) ge (number (at 40)))) (atom (compare (of A) eq v)) is (just 30 ∷ just 40 ∷ just 60 ∷ just 70 ∷ just 80 ∷ []))
     ((refl, refl), ((refl, refl), ((refl, refl), ((refl, refl), ((refl, refl), tt))))) until-set
     (leZ-yes tt, ltZ-yes tt, (leZ-yes tt, ltZ-yes tt, (leZ-yes tt, ltZ-yes tt, (leZ-yes tt, ltZ-yes tt, leZ-yes tt))))
     also (λ m. absurd (List·Memᴰ·not-nil m))

@@ -57,25 +57,25 @@ module _ (bytes : List ℕ) (n curve index : ℕ) (a : Accepted bytes) (e : n �
         (scanned-all (topTimes (curveOf curve) (readings bytes)) old new count scanned (let t = scanned .counted in omega arith))
         ∙ sym (judged-none (tooManyTops bytes curve ∷ []) given few)
 
-slice-aggregate-top-times : tie.Need-slice-aggregate-top-times
-slice-aggregate-top-times c = search needs
+slice-aggregate-event-times : tie.Need-slice-aggregate-event-times
+slice-aggregate-event-times c = search needs
 
-top-times-requires : tie.Need-top-times-requires
-top-times-requires c κs = search needs
+event-times-requires : tie.Need-event-times-requires
+event-times-requires c κs = search needs
 
 returns : tie.Need-returns
 returns c =
     let t = c .before .before in
     let h = t .before .before .before in
     let args = h .args in
-    over (args .rec .now) (args .n) (args .curve) (args .index) (h .pre .0) (h .pre .1) _ refl (t .top-times .result) (t .top-times .last .1 .1 .1 .0) (t .top-times .ensures) (c .if1 .taken)
+    over (args .rec .now) (args .n) (args .curve) (args .index) (h .pre .0) (h .pre .1) _ refl (t .event-times .result) (t .event-times .last .1 .1 .1 .0) (t .event-times .ensures) (c .if1 .taken)
 
 returns-2 : tie.Need-returns-2
 returns-2 c =
     let t = c .before .before .before in
     let h = t .before .before .before in
     let args = h .args in
-    at-or-below (args .rec .now) (args .n) (args .curve) (args .index) (h .pre .0) (h .pre .1) _ refl (t .top-times .result) (t .top-times .last .1 .1 .1 .0) (t .top-times .ensures)
+    at-or-below (args .rec .now) (args .n) (args .curve) (args .index) (h .pre .0) (h .pre .1) _ refl (t .event-times .result) (t .event-times .last .1 .1 .1 .0) (t .event-times .ensures)
     (c .before .if1 .left) (c .if2 .taken)
 
 slice-aggregate-search : tie.Need-slice-aggregate-search
@@ -92,15 +92,15 @@ returns-3 c =
     let t = c .before .before .before .before .before in
     let h = t .before .before .before in
     let args = h .args in
-    above (args .rec .now) (args .n) (args .curve) (args .index) (h .pre .0) (h .pre .1) _ refl (t .top-times .result) (t .top-times .last .1 .1 .1 .0) (t .top-times .ensures)
+    above (args .rec .now) (args .n) (args .curve) (args .index) (h .pre .0) (h .pre .1) _ refl (t .event-times .result) (t .event-times .last .1 .1 .1 .0) (t .event-times .ensures)
     (c .before .before .before .if1 .left) (c .before .before .if2 .left) (c .search .result) (c .search .ensures)
 
 pub tops-apart-spec : {M : Type 1} → statement M
 tops-apart-spec =
     tie.close
     (tie.spec
-    slice-aggregate-top-times
-    top-times-requires
+    slice-aggregate-event-times
+    event-times-requires
     returns
     returns-2
     slice-aggregate-search

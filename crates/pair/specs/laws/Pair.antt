@@ -17,13 +17,13 @@ use Rattle.refusal.specs.Outcome.{refused, Line, judged, NoneMeets}
 use Rattle.refusal.specs.Numbers.{numberOf, placeOf}
 use Rattle.refusal.specs.declared.Refusal.{Refusal}
 use Rattle.recording.specs.Condition.{pick}
-use Rattle.recording.specs.Reading.{Reading, Curve, top, nothing}
+use Rattle.recording.specs.Reading.{Reading, Curve, top, nothing, a-top}
 use Rattle.recording.specs.Recording.{readings, Accepted}
 use Rattle.recording.specs.laws.Outcome.{judged-pass, judged-first, refusal-stands}
-use Rattle.tops.specs.Tops.{recordedTime, topTimes}
+use Rattle.tops.specs.Tops.{recordedTime, eventTimes, topTimes}
 use Rattle.targets.specs.laws.Target.{sub-above, sub-below}
 use Rattle.tops.specs.inner.Scan.{Scanned}
-use Rattle.tops.specs.laws.Top.{top-times-ascend}
+use Rattle.tops.specs.laws.Event.{event-times-ascend}
 use Rattle.tops.specs.laws.Pick.{Ascending, indexOf, index-rising, index-found, Found, numberOf as rankOf, number-rising, number-found, Numbered}
 use Rattle.pair.specs.declared.TopPair.{TopPair}
 use Rattle.pair.specs.declared.TopPair.the-variants as answer
@@ -47,11 +47,11 @@ module _ (r : List Reading) (c : Curve) (g : ℤ) where
   ts = topTimes c r
 
   time-of-place : (k : ℕ) → getD (topTimes c r) k 0 ≡ recordedTime (getD (pick (top c) r) k nothing)
-  unfolding topTimes
+  unfolding eventTimes
   time-of-place k = List·getD-map recordedTime (pick (top c) r) k nothing
 
   pub count-tops : length (topTimes c r) ≡ length (pick (top c) r)
-  unfolding topTimes
+  unfolding eventTimes
   count-tops = length-map (pick (top c) r) recordedTime
 
   -- a pair that fits stands at two places
@@ -145,11 +145,11 @@ module _ (r : List Reading) (c : Curve) (g : ℤ) where
 
 -- of an accepted recording
 pub first-fitting : (c : Curve) (bytes : List ℕ) → Accepted bytes → (g : ℤ) → FirstFitting (readings bytes) c g (firstPair (readings bytes) c g)
-first-fitting c bytes a g = given-first (readings bytes) c g (top-times-ascend c bytes a)
+first-fitting c bytes a g = given-first (readings bytes) c g (event-times-ascend (a-top c) bytes a)
 
 -- so the call has none for a target of 0 or less
 pub none-for-low : (c : Curve) (bytes : List ℕ) → Accepted bytes → (g : ℤ) → leZ g (pos 0) ≡ true → firstPair (readings bytes) c g ≡ none
-none-for-low c bytes a g h = none-below (readings bytes) c g (top-times-ascend c bytes a) h
+none-for-low c bytes a g h = none-below (readings bytes) c g (event-times-ascend (a-top c) bytes a) h
 
 -- the number at or below the origin
 pub whole-below : (n : ℕ) → n ≤ origin → leZ (whole n) (pos 0) ≡ true

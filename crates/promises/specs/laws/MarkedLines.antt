@@ -1,4 +1,5 @@
--- The marked lines of R1 hold, by one fact: the texts are read by computing, their sets are those of R1Lines, and the runs of a set fix its bytes.
+-- The marked lines of R1, and the lines of R2, hold by one fact: the texts are read by computing, their sets are those of R1Lines and R2Lines, and the runs of
+-- a set fix its bytes.
 use Prim.Native.Nat.{ℕ, _*_, zero, suc, _+_, _-_, _≤_, _<_}
 use native.Mathlib.Omega.{arith}
 use mathlib.Core.Path.{_≡_, refl, sym, ap, _∙_, subst}
@@ -16,6 +17,7 @@ use Rattle.refusal.specs.Outcome.{NoneMeets}
 use Rattle.recording.specs.Output.{outputLine}
 use Rattle.recording.specs.laws.Outcome.{judged-pass, append-none}
 use Rattle.recording.specs.R1.{R1}
+use Rattle.recording.specs.R2.{R2}
 use Rattle.recording.specs.Reading.{Reading, A}
 use Rattle.recording.specs.Recording as recording
 use Rattle.runset.specs.Runs.{runCount, mostRuns, startsAt, runBytes, setBytes}
@@ -26,7 +28,7 @@ use Rattle.grammar.specs.Bytes.{bytes}
 use Rattle.grammar.specs.inner.Lexer.{unsignedAt, numberAt, operandAt, comparisonAt, timedAt, argumentsAt, namedAt, headedAt, leafAt}
 use Rattle.grammar.specs.inner.Parse.{one, parse, parsed}
 use Rattle.grammar.specs.Size.{tooDeep}
-use Rattle.grammar.specs.Syntax.{ge, eq, of, v, number, compare, Listed, high, low, lowafter, capafter, peaks, cross, ampl, gaps, lag, Text, atom, listed, until}
+use Rattle.grammar.specs.Syntax.{ge, eq, of, v, number, compare, Listed, high, low, lowafter, capafter, peaks, dips, cross, crossup, ampl, gaps, lag, Text, atom, listed, until}
 use Rattle.text.specs.Told.{textLines}
 use Rattle.grammar.specs.laws.Unique.{reading-is}
 use Rattle.number.specs.laws.Boolean.{same, then, back, either, both, so-or, so-and, or-none, and-left, and-right}
@@ -34,9 +36,12 @@ use Rattle.meaning.specs.inner.Coded.{Coded, coded, index}
 use Rattle.meaning.specs.Meaning.{Holds}
 use Rattle.meaning.specs.laws.Pick.{Each}
 use Rattle.meaning.specs.inner.Recorded.{InRange}
-use Rattle.meaning.specs.R1 as lines
-use Rattle.meaning.specs.R1.{Run, InRuns}
+use Rattle.meaning.specs.Ranges.{Run, InRuns}
+use Rattle.meaning.specs.laws.Lines.{Example, Holding, within, OnAxis, in-runs}
+use Rattle.meaning.specs.laws.R1Lines as r1
+use Rattle.meaning.specs.laws.R2Lines as r2
 use Rattle.meaning.specs.laws.R1Lines.{marked-lines}
+use Rattle.meaning.specs.laws.R2Lines.{lines-hold}
 use Rattle.meaning.specs.laws.Run.{starts, run-count, Convex, const-convex, point-convex, convex-runs, convex-few}
 use Rattle.meaning.specs.laws.Recorded.{accepted-recorded}
 use Rattle.meaning.specs.inner.Truth.{allOf, codedAt, lastCoded, untilFrom, val, someNode, overAt, someBelow, refused8, refused9}
@@ -46,7 +51,8 @@ use Rattle.question.specs.Question.{theText, read, answer, askingLines, setLine
 use Rattle.thin.specs.Thin.{keptBytes, thinOf}
 use Rattle.marks.specs.Marks.{marksOf, marksLine, AcceptedMarks}
 use Rattle.thin.specs.laws.R1Calls.{R1-accepted}
-use Rattle.promises.specs.MarkedLines.{MarkedLine, markedLines, bytesOfRuns, bytesOfMarks, writtenIn, Asked, Thinned, LineHolds}
+use Rattle.thin.specs.laws.Examples.{R2-accepted}
+use Rattle.promises.specs.MarkedLines.{MarkedLine, markedLines, R2Lines, bytesOfRuns, bytesOfMarks, writtenIn, Asked, Thinned, LineHolds}
 use Rattle.recording.specs.Condition.{someOf}
 
 -- ---- the runs of a set fix its bytes
@@ -55,20 +61,6 @@ use Rattle.recording.specs.Condition.{someOf}
 abbrev cuts : List Run → List ℕ
 cuts [] = []
 cuts (x ∷ l) = index (x .low) ∷ (index (x .high) + 1) ∷ cuts l
-
-abbrev OnAxis : Run → Type 0
-OnAxis x = Stands (x .low) (index (x .low)) origin × Stands (x .high) (index (x .high)) origin
-
-abbrev within : ℕ → Run → Bool
-within n x = leb (index (x .low)) n && leb n (index (x .high))
-
-within-runs : (l : List Run) → Each OnAxis l → (n : ℕ) → So (someOf (within n) l) ↔ InRuns l (whole n)
-within-runs [] s n = (λ e. false≢true e, λ e. absurd e)
-within-runs (x ∷ l) s n = then (so-or (within n x) (someOf (within n) l)) (either
-    (then (so-and (leb (index (x .low)) n) (leb n (index (x .high)))) (both
-    (le-index (x .low) (whole n) (index (x .low)) n (s .0 .0) (stands-whole n))
-    (le-index (whole n) (x .high) n (index (x .high)) (stands-whole n) (s .0 .1))))
-    (within-runs l (s .1) n))
 
 covered : (l : List Run) (n : ℕ) → covers (lowCuts (cuts l)) (highCuts (cuts l)) n ≡ someOf (within n) l
 unfolding lowCuts highCuts covers
@@ -133,56 +125,49 @@ module _ (l : List Run) (h : fits l ≡ true) where
   inside-runs : (n : ℕ) → So (inside (cuts l) n) ↔ InRuns l (whole n)
   inside-runs n =
       let e = sym (inside-covers 0 axis (cuts l) n ascend (ended 0 l ascend)) ∙ covered l n in
-      then (λ k. sym e ∙ k, λ k. e ∙ k) (within-runs l on-axis n)
+      then (λ k. sym e ∙ k, λ k. e ∙ k) (in-runs l on-axis n)
 
 -- ---- a line from its parts
 
-R1-readings : recording.readings R1 ≡ lines.R1
-unfolding recording.reading signed turned
-R1-readings = refl
-
-R1-in-range : InRange (recording.readings R1)
-R1-in-range = accepted-recorded R1 R1-accepted .in-range
-
 -- a line of the meaning, read from a text: 5, 6, 7 and 9 do not refuse it, and 8 does not where the set has at most 256 runs
-module _ {l : lines.Example} (told : lines.Holding l) (text : List ℕ) (reads : parsed text ≡ one (l .text)) (sized : NoneMeets (textLines text))
+module _ (R : List ℕ) (accepted : recording.Accepted R) (some : recording.noRecord R .meets ≡ false) {l : Example} (told : Holding (recording.readings R) l) (text : List ℕ) (reads : parsed text ≡ one (l .text)) (sized : NoneMeets (textLines text))
     (fit : fits (l .runs) ≡ true) (written : runBytes (lowCuts (cuts (l .runs))) (highCuts (cuts (l .runs))) ≡ bytesOfRuns (l .runs))
-    (nine : refused9 (coded R1) (l .text) ≡ false) (eight : runCount (λ n. val (coded R1) n (l .text) 0) ≤ mostRuns → refused8 (coded R1) (l .text) ≡ false) where
+    (nine : refused9 (coded R) (l .text) ≡ false) (eight : runCount (λ n. val (coded R) n (l .text) 0) ≤ mostRuns → refused8 (coded R) (l .text) ≡ false) where
   is-read : read text ≡ l .text
   is-read = ap theText reads
 
-  line-holds : (n : ℕ) → n < axis → Holds (recording.readings R1) (whole n) (l .text) 0 ↔ InRuns (l .runs) (whole n)
-  line-holds n h = back (subst (λ (r : List Reading). InRuns (l .runs) (whole n) ↔ Holds r (whole n) (l .text) 0) (sym R1-readings) (told .set n h))
+  line-holds : (n : ℕ) → n < axis → Holds (recording.readings R) (whole n) (l .text) 0 ↔ InRuns (l .runs) (whole n)
+  line-holds n h = back (told .set n h)
 
-  line-set : (n : ℕ) → n < axis → So (val (coded R1) n (l .text) 0) ↔ InRuns (l .runs) (whole n)
-  line-set n h = then (val-holds (recording.readings R1) R1-in-range n (l .text) 0 (omega arith)) (line-holds n h)
+  line-set : (n : ℕ) → n < axis → So (val (coded R) n (l .text) 0) ↔ InRuns (l .runs) (whole n)
+  line-set n h = then (val-holds (recording.readings R) (accepted-recorded R accepted .in-range) n (l .text) 0 (omega arith)) (line-holds n h)
 
-  line-inside : (n : ℕ) → n < axis → inside (cuts (l .runs)) n ≡ val (coded R1) n (l .text) 0
+  line-inside : (n : ℕ) → n < axis → inside (cuts (l .runs)) n ≡ val (coded R) n (l .text) 0
   line-inside n h = same _ _
       (λ e. line-set n h .1 (inside-runs (l .runs) fit n .0 e)) (λ e. inside-runs (l .runs) fit n .1 (line-set n h .0 e))
 
-  line-bytes : setBytes (λ n. val (coded R1) n (l .text) 0) ≡ bytesOfRuns (l .runs)
-  line-bytes = cuts-bytes (λ n. val (coded R1) n (l .text) 0) (cuts (l .runs)) (canonical (l .runs) fit) line-inside ∙ written
+  line-bytes : setBytes (λ n. val (coded R) n (l .text) 0) ≡ bytesOfRuns (l .runs)
+  line-bytes = cuts-bytes (λ n. val (coded R) n (l .text) 0) (cuts (l .runs)) (canonical (l .runs) fit) line-inside ∙ written
 
-  line-few : runCount (λ n. val (coded R1) n (l .text) 0) ≤ mostRuns
+  line-few : runCount (λ n. val (coded R) n (l .text) 0) ≤ mostRuns
   line-few =
-      omega (arith, few-cuts (l .runs) fit, cuts-count (λ n. val (coded R1) n (l .text) 0) (cuts (l .runs)) (canonical (l .runs) fit) line-inside)
+      omega (arith, few-cuts (l .runs) fit, cuts-count (λ n. val (coded R) n (l .text) 0) (cuts (l .runs)) (canonical (l .runs) fit) line-inside)
 
-  line-call : (room : ℕ) → questionOf R1 text room ≡ writtenIn room (bytesOfRuns (l .runs))
+  line-call : (room : ℕ) → questionOf R text room ≡ writtenIn room (bytesOfRuns (l .runs))
   unfolding questionOf
   line-call room =
-      let set : setBytes (answer R1 text) ≡ bytesOfRuns (l .runs) = ap (λ (p : Text). setBytes (λ n. val (coded R1) n p 0)) is-read ∙ line-bytes in
-      judged-pass (askingLines R1 text) (setLines R1 (read text) ++ (outputLine room (setBytes (answer R1 text)) ∷ [])) (setBytes (answer R1 text))
-      (append-none (recording.recordingLines R1) (recording.noRecord R1 ∷ textLines text) R1-accepted (refl, sized))
-      ∙ judged-pass (setLines R1 (read text)) (outputLine room (setBytes (answer R1 text)) ∷ []) (setBytes (answer R1 text))
-      (ap (refused9 (coded R1)) is-read ∙ nine, (ap (refused8 (coded R1)) is-read ∙ eight line-few, tt))
+      let set : setBytes (answer R text) ≡ bytesOfRuns (l .runs) = ap (λ (p : Text). setBytes (λ n. val (coded R) n p 0)) is-read ∙ line-bytes in
+      judged-pass (askingLines R text) (setLines R (read text) ++ (outputLine room (setBytes (answer R text)) ∷ [])) (setBytes (answer R text))
+      (append-none (recording.recordingLines R) (recording.noRecord R ∷ textLines text) accepted (some, sized))
+      ∙ judged-pass (setLines R (read text)) (outputLine room (setBytes (answer R text)) ∷ []) (setBytes (answer R text))
+      (ap (refused9 (coded R)) is-read ∙ nine, (ap (refused8 (coded R)) is-read ∙ eight line-few, tt))
       ∙ ap (writtenIn room) set
 
-  asked : Asked text (l .runs)
+  asked : Asked R text (l .runs)
   asked = record {
     reads = reading-is text (read text) .0 (reads ∙ ap one (sym is-read));
-    holds = λ n h. subst (λ (p : Text). Holds (recording.readings R1) (whole n) p 0 ↔ InRuns (l .runs) (whole n)) (sym is-read) (line-holds n h);
-    set = λ n h. subst (λ (p : Text). So (val (coded R1) n p 0) ↔ InRuns (l .runs) (whole n)) (sym is-read) (line-set n h);
+    holds = λ n h. subst (λ (p : Text). Holds (recording.readings R) (whole n) p 0 ↔ InRuns (l .runs) (whole n)) (sym is-read) (line-holds n h);
+    set = λ n h. subst (λ (p : Text). So (val (coded R) n p 0) ↔ InRuns (l .runs) (whole n)) (sym is-read) (line-set n h);
     maximal = told .maximal;
     call = line-call;
   }
@@ -190,9 +175,9 @@ module _ {l : lines.Example} (told : lines.Holding l) (text : List ℕ) (reads :
 -- ---- refusal 8
 
 -- a listed question has one node, judged at the first record
-listed-eight : (q : Listed) → runCount (λ n. val (coded R1) n (listed q) 0) ≤ mostRuns → refused8 (coded R1) (listed q) ≡ false
+listed-eight : (R : List ℕ) (q : Listed) → runCount (λ n. val (coded R) n (listed q) 0) ≤ mostRuns → refused8 (coded R) (listed q) ≡ false
 unfolding refused8 someNode
-listed-eight q h = le-ltb mostRuns (runCount (λ n. val (coded R1) n (listed q) 0)) h
+listed-eight R q h = le-ltb mostRuns (runCount (λ n. val (coded R) n (listed q) 0)) h
 
 -- the runs of a union are not more than those of its two sides
 starts-or : (f g : ℕ → Bool) (n : ℕ) → starts (λ m. f m || g m) n ≤ starts f n + starts g n
@@ -259,48 +244,119 @@ until-eight k = nowhere (overAt (coded R1) (untilText k)) (λ i. until-over (cod
 
 -- ---- thinning
 
-module _ (marks times : List ℕ) (numbers : marksOf (bytesOfMarks marks) ≡ marks) (fine : AcceptedMarks (bytesOfMarks marks))
-    (kept : map (λ (x : Reading). x .time) (recording.readings (keptBytes marks R1)) ≡ times) where
-  thinned : Thinned marks times
+module _ (R : List ℕ) (accepted : recording.Accepted R) (marks times : List ℕ) (numbers : marksOf (bytesOfMarks marks) ≡ marks) (fine : AcceptedMarks (bytesOfMarks marks))
+    (kept : map (λ (x : Reading). x .time) (recording.readings (keptBytes marks R)) ≡ times) where
+  thinned : Thinned R marks times
   unfolding thinOf
   thinned = record {
     kept = kept;
     call = λ room.
-        judged-pass (recording.recordingLines R1)
-        (marksLine (bytesOfMarks marks) ∷ outputLine room (keptBytes (marksOf (bytesOfMarks marks)) R1) ∷ []) (keptBytes (marksOf (bytesOfMarks marks)) R1) R1-accepted
-        ∙ judged-pass (marksLine (bytesOfMarks marks) ∷ []) (outputLine room (keptBytes (marksOf (bytesOfMarks marks)) R1) ∷ []) (keptBytes (marksOf (bytesOfMarks marks)) R1) fine
-        ∙ ap (λ (m : List ℕ). writtenIn room (keptBytes m R1)) numbers;
+        judged-pass (recording.recordingLines R)
+        (marksLine (bytesOfMarks marks) ∷ outputLine room (keptBytes (marksOf (bytesOfMarks marks)) R) ∷ []) (keptBytes (marksOf (bytesOfMarks marks)) R) accepted
+        ∙ judged-pass (marksLine (bytesOfMarks marks) ∷ []) (outputLine room (keptBytes (marksOf (bytesOfMarks marks)) R) ∷ []) (keptBytes (marksOf (bytesOfMarks marks)) R) fine
+        ∙ ap (λ (m : List ℕ). writtenIn room (keptBytes m R)) numbers;
   }
 
--- ---- the list
+-- ---- the lists
 
 each : {X : Type 0} (P : X → Type 0) (l : List X) → ((x : X) → List·Memᴰ x l → P x) → Each P l
 each P [] h = tt
 each P (x ∷ l) h = (h x (List·Memᴰ·head refl), each P l (λ y m. h y (List·Memᴰ·tail m)))
 
-told : Each lines.Holding lines.marked
-told = each lines.Holding lines.marked marked-lines
+-- what holds of each holds of any
+any : {X : Type 0} (P : X → Type 0) (l : List X) → Each P l → (x : X) → List·Memᴰ x l → P x
+any P [] a x m = absurd (List·Memᴰ·not-nil m)
+any P (y ∷ l) a x m = ⊎-elim (λ e. subst P (sym e) (a .0)) (any P l (a .1) x) (List·Memᴰ·cases-cons m)
 
--- a line, and then the lines after it
-infixr 5 _also_
-_also_ : {l x : MarkedLine} {r : List MarkedLine} → LineHolds x → (List·Memᴰ l r → LineHolds l) → List·Memᴰ l (x ∷ r) → LineHolds l
-(t also rest) m = ⊎-elim (λ e. subst LineHolds (sym e) t) rest (List·Memᴰ·cases-cons m)
+R1-readings : recording.readings R1 ≡ r1.R1
+unfolding recording.reading signed turned
+R1-readings = refl
+
+told : Each (Holding (recording.readings R1)) r1.marked
+told = each (Holding (recording.readings R1)) r1.marked (λ l m. subst (λ (r : List Reading). Holding r l) (sym R1-readings) (marked-lines l m))
+
+R2-readings : recording.readings R2 ≡ r2.R2
+unfolding recording.reading signed turned
+R2-readings = refl
+
+told-2 : Each (Holding (recording.readings R2)) r2.lines
+told-2 = each (Holding (recording.readings R2)) r2.lines (λ l m. subst (λ (r : List Reading). Holding r l) (sym R2-readings) (lines-hold l m))
+
+line-1 : {l : Example} → Holding (recording.readings R1) l → (text : List ℕ) → parsed text ≡ one (l .text) → NoneMeets (textLines text) → fits (l .runs) ≡ true
+    → runBytes (lowCuts (cuts (l .runs))) (highCuts (cuts (l .runs))) ≡ bytesOfRuns (l .runs) → refused9 (coded R1) (l .text) ≡ false
+    → (runCount (λ n. val (coded R1) n (l .text) 0) ≤ mostRuns → refused8 (coded R1) (l .text) ≡ false) → Asked R1 text (l .runs)
+line-1 = asked R1 R1-accepted refl
+
+line-2 : {l : Example} → Holding (recording.readings R2) l → (text : List ℕ) → parsed text ≡ one (l .text) → NoneMeets (textLines text) → fits (l .runs) ≡ true
+    → runBytes (lowCuts (cuts (l .runs))) (highCuts (cuts (l .runs))) ≡ bytesOfRuns (l .runs) → refused9 (coded R2) (l .text) ≡ false
+    → (runCount (λ n. val (coded R2) n (l .text) 0) ≤ mostRuns → refused8 (coded R2) (l .text) ≡ false) → Asked R2 text (l .runs)
+line-2 = asked R2 R2-accepted refl
 
 -- THE MARKED LINES OF R1 HOLD
-pub marked-hold : (l : MarkedLine) → List·Memᴰ l markedLines → LineHolds l
+pub marked-hold : (l : MarkedLine) → List·Memᴰ l markedLines → LineHolds R1 l
 unfolding tooDeep least parsed parse unsignedAt numberAt operandAt comparisonAt timedAt argumentsAt namedAt headedAt leafAt lowCuts highCuts refused9 someNode marksOf keptBytes recording.reading signed turned
-marked-hold l =
-    asked (told .0) (bytes "high(A)") refl (refl, (refl, (refl, tt))) refl refl refl (listed-eight (high A))
-    also asked (told .1 .0) (bytes "low(A)") refl (refl, (refl, (refl, tt))) refl refl refl (listed-eight (low A))
-    also asked (told .1 .1 .0) (bytes "ampl(A)") refl (refl, (refl, (refl, tt))) refl refl refl (listed-eight (ampl A))
-    also asked (told .1 .1 .1 .0) (bytes "peaks(A)") refl (refl, (refl, (refl, tt))) refl refl refl (listed-eight (peaks A))
-    also asked (told .1 .1 .1 .1 .0) (bytes "gaps(A)") refl (refl, (refl, (refl, tt))) refl refl refl (listed-eight (gaps A))
-    also asked (told .1 .1 .1 .1 .1 .0) (bytes "cross") refl (refl, (refl, (refl, tt))) refl refl refl (listed-eight cross)
-    also asked (told .1 .1 .1 .1 .1 .1 .0) (bytes "lag") refl (refl, (refl, (refl, tt))) refl refl refl (listed-eight lag)
-    also asked (told .1 .1 .1 .1 .1 .1 .1 .0) (bytes "lowafter(A,40)") refl (refl, (refl, (refl, tt))) refl refl refl (listed-eight (lowafter A 2000000040))
-    also asked (told .1 .1 .1 .1 .1 .1 .1 .1 .0) (bytes "lowafter(A,70)") refl (refl, (refl, (refl, tt))) refl refl refl (listed-eight (lowafter A 2000000070))
-    also asked (told .1 .1 .1 .1 .1 .1 .1 .1 .1 .0) (bytes "capafter(A,70)") refl (refl, (refl, (refl, tt))) refl refl refl (listed-eight (capafter A 2000000070))
-    also asked (told .1 .1 .1 .1 .1 .1 .1 .1 .1 .1 .0) (bytes "U(A>=40,A=v)") refl (refl, (refl, (refl, tt))) refl refl refl (λ few. until-eight 2000000040)
-    also thinned _ _ refl (refl, tt) refl
-    also thinned _ _ refl (refl, tt) refl
-    also (λ m. absurd (List·Memᴰ·not-nil m))
+marked-hold =
+    any (LineHolds R1) markedLines (
+      line-1 (told .0) (bytes "high(A)") refl (refl, (refl, (refl, tt))) refl refl refl (listed-eight R1 (high A)),
+      (
+        line-1 (told .1 .0) (bytes "low(A)") refl (refl, (refl, (refl, tt))) refl refl refl (listed-eight R1 (low A)),
+        (
+          line-1 (told .1 .1 .0) (bytes "ampl(A)") refl (refl, (refl, (refl, tt))) refl refl refl (listed-eight R1 (ampl A)),
+          (
+            line-1 (told .1 .1 .1 .0) (bytes "peaks(A)") refl (refl, (refl, (refl, tt))) refl refl refl (listed-eight R1 (peaks A)),
+            (
+              line-1 (told .1 .1 .1 .1 .0) (bytes "gaps(A)") refl (refl, (refl, (refl, tt))) refl refl refl (listed-eight R1 (gaps A)),
+              (
+                line-1 (told .1 .1 .1 .1 .1 .0) (bytes "cross") refl (refl, (refl, (refl, tt))) refl refl refl (listed-eight R1 cross),
+                (
+                  line-1 (told .1 .1 .1 .1 .1 .1 .1 .1 .0) (bytes "lag") refl (refl, (refl, (refl, tt))) refl refl refl (listed-eight R1 lag),
+                  (
+                    line-1 (told .1 .1 .1 .1 .1 .1 .1 .1 .1 .0) (bytes "lowafter(A,40)") refl (refl, (refl, (refl, tt))) refl refl refl (listed-eight R1 (lowafter A 2000000040)),
+                    (
+                      line-1 (told .1 .1 .1 .1 .1 .1 .1 .1 .1 .1 .0) (bytes "lowafter(A,70)") refl (refl, (refl, (refl, tt))) refl refl refl (listed-eight R1 (lowafter A 2000000070)),
+                      (
+                        line-1 (told .1 .1 .1 .1 .1 .1 .1 .1 .1 .1 .1 .0) (bytes "capafter(A,70)") refl (refl, (refl, (refl, tt))) refl refl refl (listed-eight R1 (capafter A 2000000070)),
+                        (
+                          line-1 (told .1 .1 .1 .1 .1 .1 .1 .1 .1 .1 .1 .1 .0) (bytes "U(A>=40,A=v)") refl (refl, (refl, (refl, tt))) refl refl refl (λ few. until-eight 2000000040),
+                          (
+                            thinned R1 R1-accepted _ _ refl (refl, tt) refl,
+                            (
+                              thinned R1 R1-accepted _ _ refl (refl, tt) refl,
+                              (
+                                line-1 (told .1 .1 .1 .1 .1 .1 .0) (bytes "dips(A)") refl (refl, (refl, (refl, tt))) refl refl refl (listed-eight R1 (dips A)),
+                                (
+                                  line-1 (told .1 .1 .1 .1 .1 .1 .1 .0) (bytes "crossup") refl (refl, (refl, (refl, tt))) refl refl refl (listed-eight R1 crossup),
+                                  tt,
+                                ),
+                              ),
+                            ),
+                          ),
+                        ),
+                      ),
+                    ),
+                  ),
+                ),
+              ),
+            ),
+          ),
+        ),
+      ),
+    )
+
+-- THE LINES OF R2 HOLD
+pub R2-hold : (l : MarkedLine) → List·Memᴰ l R2Lines → LineHolds R2 l
+unfolding tooDeep least parsed parse unsignedAt numberAt operandAt comparisonAt timedAt argumentsAt namedAt headedAt leafAt lowCuts highCuts refused9 someNode marksOf keptBytes recording.reading signed turned
+R2-hold =
+    any (LineHolds R2) R2Lines (
+      line-2 (told-2 .0) (bytes "peaks(A)") refl (refl, (refl, (refl, tt))) refl refl refl (listed-eight R2 (peaks A)),
+      (
+        line-2 (told-2 .1 .0) (bytes "dips(A)") refl (refl, (refl, (refl, tt))) refl refl refl (listed-eight R2 (dips A)),
+        (
+          thinned R2 R2-accepted _ _ refl (refl, tt) refl,
+          (
+            thinned R2 R2-accepted _ _ refl (refl, tt) refl,
+            tt,
+          ),
+        ),
+      ),
+    )

@@ -1,4 +1,4 @@
--- A selection of a recording that includes its kept readings has the same observation: the same first reading, tops and crossings, and each curve
+-- A selection of a recording that includes its kept readings has the same observation: the same first reading and events, and each curve
 -- goes as far up and down, also after each mark.
 use Prim.Native.Nat.{ℕ, min}
 use native.Mathlib.Omega.{arith}
@@ -14,28 +14,18 @@ use Rattle.recording.specs.Condition.{Condition, _∪_, someOf}
 use Rattle.number.specs.laws.Boolean.{off, and-left, and-right}
 use Rattle.number.specs.laws.Words.{leZ-not-ltZ}
 use Rattle.recording.specs.laws.Value.{ltZ-asym, lt-le-trans, ltZ-between}
-use Rattle.recording.specs.Reading.{Reading, Curve, A, B, value, top, crossing}
+use Rattle.recording.specs.Reading.{Reading, Curve, value}
 use Rattle.meaning.specs.Listed.{recordAt}
 use Rattle.meaning.specs.Meaning.{lastOf, readingAt}
 use Rattle.meaning.specs.Alike.{Alike}
 use Rattle.meaning.specs.laws.Alike.{Tested, tested-alike}
-use Rattle.kept.specs.Kept.{first, last, withBefore, forSome, firstGreatest, less, more, eitherCurve, extremes, anyTime, after, keptFor, kept}
+use Rattle.kept.specs.Kept.{firstGreatest, less, more, extremes, anyTime, after, keptFor, kept}
 use Rattle.kept.specs.Selection.{flags, select, Includes}
 use Rattle.kept.specs.laws.Stability.{_⊑_, left, right, pick-flags, select-blind}
 use Rattle.kept.specs.laws.Rule.{some-blind}
-use Rattle.kept.specs.laws.Kept.{kept-piecewise, same-tops, same-crossings}
+use Rattle.kept.specs.laws.Kept.{kept-piecewise, on-curve, extremes-kept, extremes-after-kept, same-events}
 
 -- ---- which records the rule keeps for their value
-
-on-curve : (ρ : Curve → Condition Reading) (c : Curve) → ρ c ⊑ eitherCurve ρ
-on-curve ρ A = left (ρ A) (ρ B)
-on-curve ρ B = right (ρ A) (ρ B)
-
-for-mark : (ρ : ℕ → Condition Reading) (marks : List ℕ) (m : ℕ) → List·Memᴰ m marks → ρ m ⊑ forSome marks ρ
-for-mark ρ [] m e b x a h = absurd (List·Memᴰ·not-nil e)
-for-mark ρ (k ∷ marks) m e b x a h = ⊎-elim
-    (λ (q : m ≡ k). left (ρ k) (forSome marks ρ) b x a (subst (λ (n : ℕ). ρ n b x a ≡ true) q h))
-    (λ n. right (ρ k) (forSome marks ρ) b x a (for-mark ρ marks m n b x a h)) (List·Memᴰ·cases-cons e)
 
 greatest : (q : Reading → Bool) (c : Curve) → firstGreatest (less c) q ⊑ extremes q
 greatest q c b x a h =
@@ -44,27 +34,6 @@ greatest q c b x a h =
 least : (q : Reading → Bool) (c : Curve) → firstGreatest (more c) q ⊑ extremes q
 least q c b x a h =
     on-curve (λ c. firstGreatest (less c) q ∪ firstGreatest (more c) q) c b x a (right (firstGreatest (less c) q) (firstGreatest (more c) q) b x a h)
-
-module _ (marks : List ℕ) where
-  abbrev ends : Condition Reading
-  ends = first ∪ last
-
-  abbrev afters : Condition Reading
-  afters = forSome marks (λ k. extremes (after k))
-
-  abbrev tops : Condition Reading
-  tops = eitherCurve (λ c. withBefore (top c))
-
-  under-edges : (ends ∪ extremes anyTime ∪ afters) ⊑ keptFor marks
-  under-edges b x a h =
-      left (ends ∪ extremes anyTime ∪ afters ∪ tops) (withBefore crossing) b x a (left (ends ∪ extremes anyTime ∪ afters) tops b x a h)
-
-  extremes-kept : extremes anyTime ⊑ keptFor marks
-  extremes-kept b x a h = under-edges b x a (left (ends ∪ extremes anyTime) afters b x a (right ends (extremes anyTime) b x a h))
-
-  extremes-after-kept : (m : ℕ) → List·Memᴰ m marks → extremes (after m) ⊑ keptFor marks
-  extremes-after-kept m e b x a h =
-      under-edges b x a (right (ends ∪ extremes anyTime) afters b x a (for-mark (λ k. extremes (after k)) marks m e b x a h))
 
 -- ---- tests that go up or down with the value
 
@@ -78,11 +47,6 @@ and-off : (e f : Bool) → (e && f) ≡ false → e ≡ true → f ≡ false
 and-off true f h k = h
 and-off false f h k = absurd (false≢true k)
 
--- "some record passes the test", as the meaning has it and as the rule has it
-some-same : (P : Reading → Bool) (r : List Reading) → someOf P r ≡ someOf P r
-some-same P [] = refl
-some-same P (x ∷ r) = ap (λ (b : Bool). P x || b) (some-same P r)
-
 module _ (marks : List ℕ) (r : List Reading) (mask : List Bool) (w : Includes mask (flags (keptFor marks) r)) where
   -- a test that the first greatest passes if any record does
   seen : (q : Reading → Bool) (under : Reading → Reading → Bool) → firstGreatest under q ⊑ keptFor marks → (P : Reading → Bool)
@@ -91,10 +55,8 @@ module _ (marks : List ℕ) (r : List Reading) (mask : List Bool) (w : Includes 
       → ((x y : Reading) → under x y ≡ true → under y x ≡ false)
       → someOf P (select mask r) ≡ someOf P r
   seen q under le P within upward asym =
-      some-same P (select mask r)
-      ∙ select-blind (keptFor marks) (kept-piecewise marks .stable) (someOf P)
+      select-blind (keptFor marks) (kept-piecewise marks .stable) (someOf P)
       (λ b x a f. some-blind q under P within upward asym b x a (off (le b x a) f)) r mask w
-      ∙ sym (some-same P r)
 
   same-first : readingAt (select mask r) 0 ≡ readingAt r 0
   same-first = go r mask w
@@ -132,8 +94,7 @@ module _ (marks : List ℕ) (r : List Reading) (mask : List Bool) (w : Includes 
         (λ x h. and-left (ltb m (x .time)) (leZ (value c x) z) h)
         (λ x y h k q. ltZ-between z (value c x) (value c y) (not-le (value c y) z (and-off (ltb m (y .time)) (leZ (value c y) z) k q)) (le-above (value c x) z (and-right (ltb m (x .time)) (leZ (value c x) z) h)))
         (λ x y h. ltZ-asym (value c y) (value c x) h);
-    tops = λ c. same-tops marks r mask w c;
-    crossings = same-crossings marks r mask w;
+    events = same-events marks r mask w;
   }
 
   -- A SELECTION THAT INCLUDES THE KEPT READINGS HAS THE SAME OBSERVATION

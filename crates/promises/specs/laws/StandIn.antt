@@ -13,14 +13,14 @@ use borrow.Author.Tests.{eq-eqb, ne-eqb, eqb-true}
 use Rattle.number.specs.Axis.{whole}
 use Rattle.refusal.specs.Outcome.{refused, Line, line, judged, NoneMeets}
 use Rattle.recording.specs.Condition.{pick, on}
-use Rattle.recording.specs.Reading.{Reading, top, curveOf}
+use Rattle.recording.specs.Reading.{Reading, top, curveOf, a-top}
 use Rattle.recording.specs.Recording.{Raw, records, reading, readings, recordingLines, noRecord, Accepted}
 use Rattle.recording.specs.Output.{outputLine}
 use Rattle.recording.specs.laws.Acceptance.{Sound, accepted-sound, sound-accepted}
 use Rattle.recording.specs.laws.Outcome.{judged-pass}
 use Rattle.runset.specs.Runs.{setBytes}
 use Rattle.runset.specs.laws.Runs.{setBytes-ext}
-use Rattle.tops.specs.Tops.{recordedTime, topTimes, mostTops}
+use Rattle.tops.specs.Tops.{recordedTime, eventTimes, topTimes, mostTops}
 use Rattle.grammar.specs.Syntax.{Text}
 use Rattle.text.specs.Told.{textLines}
 use Rattle.meaning.specs.inner.Coded.{coded, index}
@@ -142,15 +142,15 @@ module _ (marks full held : List ℕ) (s : StandIn (marksOf marks) full held) (a
   module _ (curve : ℕ) (target : ℤ) where
     same-count : length (pick (top (curveOf curve)) (readings held)) ≡ length (pick (top (curveOf curve)) (readings full))
     same-count =
-        sym (length-map (pick (top (curveOf curve)) (readings held)) recordedTime) ∙ ap length (s .alike .tops (curveOf curve))
+        sym (length-map (pick (top (curveOf curve)) (readings held)) recordedTime) ∙ ap length (s .alike .events (a-top (curveOf curve)))
         ∙ length-map (pick (top (curveOf curve)) (readings full)) recordedTime
 
     same-lines : acceptedLines held curve target ≡ acceptedLines full curve target
     same-lines = ap₂ (λ (l : Line) (n : ℕ). l ∷ badTarget curve target ∷ line 9 (ltb mostTops n) ∷ []) (same-noRecord (marksOf marks) full held s) same-count
 
     same-pair : firstPair (readings held) (curveOf curve) target ≡ firstPair (readings full) (curveOf curve) target
-    unfolding firstPair topTimes
-    same-pair = ap (λ (ts : List ℕ). firstApart target (pairsOf ts)) (s .alike .tops (curveOf curve))
+    unfolding firstPair eventTimes
+    same-pair = ap (λ (ts : List ℕ). firstApart target (pairsOf ts)) (s .alike .events (a-top (curveOf curve)))
 
     -- THE PAIR CALL: the same two times, none, or the same refusal
     pub stand-pair : pairOf held curve target ≡ pairOf full curve target

@@ -3,42 +3,49 @@ use Prim.Native.Nat.{ℕ, zero, suc, _<_, _≤_}
 use native.Mathlib.Omega.{arith}
 use native.Mathlib.Decide.{decLt, ℕ-discrete}
 use mathlib.Core.Path.{_≡_, refl, sym, ap, ap₂, subst, _∙_}
-use mathlib.Core.Bool.{Bool, true, false, _||_}
-use mathlib.Core.List.{List, map}
+use native.Mathlib.Nat.{not-suc-le-zero, le-of-suc-le-suc}
+use mathlib.Core.Bool.{Bool, true, false, not, true≢false, _&&_, _||_}
+use borrow.Author.Tests.{not-true}
+use mathlib.Core.List.{List, [], _∷_, map}
 use lib.Dec.{ltb}
 use lib.ListN.{length, getD, length-map}
 use Rattle.recording.specs.Recording.{Accepted, readings}
-use Rattle.recording.specs.Reading.{Curve, A, B, curveOf}
+use Rattle.recording.specs.Reading.{Curve, A, B, curveOf, a-top}
 use Rattle.tops.specs.Tops as tops
 use Rattle.grammar.specs.Syntax.{Text, Listed, listed, gaps, steps, lag}
 use Rattle.grammar.specs.declared.Row.{Row}
 use Rattle.grammar.specs.inner.Kinds.{GAPS, STEPS, LAG, NOT, OR, BRACKET}
-use Rattle.grammar.specs.inner.Table.{row, build, rowAt, treeAt, Falling}
-use Rattle.meaning.specs.inner.Coded.{Coded, coded, topTimes}
+use Rattle.grammar.specs.inner.Table.{row, leafTexts, build, rowAt, treeAt, Falling}
+use Rattle.meaning.specs.inner.Coded.{Coded, coded, codedTimes}
 use Rattle.tops.specs.Tops.{mostTops}
 use Rattle.meaning.specs.inner.Truth.{manyTops, asksTooMany, ofListed, refused9, someNode}
 use Rattle.leaves.specs.inner.Leaf.{leafOf}
-use Rattle.leaves.specs.laws.Stamp.{top-stamps}
+use Rattle.leaves.specs.laws.Stamp.{event-stamps}
+use Rattle.number.specs.laws.Boolean.{and-left, and-right}
 use Rattle.evaluation.specs.laws.Step.{four}
 use Rattle.evaluation.specs.laws.Tree.{tree-step, build-leaf, falls-first, falls-second, kind-known}
 use Rattle.evaluation.specs.laws.Node.{here-leaf, here-one, here-two}
 
 -- the number of tops
-pub tops-count : (rec : List ℕ) → Accepted rec → (c : Curve) → length (topTimes c (coded rec)) ≡ length (tops.topTimes c (readings rec))
-tops-count rec a c = ap length (top-stamps rec a c) ∙ length-map (tops.topTimes c (readings rec)) _
+pub tops-count : (rec : List ℕ) → Accepted rec → (c : Curve) → length (codedTimes (a-top c) (coded rec)) ≡ length (tops.topTimes c (readings rec))
+tops-count rec a c = ap length (event-stamps rec a (a-top c)) ∙ length-map (tops.topTimes c (readings rec)) _
+
+-- P holds of none of the first m
+abbrev noneOf : (Text → Bool) → ℕ → List Text → Bool
+noneOf P zero l = true
+noneOf P (suc m) [] = false
+noneOf P (suc m) (x ∷ l) = not (P x) && noneOf P m l
+
+none-below : (P : Text → Bool) (m : ℕ) (l : List Text) (k : ℕ) → noneOf P m l ≡ true → k < m → P (getD l k (listed lag)) ≡ false
+none-below P zero l k e h = absurd (not-suc-le-zero h)
+none-below P (suc m) [] k e h = absurd (true≢false (sym e))
+none-below P (suc m) (x ∷ l) zero e h = not-true (P x) (and-left (not (P x)) _ e)
+none-below P (suc m) (x ∷ l) (suc k) e h = none-below P m l k (and-right (not (P x)) _ e) (le-of-suc-le-suc h)
 
 module _ (r : List Coded) (a b n : ℕ) where
   -- leaves that take no differences
   pub leaf-none : (k : ℕ) → k < GAPS → ofListed (asksTooMany r) (leafOf (row k a b n)) ≡ false
-  leaf-none k h = by (decLt k 4) (decLt k 8)
-    where
-      P : ℕ → Type 0
-      P k = ofListed (asksTooMany r) (leafOf (row k a b n)) ≡ false
-
-      by : Dec (k < 4) → Dec (k < 8) → ofListed (asksTooMany r) (leafOf (row k a b n)) ≡ false
-      by (yes l) d = four (λ (k : ℕ). ofListed (asksTooMany r) (leafOf (row k a b n)) ≡ false) 0 k (omega arith) l refl refl refl refl
-      by (no l) (yes m) = four (λ (k : ℕ). ofListed (asksTooMany r) (leafOf (row k a b n)) ≡ false) 4 k (omega arith) m refl refl refl refl
-      by (no l) (no m) = four (λ (k : ℕ). ofListed (asksTooMany r) (leafOf (row k a b n)) ≡ false) 8 k (omega arith) h refl refl refl refl
+  leaf-none k h = none-below (ofListed (asksTooMany r)) GAPS (leafTexts (row k a b n)) k refl h
 
   pub leaf-one : (k : ℕ) → GAPS ≤ k → k < NOT → (k ≡ LAG → ⊥) → ofListed (asksTooMany r) (leafOf (row k a b n)) ≡ manyTops (curveOf a) r
   leaf-one k l h ne = by (ℕ-discrete k GAPS)

@@ -7,7 +7,7 @@ use Rattle.recording.specs.Reading.{A, B}
 use Rattle.number.specs.Least.{least}
 use Rattle.refusal.specs.Outcome.{Outcome, result, refused, judged}
 use Rattle.grammar.specs.Bytes.{bytes}
-use Rattle.grammar.specs.Syntax.{of, T, Relation, ge, le, gt, lt, eq, v, number, compare, A-to-B, fall, rise, high, low, lowafter, capafter, peaks, cross, ampl, gaps, steps, lag, Text, atom, listed, or, and, neg, finally, globally, next, until, weakUntil}
+use Rattle.grammar.specs.Syntax.{of, T, Relation, ge, le, gt, lt, eq, v, number, compare, A-to-B, fall, rise, high, low, lowafter, capafter, peaks, dips, cross, crossup, ampl, gaps, steps, lag, Text, atom, listed, or, and, neg, finally, globally, next, until, weakUntil}
 use Rattle.grammar.specs.Size.{tooDeep}
 use Rattle.text.specs.Told.{textLines, nodesOf}
 use Rattle.grammar.specs.inner.Lexer.{unsignedAt, numberAt, operandAt, comparisonAt, timedAt, argumentsAt, namedAt, headedAt, leafAt}
@@ -82,14 +82,34 @@ examples =
     ∷ is "peaks(A)&ampl(B)" (and (listed (peaks A)) (listed (ampl B)))
     ∷ is "gaps(A)|steps(B)" (or (listed (gaps A)) (listed (steps B)))
     ∷ is "cross|lag" (or (listed cross) (listed lag))
+    ∷ is "dips(A)&!dips(B)" (and (listed (dips A)) (neg (listed (dips B))))
     ∷ has-none "lag()"
     ∷ has-none "cross(A)"
     ∷ has-none "low(A,40)"
     ∷ has-none "lowafter(A)"
-    ∷ has-none "dips(A)"
+    ∷ has-none "dip(A)"
+    ∷ has-none "dips"
+    ∷ has-none "dips(T)"
+    ∷ has-none "dips(A"
+    ∷ has-none "dips(A,40)"
+    -- `crossup`, which begins with `cross`
+    ∷ is "crossup" (listed crossup)
+    ∷ is "cross" (listed cross)
+    ∷ is "crossup|cross&crossup" (or (listed crossup) (and (listed cross) (listed crossup)))
+    ∷ is "(cross)|!crossup" (or (listed cross) (neg (listed crossup)))
+    ∷ has-none "crossup(A)"
+    ∷ has-none "crossups"
+    ∷ has-none "crossupcross"
+    ∷ has-none "crossu"
+    ∷ has-none "crossdown"
+    ∷ has-none "cross1"
+    ∷ has-none "up"
     -- a listed name beside F, G, X, U or W; blanks; bytes left over
     ∷ has-none "high(A)|F(A>v)"
     ∷ has-none "X(lag)"
+    ∷ has-none "F(crossup)"
+    ∷ has-none "crossup&G(A>v)"
+    ∷ has-none "W(A>v,!dips(B))"
     ∷ has-none "A >v"
     ∷ has-none "A>v "
     ∷ has-none "A>v)"

@@ -1,17 +1,19 @@
 -- Laws of the node table: the rows that hold a tree, the tree that the decoder gives, and what a scan over the kinds says of it.
 use mathlib.Core.Path.{_≡_, refl, sym, ap, ap₂, subst, _∙_}
-use mathlib.Core.Bool.{Bool, true, false, _||_, or-false, or-true, or-assoc, or-comm}
+use mathlib.Core.Bool.{Bool, true, false, cond, not, _&&_, _||_, or-false, or-true, or-assoc}
 use mathlib.Core.List.{List, [], _∷_, _++_}
 use Prim.Native.Nat.{ℕ, zero, suc, _+_, _-_, _*_, _≤_, _<_}
 use native.Mathlib.Omega.{arith}
 use lib.Dec.{eqb, ltb, leb}
 use lib.ListN.{length, getD, List·getD-append}
-use borrow.Author.Tests.{ltb-true, ltb-false}
+use borrow.Author.Tests.{eqb-true, ltb-true, ltb-false}
+use Rattle.number.specs.laws.Boolean.{and-left, and-right}
 use Rattle.grammar.specs.declared.Row.{Row}
 use Rattle.grammar.specs.Syntax.{Text}
 use Rattle.grammar.specs.Size.{temporal, hasListed, nodes}
 use Rattle.grammar.specs.Classes.{within}
-use Rattle.grammar.specs.inner.Table.{someKind, row, leafTexts, unaries, binaries, build, rowAt, tree, treeAt, Falling}
+use Rattle.grammar.specs.inner.Kinds.{HIGH, LAG, NOT, NEXT, FINALLY, GLOBALLY, OR, AND, UNTIL, WEAK-UNTIL}
+use Rattle.grammar.specs.inner.Table.{someKind, row, leafTexts, unaries, binaries, build, rowAt, tree, treeAt, Falling, unaryFrom, binaryFrom, kinds}
 use Rattle.grammar.specs.inner.Parse.{leafOf, node}
 use Rattle.parser.specs.inner.Rows.{Laid, leaf, unary, binary}
 
@@ -25,14 +27,31 @@ each zero P h k l = absurd (omega arith)
 each (suc n) P h zero l = h .0
 each (suc n) P h (suc k) l = each n (λ j. P (suc j)) (h .1) k (omega arith)
 
--- what holds of each of the kinds of operators over one text, and over two
-unary-kinds : (P : ℕ → Type 0) → P 15 → P 16 → P 17 → P 18 → (k : ℕ) → 15 ≤ k → k < 19 → P k
-unary-kinds P a b c d k l h =
-    subst P (let z : 15 + (k - 15) ≡ k = omega arith in z) (each 4 (λ i. P (15 + i)) (a, (b, (c, (d, tt)))) (k - 15) (omega arith))
+-- two tests that agree on each number below n, by computing
+abbrev agreeBelow : ℕ → (ℕ → Bool) → (ℕ → Bool) → Bool
+agreeBelow zero f g = true
+agreeBelow (suc n) f g = cond (f zero) (g zero) (not (g zero)) && agreeBelow n (λ k. f (suc k)) (λ k. g (suc k))
 
-binary-kinds : (P : ℕ → Type 0) → P 19 → P 20 → P 21 → P 22 → (k : ℕ) → 19 ≤ k → k < 23 → P k
+agree-below : (n : ℕ) (f g : ℕ → Bool) → agreeBelow n f g ≡ true → (k : ℕ) → k < n → f k ≡ g k
+agree-below zero f g e k l = absurd (omega arith)
+agree-below (suc n) f g e zero l = go (f zero) (g zero) (and-left (cond (f zero) (g zero) (not (g zero))) (agreeBelow n (λ k. f (suc k)) (λ k. g (suc k))) e)
+  where
+    go : (a b : Bool) → cond a b (not b) ≡ true → a ≡ b
+    go true true h = refl
+    go true false h = sym h
+    go false true h = h
+    go false false h = refl
+agree-below (suc n) f g e (suc k) l =
+    agree-below n (λ k. f (suc k)) (λ k. g (suc k)) (and-right (cond (f zero) (g zero) (not (g zero))) (agreeBelow n (λ k. f (suc k)) (λ k. g (suc k))) e) k (omega arith)
+
+-- what holds of each of the kinds of operators over one text, and over two
+unary-kinds : (P : ℕ → Type 0) → P NOT → P NEXT → P FINALLY → P GLOBALLY → (k : ℕ) → unaryFrom ≤ k → k < binaryFrom → P k
+unary-kinds P a b c d k l h =
+    subst P (let z : unaryFrom + (k - unaryFrom) ≡ k = omega arith in z) (each 4 (λ i. P (unaryFrom + i)) (a, (b, (c, (d, tt)))) (k - unaryFrom) (omega arith))
+
+binary-kinds : (P : ℕ → Type 0) → P OR → P AND → P UNTIL → P WEAK-UNTIL → (k : ℕ) → binaryFrom ≤ k → k < kinds → P k
 binary-kinds P a b c d k l h =
-    subst P (let z : 19 + (k - 19) ≡ k = omega arith in z) (each 4 (λ i. P (19 + i)) (a, (b, (c, (d, tt)))) (k - 19) (omega arith))
+    subst P (let z : binaryFrom + (k - binaryFrom) ≡ k = omega arith in z) (each 4 (λ i. P (binaryFrom + i)) (a, (b, (c, (d, tt)))) (k - binaryFrom) (omega arith))
 
 -- BUILDING looks at a child only where the kind has it
 any-default : (l : List Text) (n : ℕ) (d e : Text) → n < length l → getD l n d ≡ getD l n e
@@ -40,16 +59,16 @@ any-default [] n d e h = absurd (omega arith)
 any-default (x ∷ l) zero d e h = refl
 any-default (x ∷ l) (suc n) d e h = any-default l n d e (omega arith)
 
-build-leaf : (r : Row) (p q u w : Text) → r .kind < 15 → build r p q ≡ build r u w
+build-leaf : (r : Row) (p q u w : Text) → r .kind < unaryFrom → build r p q ≡ build r u w
 build-leaf r p q u w h =
     List·getD-append (leafTexts r) (unaries p ++ binaries p q) p (r .kind) h
     ∙ any-default (leafTexts r) (r .kind) p u h
     ∙ sym (List·getD-append (leafTexts r) (unaries u ++ binaries u w) u (r .kind) h)
 
-build-unary : (k a b n : ℕ) (p q u : Text) → 15 ≤ k → k < 19 → build (row k a b n) p q ≡ node k p u
+build-unary : (k a b n : ℕ) (p q u : Text) → unaryFrom ≤ k → k < binaryFrom → build (row k a b n) p q ≡ node k p u
 build-unary k a b n p q u = unary-kinds (λ j. build (row j a b n) p q ≡ node j p u) refl refl refl refl k
 
-build-binary : (k a b n : ℕ) (p q : Text) → 19 ≤ k → k < 23 → build (row k a b n) p q ≡ node k p q
+build-binary : (k a b n : ℕ) (p q : Text) → binaryFrom ≤ k → k < kinds → build (row k a b n) p q ≡ node k p q
 build-binary k a b n p q = binary-kinds (λ j. build (row j a b n) p q ≡ node j p q) refl refl refl refl k
 
 -- THE DECODER gives the tree that the rows hold
@@ -87,11 +106,11 @@ decoded {m = m} h = let x = above h in tree-held h (m - 1) (suc (m - 1)) (omega 
 
 -- the children of each node that the rows hold have smaller numbers
 abbrev Falls : List ℕ → ℕ → Type 0
-Falls T m = (15 ≤ rowAt T m .kind → rowAt T m .first < m) × (19 ≤ rowAt T m .kind → rowAt T m .second < m) × (rowAt T m .kind < 23)
+Falls T m = (unaryFrom ≤ rowAt T m .kind → rowAt T m .first < m) × (binaryFrom ≤ rowAt T m .kind → rowAt T m .second < m) × (rowAt T m .kind < kinds)
 
-falls-row : (T : List ℕ) (m k a b : ℕ) → rowAt T m ≡ row k a b 0 → k < 23 → a < m → (19 ≤ k → b < m) → Falls T m
+falls-row : (T : List ℕ) (m k a b : ℕ) → rowAt T m ≡ row k a b 0 → k < kinds → a < m → (binaryFrom ≤ k → b < m) → Falls T m
 falls-row T m k a b e h l g =
-    subst (λ (r : Row). (15 ≤ r .kind → r .first < m) × (19 ≤ r .kind → r .second < m) × (r .kind < 23)) (sym e) ((λ x. l), g, h)
+    subst (λ (r : Row). (unaryFrom ≤ r .kind → r .first < m) × (binaryFrom ≤ r .kind → r .second < m) × (r .kind < kinds)) (sym e) ((λ x. l), g, h)
 
 held-falls : {T : List ℕ} {b m : ℕ} {t : Text} → Laid T b m t → (j : ℕ) → b ≤ j → j < m → Falls T j
 held-falls {T} (leaf {b} k q) j l h =
@@ -123,10 +142,9 @@ unfolding Falling
 held-falling h m l = held-falls h m (omega arith) l
 
 -- the rows of a tree are as many as its nodes
-leaf-nodes : (r : Row) → r .kind < 15 → nodes (leafOf r) ≡ 1
+leaf-nodes : (r : Row) → r .kind < unaryFrom → nodes (leafOf r) ≡ 1
 leaf-nodes r h =
-    each 15 (λ k. nodes (leafOf (row k (r .first) (r .second) (r .number))) ≡ 1)
-    (refl, (refl, (refl, (refl, (refl, (refl, (refl, (refl, (refl, (refl, (refl, (refl, (refl, (refl, (refl, tt))))))))))))))) (r .kind) h
+    eqb-true (nodes (leafOf r)) 1 (agree-below unaryFrom (λ k. eqb (nodes (leafOf (row k (r .first) (r .second) (r .number)))) 1) (λ k. true) refl (r .kind) h)
 
 pub held-nodes : {T : List ℕ} {b m : ℕ} {t : Text} → Laid T b m t → m ≡ b + nodes t
 held-nodes {T} (leaf {b} {t} k q) = let x = leaf-nodes (rowAt T b) k in let y : nodes t ≡ 1 = ap nodes (sym q) ∙ x in omega arith
@@ -151,9 +169,9 @@ some-split P T b (suc m) n =
 
 -- a property of texts that goes by the kinds of the nodes
 pub record ByKind (P : ℕ → Bool) (F : Text → Bool) : Type 0 where
-  pub of-leaf : (r : Row) → r .kind < 15 → F (leafOf r) ≡ P (r .kind)
-  pub of-unary : (k : ℕ) (p : Text) → 15 ≤ k → k < 19 → F (node k p p) ≡ (F p || P k)
-  pub of-binary : (k : ℕ) (p q : Text) → 19 ≤ k → k < 23 → F (node k p q) ≡ (F p || F q || P k)
+  pub of-leaf : (r : Row) → r .kind < unaryFrom → F (leafOf r) ≡ P (r .kind)
+  pub of-unary : (k : ℕ) (p : Text) → unaryFrom ≤ k → k < binaryFrom → F (node k p p) ≡ (F p || P k)
+  pub of-binary : (k : ℕ) (p q : Text) → binaryFrom ≤ k → k < kinds → F (node k p q) ≡ (F p || F q || P k)
 
 some-kind : (P : ℕ → Bool) (T : List ℕ) (b n m k : ℕ) → b + n ≡ m → rowAt T m .kind ≡ k → someKind P T b (n + 1) ≡ (someKind P T b n || P k)
 some-kind P T b n m k e q = let z : n + 1 ≡ suc n = omega arith in rw (z, e, q)
@@ -179,19 +197,17 @@ held-some P F h {T} (binary {b} {m} {n} {p} {q = u} k a c g i q) =
     ∙ ap (λ w. w || P k) (sym o)
     ∙ sym (ap (someKind P T b) y ∙ some-kind P T b (nodes p + nodes u) n k (omega arith) (ap (λ (r : Row). r .kind) q))
 
--- a listed name is a kind from 5 to 14; F, G and X are 16 to 18, U and W 21 and 22
+-- the kinds of listed names, and those of X, F, G, U and W
 abbrev pub listedKind : ℕ → Bool
-listedKind k = within 5 14 k
+listedKind k = within HIGH LAG k
 
 abbrev pub temporalKind : ℕ → Bool
-temporalKind k = within 16 18 k || within 21 22 k
+temporalKind k = within NEXT GLOBALLY k || within UNTIL WEAK-UNTIL k
 
 pub listed-by-kind : ByKind listedKind hasListed
 listed-by-kind =
     record {
-      of-leaf = λ r h.
-          each 15 (λ k. hasListed (leafOf (row k (r .first) (r .second) (r .number))) ≡ listedKind k)
-          (refl, (refl, (refl, (refl, (refl, (refl, (refl, (refl, (refl, (refl, (refl, (refl, (refl, (refl, (refl, tt))))))))))))))) (r .kind) h;
+      of-leaf = λ r h. agree-below unaryFrom (λ k. hasListed (leafOf (row k (r .first) (r .second) (r .number)))) listedKind refl (r .kind) h;
       of-unary = λ k p. unary-kinds (λ j. hasListed (node j p p) ≡ (hasListed p || listedKind j))
           (sym (or-false (hasListed p))) (sym (or-false (hasListed p))) (sym (or-false (hasListed p))) (sym (or-false (hasListed p))) k;
       of-binary = λ k p q. binary-kinds (λ j. hasListed (node j p q) ≡ (hasListed p || hasListed q || listedKind j))
@@ -202,9 +218,7 @@ listed-by-kind =
 pub temporal-by-kind : ByKind temporalKind temporal
 temporal-by-kind =
     record {
-      of-leaf = λ r h.
-          each 15 (λ k. temporal (leafOf (row k (r .first) (r .second) (r .number))) ≡ temporalKind k)
-          (refl, (refl, (refl, (refl, (refl, (refl, (refl, (refl, (refl, (refl, (refl, (refl, (refl, (refl, (refl, tt))))))))))))))) (r .kind) h;
+      of-leaf = λ r h. agree-below unaryFrom (λ k. temporal (leafOf (row k (r .first) (r .second) (r .number)))) temporalKind refl (r .kind) h;
       of-unary = λ k p. unary-kinds (λ j. temporal (node j p p) ≡ (temporal p || temporalKind j))
           (sym (or-false (temporal p))) (sym (or-true (temporal p))) (sym (or-true (temporal p))) (sym (or-true (temporal p))) k;
       of-binary = λ k p q. binary-kinds (λ j. temporal (node j p q) ≡ (temporal p || temporal q || temporalKind j))
@@ -224,24 +238,24 @@ some-either P Q T b (suc n) = go (someKind P T b n) (someKind Q T b n) (P (rowAt
 
 -- THE TREE of a node, in terms of its children's
 module _ (T : List ℕ) (n : ℕ) (falling : Falling T n) where
-  build-same : (m : ℕ) (p q u w : Text) → m < n → (15 ≤ rowAt T m .kind → p ≡ u) → (19 ≤ rowAt T m .kind → q ≡ w) → build (rowAt T m) p q ≡ build (rowAt T m) u w
+  build-same : (m : ℕ) (p q u w : Text) → m < n → (unaryFrom ≤ rowAt T m .kind → p ≡ u) → (binaryFrom ≤ rowAt T m .kind → q ≡ w) → build (rowAt T m) p q ≡ build (rowAt T m) u w
   unfolding Falling
-  build-same m p q u w l e f = go (ltb k 15) (ltb k 19) refl refl
+  build-same m p q u w l e f = go (ltb k unaryFrom) (ltb k binaryFrom) refl refl
     where
       k : ℕ
       k = rowAt T m .kind
 
-      go : (x y : Bool) → ltb k 15 ≡ x → ltb k 19 ≡ y → build (rowAt T m) p q ≡ build (rowAt T m) u w
-      go true y d i = build-leaf (rowAt T m) p q u w (ltb-true k 15 d)
+      go : (x y : Bool) → ltb k unaryFrom ≡ x → ltb k binaryFrom ≡ y → build (rowAt T m) p q ≡ build (rowAt T m) u w
+      go true y d i = build-leaf (rowAt T m) p q u w (ltb-true k unaryFrom d)
       go false true d i =
-          let a = ltb-false k 15 d in
-          let c = ltb-true k 19 i in
+          let a = ltb-false k unaryFrom d in
+          let c = ltb-true k binaryFrom i in
           build-unary k (rowAt T m .first) (rowAt T m .second) (rowAt T m .number) p q p a c
           ∙ ap (λ (x : Text). node k x x) (e a)
           ∙ sym (build-unary k (rowAt T m .first) (rowAt T m .second) (rowAt T m .number) u w u a c)
       go false false d i =
-          let a = ltb-false k 15 d in
-          let b = ltb-false k 19 i in
+          let a = ltb-false k unaryFrom d in
+          let b = ltb-false k binaryFrom i in
           let c = falling m l .2 in
           build-binary k (rowAt T m .first) (rowAt T m .second) (rowAt T m .number) p q b c
           ∙ ap₂ (node k) (e a) (f b)

@@ -6,41 +6,41 @@ use lib.Seq.{length-take-le}
 use Rattle.meaning.specs.inner.Truth.{truth}
 use Rattle.runset.specs.laws.Set.{makes-of}
 use Rattle.differences.specs.inner.Times.{Times, lagsOf}
-use Rattle.leaves.specs.laws.Stamp.{top-times}
+use Rattle.leaves.specs.laws.Stamp.{event-times}
 use borrow.Author.Needs.{needs}
 use Rattle.leaves.proofs.times.lag.Statement.{statement}
 use Rattle.leaves.proofs.times.lag.Tie as tie
-use Rattle.recording.specs.Reading.{curveOf}
+use Rattle.recording.specs.Reading.{A, B, a-top, curveOf}
 
-slice-aggregate-top-stamps : tie.Need-slice-aggregate-top-stamps
-slice-aggregate-top-stamps c = search needs
+slice-aggregate-stamps : tie.Need-slice-aggregate-stamps
+slice-aggregate-stamps c = search needs
 
-top-stamps-requires : tie.Need-top-stamps-requires
-top-stamps-requires c κs = search needs
+stamps-requires : tie.Need-stamps-requires
+stamps-requires c κs = search needs
 
-slice-aggregate-top-stamps-2 : tie.Need-slice-aggregate-top-stamps-2
-slice-aggregate-top-stamps-2 c = search needs
+slice-aggregate-stamps-2 : tie.Need-slice-aggregate-stamps-2
+slice-aggregate-stamps-2 c = search needs
 
-top-stamps-requires-2 : tie.Need-top-stamps-requires-2
-top-stamps-requires-2 c κs = search needs
+stamps-requires-2 : tie.Need-stamps-requires-2
+stamps-requires-2 c κs = search needs
 
 array-share-prefix-a : tie.Need-array-share-prefix-a
 array-share-prefix-a c = search needs
 
 slice-aggregate-lags : tie.Need-slice-aggregate-lags
-slice-aggregate-lags c = let t = c .before .before .before .before .before .top-stamps in sym (length-take-le (t .result) (t .last .1 .1 .0) (t .ensures .room))
+slice-aggregate-lags c = let t = c .before .before .before .before .before .stamps in sym (length-take-le (t .result) (t .last .1 .1 .0) (t .ensures .room))
 
 array-share-prefix-b : tie.Need-array-share-prefix-b
 array-share-prefix-b c = search needs
 
 slice-aggregate-lags-2 : tie.Need-slice-aggregate-lags-2
-slice-aggregate-lags-2 c = let t = c .before .before .before .top-stamps2 in sym (length-take-le (t .result) (t .last .1 .1 .0) (t .ensures .room))
+slice-aggregate-lags-2 c = let t = c .before .before .before .stamps2 in sym (length-take-le (t .result) (t .last .1 .1 .0) (t .ensures .room))
 
 lags-requires : tie.Need-lags-requires
 lags-requires c κs =
     let s = c .before .before .before .before .before .before .before .before .before .before .before in (
-      subst Times (sym (c .before .before .before .before .before .before .before .top-stamps .ensures .stamps)) (top-times (s .args .rec .now) (s .pre .0) (curveOf 0)),
-      subst Times (sym (c .before .before .before .before .top-stamps2 .ensures .stamps)) (top-times (s .args .rec .now) (s .pre .0) (curveOf 1)),
+      subst Times (sym (c .before .before .before .before .before .before .before .stamps .ensures .stamps)) (event-times (s .args .rec .now) (s .pre .0) (a-top A)),
+      subst Times (sym (c .before .before .before .before .stamps2 .ensures .stamps)) (event-times (s .args .rec .now) (s .pre .0) (a-top B)),
       s .pre .3,
     )
 
@@ -50,18 +50,18 @@ same-length c = search needs
 returns : tie.Need-returns
 unfolding truth
 returns c =
-    let a = c .before .before .before .before .before .before .before .before .before .before .top-stamps .ensures .stamps in
-    let b = c .before .before .before .before .before .before .before .top-stamps2 .ensures .stamps in
+    let a = c .before .before .before .before .before .before .before .before .before .before .stamps .ensures .stamps in
+    let b = c .before .before .before .before .before .before .before .stamps2 .ensures .stamps in
     makes-of (λ (l : List ℕ × List ℕ). lagsOf (l .0) (l .1)) _ _ (λ i. (a i, b i)) (c .before .before .lags .ensures)
 
 pub lag-spec : {M : Type 1} → statement M
 lag-spec =
     tie.close
     (tie.spec
-    slice-aggregate-top-stamps
-    top-stamps-requires
-    slice-aggregate-top-stamps-2
-    top-stamps-requires-2
+    slice-aggregate-stamps
+    stamps-requires
+    slice-aggregate-stamps-2
+    stamps-requires-2
     array-share-prefix-a
     slice-aggregate-lags
     array-share-prefix-b

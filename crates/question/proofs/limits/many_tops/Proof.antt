@@ -8,18 +8,18 @@ use Rattle.question.proofs.limits.many_tops.Statement.{statement}
 use Rattle.question.proofs.limits.many_tops.Tie as tie
 use Rattle.recording.specs.Reading.{curveOf}
 
-slice-aggregate-top-times : tie.Need-slice-aggregate-top-times
-slice-aggregate-top-times c = search needs
+slice-aggregate-event-times : tie.Need-slice-aggregate-event-times
+slice-aggregate-event-times c = search needs
 
-top-times-requires : tie.Need-top-times-requires
-top-times-requires c κs =
+event-times-requires : tie.Need-event-times-requires
+event-times-requires c κs =
     let s = c .before .before in
     (omega arith, s .pre .1)
 
 returns : tie.Need-returns
 returns c =
     let s = c .before .before .before .before in
-    ap (ltb 256) (c .before .top-times .ensures .counted ∙ sym (tops-count (s .args .rec .now) (s .pre .0) (curveOf (s .args .curve))))
+    ap (ltb 256) (c .before .event-times .ensures .counted ∙ sym (tops-count (s .args .rec .now) (s .pre .0) (curveOf (s .args .curve))))
 
 pub many-tops-spec : {M : Type 1} → statement M
-many-tops-spec = tie.close (tie.spec slice-aggregate-top-times top-times-requires returns)
+many-tops-spec = tie.close (tie.spec slice-aggregate-event-times event-times-requires returns)

@@ -1,0 +1,19 @@
+-- Document 01, "Listed questions", and Paper 1: the formulas that eight of them equal.
+use Prim.Native.Nat.{ℕ}
+use Rattle.recording.specs.Reading.{Curve}
+use Rattle.grammar.specs.Syntax.{of, T, ge, le, gt, eq, v, number, compare, A-to-B, fall, rise, Listed, high, low, lowafter, capafter, peaks, dips, cross, crossup, Text, atom, or, and, neg, finally, globally, next}
+
+-- the question equals the formula, both asked alone
+pub data Formula : Listed → Text → Type 0 where
+  -- F(c>=v); F(c<=v)
+  of-high : {c : Curve} → Formula (high c) (finally (atom (compare (of c) ge v)))
+  of-low : {c : Curve} → Formula (low c) (finally (atom (compare (of c) le v)))
+  -- F(T>k&c<=v); G(!(T>k)|c<=v)
+  of-lowafter : {c : Curve} {k : ℕ} → Formula (lowafter c k) (finally (and (atom (compare T gt (number k))) (atom (compare (of c) le v))))
+  of-capafter : {c : Curve} {k : ℕ} → Formula (capafter c k) (globally (or (neg (atom (compare T gt (number k)))) (atom (compare (of c) le v))))
+  -- F(!fall(c)&X(fall(c)&T=v)); F(A>B&X(A<=B&T=v))
+  of-peaks : {c : Curve} → Formula (peaks c) (finally (and (neg (atom (fall c))) (next (and (atom (fall c)) (atom (compare T eq v))))))
+  of-cross : Formula cross (finally (and (atom (A-to-B gt)) (next (and (atom (A-to-B le)) (atom (compare T eq v))))))
+  -- F(!rise(c)&X(rise(c)&T=v)); F(A<=B&X(A>B&T=v))
+  of-dips : {c : Curve} → Formula (dips c) (finally (and (neg (atom (rise c))) (next (and (atom (rise c)) (atom (compare T eq v))))))
+  of-crossup : Formula crossup (finally (and (atom (A-to-B le)) (next (and (atom (A-to-B gt)) (atom (compare T eq v))))))
