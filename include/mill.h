@@ -17,12 +17,14 @@
 **   offset  8   curve B (master), the same
 **   offset 12   slope of A: MILL_FALLING, MILL_FLAT or MILL_RISING
 **   offset 13   slope of B, the same
-**   offset 14   two bytes, zero
+**   offset 14   the pigment added here, 1 to MILL_MAX_PIGMENT; 0 for none
+**   offset 15   zero
 **
 ** A top of a curve is a record after the first whose slope falls while the
 ** record before does not fall; a dip is one that rises while the record before
 ** does not rise. A crossing is a record with A <= B after one with A > B, an
-** upward crossing one with A > B after one with A <= B.
+** upward crossing one with A > B after one with A <= B. An addition is a record
+** with a pigment; pigments are numbered as the tin's label counts them.
 **
 **
 ** TEXT. A question in 1 to MILL_MAX_TEXT bytes, without blanks and without a
@@ -33,12 +35,15 @@
 **   U(p,q) W(p,q)           p until q comes; W: or p for ever
 **   A>=v  B<7  T=v  A>B     A, B or T; >= <= > < =; v or a number; A also with B
 **   fall(c) rise(c)         the slope of c, which is A or B
+**   P=k                     pigment k, 1 to MILL_MAX_PIGMENT, is added here
 **   high(c) low(c) lowafter(c,k) capafter(c,k)
-**   peaks(c) dips(c) cross crossup
+**   peaks(c) dips(c) cross crossup dose(k)
 **   ampl(c) gaps(c) steps(c) lag
 **
 ** The text is judged at the first record, and the last record repeats for ever.
-** A name of the last three lines does not go with F, G, X, U or W.
+** A name of the last three lines does not go with F, G, X, U or W. dose(k) is the
+** set of the times at which pigment k is added, at the first record too; its k
+** and that of P=k have no leading zero.
 **
 **
 ** SET. The answer to a question is the set of all whole numbers v, from
@@ -100,6 +105,7 @@ extern "C" {
 #define MILL_MAX_TIME 2000000000     /* a record's time */
 #define MILL_MIN_VALUE (-1000000000) /* a record's A and B */
 #define MILL_MAX_VALUE 1000000000    /* the same */
+#define MILL_MAX_PIGMENT 16          /* the number of a pigment; 0 says that none is added */
 #define MILL_MAX_TEXT 256            /* bytes of a text */
 #define MILL_MAX_NODES 32            /* atoms, listed names and operators of a text */
 #define MILL_MAX_BRACKETS 16         /* brackets open at one byte of a text, every '(' counted */
@@ -226,10 +232,10 @@ uint64_t mill_pair(const uint8_t *recording, size_t recording_len, uint32_t curv
 ** and unaltered: the first and the last record; for each curve the first
 ** record of the greatest and of the least value; the same among the records
 ** with T > k for each mark k; each top, each dip, each crossing and each upward
-** crossing, and the record before it. Writes them into out and returns how many
-** bytes they are: at most 2 * (tops of A + tops of B + dips of A + dips of B +
-** crossings + upward crossings) + 6 + 4 * marks records, and never more than the
-** recording.
+** crossing, and the record before it; each addition, by itself. Writes them
+** into out and returns how many bytes they are: at most 2 * (tops of A + tops of
+** B + dips of A + dips of B + crossings + upward crossings) + 6 + 4 * marks +
+** additions records, and never more than the recording.
 **
 ** Kept readings answer as the recording does: every question that writes none
 ** of F, G, X, U and W and whose after-times (the k of lowafter and capafter)

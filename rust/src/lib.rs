@@ -35,6 +35,8 @@ pub struct Reading {
     pub b: i32,
     pub slope_a: Slope,
     pub slope_b: Slope,
+    /// The pigment added at this reading, 1 to 16 as the tin's label counts them; 0 for none.
+    pub pigment: u8,
 }
 
 impl Reading {
@@ -46,6 +48,7 @@ impl Reading {
         bytes[8..12].copy_from_slice(&self.b.to_le_bytes());
         bytes[12] = self.slope_a.to_byte();
         bytes[13] = self.slope_b.to_byte();
+        bytes[14] = self.pigment;
         bytes
     }
 }

@@ -6,6 +6,7 @@ pub type Refused = (u32, u32);
 
 const MOST_RUNS: usize = 256;
 const MOST_TOPS: usize = 256;
+const MOST_PIGMENT: u8 = 16;
 const LOW: i32 = -2_000_000_000;
 const HIGH: i32 = 2_000_000_000;
 const FALLING: u8 = 0;
@@ -17,6 +18,7 @@ struct Record {
     time: i32,
     value: [i32; 2],
     slope: [u8; 2],
+    pigment: u8,
 }
 
 /// Runs (low, high), ascending.
@@ -111,13 +113,13 @@ fn decode(recording: &[u8]) -> Result<Vec<Record>, Refused> {
             && range.contains(&b)
             && bytes[12] <= 2
             && bytes[13] <= 2
-            && bytes[14] == 0
+            && bytes[14] <= MOST_PIGMENT
             && bytes[15] == 0;
         if !good {
             return Err((3, index as u32));
         }
         before = time as i32;
-        records.push(Record { time: time as i32, value: [a, b], slope: [bytes[12], bytes[13]] });
+        records.push(Record { time: time as i32, value: [a, b], slope: [bytes[12], bytes[13]], pigment: bytes[14] });
     }
     Ok(records)
 }
@@ -158,6 +160,9 @@ fn kept(records: &[Record], marks: &[i32]) -> Vec<bool> {
             if here.value[curve] <= records[least[curve]].value[curve] {
                 least[curve] = i;
             }
+        }
+        if here.pigment != 0 {
+            kept[i] = true;
         }
         if i > 0 && is_event(&records[i - 1], here) {
             kept[i] = true;
@@ -219,6 +224,7 @@ enum Op {
     /// Left (0 A, 1 B, 2 T), the least and the greatest sign of left - right that fit, right.
     Compare(usize, i32, i32, Right),
     Slope(usize, u8),
+    Pigment(u8),
     High(usize),
     Low(usize),
     LowAfter(usize, i32),
@@ -227,6 +233,7 @@ enum Op {
     Dips(usize),
     Cross,
     Crossup,
+    Dose(u8),
     Ampl(usize),
     Gaps(usize),
     Steps(usize),
@@ -284,6 +291,7 @@ fn answer(records: &[Record], nodes: &[Op]) -> Result<Set, Refused> {
                 },
                 Op::Compare(left, from, to, right) => compare(&records[i], left, from, to, right, out),
                 Op::Slope(curve, slope) => whole_if(records[i].slope[curve] == slope, out),
+                Op::Pigment(k) => whole_if(records[i].pigment == k, out),
                 listed => listed_set(records, listed, out),
             }
             if out.len() > MOST_RUNS {
@@ -395,6 +403,8 @@ fn listed_set(records: &[Record], listed: Op, out: &mut Set) {
         Op::Dips(curve) => out.extend(times(records, |before, here| is_dip(before, here, curve)).map(single)),
         Op::Cross => out.extend(times(records, |before, here| above(before) && !above(here)).map(single)),
         Op::Crossup => out.extend(times(records, |before, here| !above(before) && above(here)).map(single)),
+        // Neighbours among these times join.
+        Op::Dose(k) => records.iter().filter(|record| record.pigment == k).for_each(|record| add(out, single(record.time))),
         Op::Ampl(curve) => out.push((LOW, values(curve, -1).max().unwrap() - values(curve, -1).min().unwrap())),
         Op::Gaps(curve) => {
             let tops = tops(records, curve);
@@ -430,7 +440,8 @@ fn is_temporal(op: &Op) -> bool {
 }
 
 fn is_listed(op: &Op) -> bool {
-    !is_temporal(op) && !matches!(op, Op::Or(..) | Op::And(..) | Op::Not(_) | Op::Compare(..) | Op::Slope(..))
+    let is_atom = matches!(op, Op::Compare(..) | Op::Slope(..) | Op::Pigment(_));
+    !is_temporal(op) && !is_atom && !matches!(op, Op::Or(..) | Op::And(..) | Op::Not(_))
 }
 
 /// The text's nodes, its root last.
@@ -523,6 +534,10 @@ impl Parser<'_> {
             b"A" => return self.relation(0),
             b"B" => return self.relation(1),
             b"T" => return self.relation(2),
+            b"P" if self.take(b'=') => {
+                let k = self.pigment()?;
+                return self.push(Op::Pigment(k));
+            }
             _ => self.open()?,
         }
         let op = match name {
@@ -552,6 +567,7 @@ impl Parser<'_> {
             b"low" => Op::Low(self.curve()?),
             b"peaks" => Op::Peaks(self.curve()?),
             b"dips" => Op::Dips(self.curve()?),
+            b"dose" => Op::Dose(self.pigment()?),
             b"ampl" => Op::Ampl(self.curve()?),
             b"gaps" => Op::Gaps(self.curve()?),
             b"steps" => Op::Steps(self.curve()?),
@@ -598,6 +614,11 @@ impl Parser<'_> {
             Right::Number(self.number()?)
         };
         self.push(Op::Compare(left, from, to, right))
+    }
+
+    fn pigment(&mut self) -> Option<u8> {
+        let number = self.number()?;
+        (1..=i32::from(MOST_PIGMENT)).contains(&number).then_some(number as u8)
     }
 
     fn number(&mut self) -> Option<i32> {

@@ -15,6 +15,8 @@ pub const MILL_MAX_RECORDS: usize = 4096;
 pub const MILL_MAX_TIME: u32 = 2_000_000_000;
 pub const MILL_MAX_VALUE: i32 = 1_000_000_000;
 pub const MILL_MIN_VALUE: i32 = -1_000_000_000;
+/// The greatest number of a pigment; 0 says that none is added.
+pub const MILL_MAX_PIGMENT: u8 = 16;
 pub const MILL_MAX_TEXT: usize = 256;
 pub const MILL_MAX_NODES: usize = 32;
 pub const MILL_MAX_BRACKETS: usize = 16;

@@ -1,5 +1,5 @@
 /*
-** Covers: mill.h as a C99 program uses it. R1's lines and R2's, every refusal, null with length 0, memory that stays as it was,
+** Covers: mill.h as a C99 program uses it. R1's lines, R2's and R3's, every refusal, null with length 0, memory that stays as it was,
 ** and thinning piece by piece. Exits with 1 and says why if anything differs.
 */
 #include "mill.h"
@@ -22,8 +22,8 @@ static void expect(int holds, const char *what, int line)
 enum { R1_RECORDS = 8, R1_BYTES = R1_RECORDS * MILL_RECORD_BYTES };
 enum { R2_RECORDS = 9, R2_BYTES = R2_RECORDS * MILL_RECORD_BYTES };
 
-/* R1 keeps all its readings; R2 does not. */
-static uint8_t r1[R1_BYTES], r2[R2_BYTES];
+/* R1 keeps all its readings; R2 does not. R3 is R2 with pigments: 3 added at 0, 20 and 60, and 16 at 70. */
+static uint8_t r1[R1_BYTES], r2[R2_BYTES], r3[R2_BYTES];
 
 static void put32(uint8_t *at, uint32_t number)
 {
@@ -69,18 +69,27 @@ static void make_r2(void)
         put_record(r2 + MILL_RECORD_BYTES * i, 10 * (uint32_t)i, 10 - i, 0, slope[i], MILL_FLAT);
 }
 
+static void make_r3(void)
+{
+    static const uint8_t pigment[R2_RECORDS] = {3, 0, 3, 0, 0, 0, 3, MILL_MAX_PIGMENT, 0};
+    int i;
+    memcpy(r3, r2, sizeof r3);
+    for (i = 0; i < R2_RECORDS; i++)
+        r3[MILL_RECORD_BYTES * i + 14] = pigment[i];
+}
+
 static uint64_t ask(const char *text, uint8_t *out, size_t out_len)
 {
     return mill_question(r1, R1_BYTES, (const uint8_t *)text, strlen(text), out, out_len);
 }
 
-/* The text answers these runs on R1, low and high of each, and leaves what is behind them. */
-static int answers(const char *text, size_t count, const int64_t *numbers)
+/* The text answers these runs on a recording, low and high of each, and leaves what is behind them. */
+static int answers_of(const uint8_t *recording, size_t recording_len, const char *text, size_t count, const int64_t *numbers)
 {
     uint8_t out[MILL_SET_BYTES + 1];
     size_t i;
     memset(out, 0xA5, sizeof out);
-    if (ask(text, out, sizeof out) != count * MILL_RUN_BYTES)
+    if (mill_question(recording, recording_len, (const uint8_t *)text, strlen(text), out, sizeof out) != count * MILL_RUN_BYTES)
         return 0;
     for (i = 0; i < 2 * count; i++)
         if (number_at(out + 4 * i) != numbers[i])
@@ -89,6 +98,12 @@ static int answers(const char *text, size_t count, const int64_t *numbers)
         if (out[i] != 0xA5)
             return 0;
     return 1;
+}
+
+/* The same on R1. */
+static int answers(const char *text, size_t count, const int64_t *numbers)
+{
+    return answers_of(r1, R1_BYTES, text, count, numbers);
 }
 
 static void questions(void)
@@ -110,11 +125,29 @@ static void questions(void)
     EXPECT(answers("F(!rise(A)&X(rise(A)&T=v))", 1, dips_a));
     EXPECT(answers("F(A<=B&X(A>B&T=v))", 2, crossup));
     EXPECT(answers("lag", 0, NULL));
+    EXPECT(answers("dose(1)", 0, NULL));
+    EXPECT(answers("F(P=16&T=v)", 0, NULL));
+    EXPECT(answers("!P=3", 1, capafter));
     EXPECT(answers("lowafter(A,40)", 1, lowafter));
     EXPECT(answers("lowafter(A,70)", 0, NULL));
     EXPECT(answers("capafter(A,70)", 1, capafter));
     EXPECT(answers("U(A>=40,A=v)", 5, until));
     EXPECT(answers("F(A=60&X(A=v))", 1, next));
+}
+
+static void additions(void)
+{
+    const int64_t whole[] = {MILL_AXIS_LOW, MILL_AXIS_HIGH}, dose_3[] = {0, 0, 20, 20, 60, 60}, dose_16[] = {70, 70};
+    const int64_t level[] = {4, 4, 8, 8, 10, 10}, at_a_top[] = {60, 60};
+    EXPECT(answers_of(r3, R2_BYTES, "dose(3)", 3, dose_3));
+    EXPECT(answers_of(r3, R2_BYTES, "F(P=3&T=v)", 3, dose_3));
+    EXPECT(answers_of(r3, R2_BYTES, "dose(16)", 1, dose_16));
+    EXPECT(answers_of(r3, R2_BYTES, "F(P=16&T=v)", 1, dose_16));
+    EXPECT(answers_of(r3, R2_BYTES, "dose(1)", 0, NULL));
+    EXPECT(answers_of(r3, R2_BYTES, "F(P=3&A=v)", 3, level));
+    EXPECT(answers_of(r3, R2_BYTES, "dose(3)&peaks(A)", 1, at_a_top));
+    EXPECT(answers_of(r3, R2_BYTES, "P=3", 1, whole));
+    EXPECT(answers_of(r3, R2_BYTES, "P=16", 0, NULL));
 }
 
 static void degrees(void)
@@ -164,7 +197,7 @@ static void first_of_several_pairs(void)
     EXPECT(earlier == 10 && later == 40);
 }
 
-static uint8_t large[(MILL_MAX_RECORDS + 1) * MILL_RECORD_BYTES];
+static uint8_t large[(MILL_MAX_RECORDS + 1) * MILL_RECORD_BYTES], thinned[MILL_MAX_RECORDS * MILL_RECORD_BYTES];
 
 /* MILL_MAX_RECORDS records with so many tops of A. */
 static void make_tops(uint32_t tops)
@@ -181,6 +214,16 @@ static void make_dips(uint32_t dips)
     for (i = 0; i < MILL_MAX_RECORDS; i++) {
         int here = i % 2 == 1 && i / 2 < dips;
         put_record(large + MILL_RECORD_BYTES * i, i, here, 0, here ? MILL_RISING : MILL_FLAT, MILL_FLAT);
+    }
+}
+
+/* MILL_MAX_RECORDS records, so many of them with pigment 1, every so many records from the first on. */
+static void make_additions(uint32_t additions, uint32_t apart)
+{
+    uint32_t i;
+    for (i = 0; i < MILL_MAX_RECORDS; i++) {
+        put_record(large + MILL_RECORD_BYTES * i, i, 0, 0, MILL_FLAT, MILL_FLAT);
+        large[MILL_RECORD_BYTES * i + 14] = i % apart == 0 && i / apart < additions;
     }
 }
 
@@ -237,6 +280,38 @@ static void refused_questions(void)
     make_tops(MILL_MAX_TOPS + 1);
     EXPECT(refused(large, sizeof large - MILL_RECORD_BYTES, "steps(A)") == MILL_TOO_MANY_TOPS);
     EXPECT(MILL_NUMBER(ask("peaks(A)", out, sizeof out)) == MILL_SHORT_OUTPUT);
+}
+
+static void refused_additions(void)
+{
+    static const char *const unread[] = {"P=0",      "P=17",     "P=01",    "P=v",     "P>=1",   "P=",       "dose(0)",
+                                         "dose(17)", "dose(01)", "dose(v)", "dose(A)", "dose()", "doses(1)", "F(dose(1))"};
+    const size_t length = sizeof large - MILL_RECORD_BYTES;
+    const int64_t joined[] = {0, MILL_MAX_RECORDS - 1};
+    uint8_t bad[R2_BYTES], out[MILL_RECORD_BYTES];
+    uint64_t returned;
+    size_t i;
+    for (i = 0; i < sizeof unread / sizeof unread[0]; i++)
+        EXPECT(refused(r3, R2_BYTES, unread[i]) == MILL_NO_READING);
+    make_additions(MILL_MAX_RUNS, 2);
+    EXPECT(refused(large, length, "dose(1)") == 0);
+    EXPECT(refused(large, length, "F(P=1&T=v)") == 0);
+    make_additions(MILL_MAX_RUNS + 1, 2);
+    EXPECT(refused(large, length, "dose(1)") == MILL_TOO_MANY_RUNS);
+    EXPECT(refused(large, length, "F(P=1&T=v)") == MILL_TOO_MANY_RUNS);
+    EXPECT(refused(large, length, "dose(2)") == 0);
+    make_additions(MILL_MAX_RECORDS, 1);
+    EXPECT(answers_of(large, length, "dose(1)", 1, joined));
+    for (i = 0; i < 256; i++) {
+        memcpy(bad, r3, sizeof bad);
+        bad[5 * MILL_RECORD_BYTES + 14] = (uint8_t)i;
+        returned = mill_question(bad, sizeof bad, (const uint8_t *)"lag", 3, NULL, 0);
+        EXPECT(i <= MILL_MAX_PIGMENT ? returned == 0 : MILL_NUMBER(returned) == MILL_BAD_RECORD && MILL_PLACE(returned) == 5);
+        bad[5 * MILL_RECORD_BYTES + 14] = 0;
+        bad[5 * MILL_RECORD_BYTES + 15] = (uint8_t)i;
+        returned = mill_thin(bad, sizeof bad, NULL, 0, out, sizeof out);
+        EXPECT(MILL_NUMBER(returned) == (i == 0 ? MILL_SHORT_OUTPUT : MILL_BAD_RECORD) && MILL_PLACE(returned) == (i == 0 ? 0 : 5));
+    }
 }
 
 static void refusals(void)
@@ -346,19 +421,42 @@ static void thinning_of_r2(void)
     }
 }
 
+/* Each addition is kept, without the record before it, and what is kept answers as the whole. */
+static void thinning_of_r3(void)
+{
+    static const uint32_t plain[] = {0, 20, 30, 40, 50, 60, 70, 80};
+    const int64_t dose_3[] = {0, 0, 20, 20, 60, 60}, dose_16[] = {70, 70};
+    uint8_t out[R2_BYTES], held[2 * R2_BYTES];
+    size_t readings;
+    EXPECT(MILL_NUMBER(mill_thin(r3, R2_BYTES, NULL, 0, out, 127)) == MILL_SHORT_OUTPUT);
+    EXPECT(times(out, (size_t)mill_thin(r3, R2_BYTES, NULL, 0, out, 128), plain, 8));
+    EXPECT(out[14] == 3 && out[MILL_RECORD_BYTES + 14] == 3 && out[6 * MILL_RECORD_BYTES + 14] == MILL_MAX_PIGMENT);
+    EXPECT(answers_of(out, 128, "dose(3)", 3, dose_3));
+    EXPECT(answers_of(out, 128, "dose(16)", 1, dose_16));
+    for (readings = 1; readings <= R2_RECORDS; readings++)
+        EXPECT(times(held, thin_in_pieces(r3, R2_BYTES, readings, NULL, 0, held), plain, 8));
+    make_additions(MILL_MAX_RECORDS, 1);
+    EXPECT(mill_thin(large, sizeof large - MILL_RECORD_BYTES, NULL, 0, thinned, sizeof thinned) == sizeof thinned);
+    EXPECT(memcmp(thinned, large, sizeof thinned) == 0);
+}
+
 int main(void)
 {
     make_r1();
     make_r2();
+    make_r3();
     questions();
+    additions();
     degrees();
     refused_questions();
+    refused_additions();
     pairs();
     first_of_several_pairs();
     refusals();
     nothing_at_all();
     thinning_of_r1();
     thinning_of_r2();
+    thinning_of_r3();
     printf("boundary.c: %d failures\n", failures);
     return failures == 0 ? 0 : 1;
 }

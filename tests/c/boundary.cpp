@@ -64,6 +64,8 @@ void questions()
     EXPECT(ask("dips(A)", 1) == 0);
     EXPECT(ask("crossup", 2) == 0);
     EXPECT(ask("lag", 0) == 0);
+    EXPECT(ask("dose(1)", 0) == 0);
+    EXPECT(ask("!P=16", 1) == 0);
     EXPECT(ask("lowafter(A,40)", 1) == 0);
     EXPECT(ask("lowafter(A,70)", 0) == 0);
     EXPECT(ask("capafter(A,70)", 1) == 0);
@@ -71,6 +73,12 @@ void questions()
     EXPECT(ask("", 0) == MILL_TEXT_LENGTH);
     EXPECT(ask("F(A>v", 0) == MILL_NO_READING);
     EXPECT(ask("F(lag)", 0) == MILL_NO_READING);
+    EXPECT(ask("P=17", 0) == MILL_NO_READING);
+    r1[MILL_RECORD_BYTES + 14] = MILL_MAX_PIGMENT;
+    EXPECT(ask("dose(16)", 1) == 0);
+    r1[MILL_RECORD_BYTES + 14] = MILL_MAX_PIGMENT + 1;
+    EXPECT(ask("dose(16)", 0) == MILL_BAD_RECORD);
+    r1[MILL_RECORD_BYTES + 14] = 0;
     EXPECT(MILL_NUMBER(mill_question(NULL, 0, NULL, 0, NULL, 0)) == MILL_NO_RECORD);
 }
 

@@ -1,14 +1,15 @@
--- Document 01, "The question text": the printed rules. `Reads l w t` says that the word w reads as t, at the level l.
+-- Document 01, "The question text", and Papers 1 and 3: the printed rules. `Reads l w t` says that the word w reads as t, at the level l.
 use Prim.Native.Nat.{ℕ, _+_, _*_, _-_, _≤_}
 use mathlib.Core.Path.{_≡_}
 use mathlib.Core.Bool.{true, false}
 use mathlib.Core.List.{List, [], _∷_, _++_}
 use Rattle.number.specs.Axis.{origin}
 use Rattle.recording.specs.Reading.{Curve, A, B}
+use Rattle.recording.specs.Recording.{mostPigments}
 use Rattle.grammar.specs.Bytes.{bytes}
 use Rattle.grammar.specs.Classes.{isDigit}
 use Rattle.grammar.specs.Size.{mixed}
-use Rattle.grammar.specs.Syntax.{Field, of, T, Relation, ge, le, gt, lt, eq, Operand, v, number, Atom, compare, A-to-B, fall, rise, Listed, high, low, lowafter, capafter, peaks, dips, cross, crossup, ampl, gaps, steps, lag, Text, atom, listed, or, and, neg, finally, globally, next, until, weakUntil}
+use Rattle.grammar.specs.Syntax.{Field, of, T, Relation, ge, le, gt, lt, eq, Operand, v, number, Atom, compare, A-to-B, fall, rise, pigment, Listed, high, low, lowafter, capafter, peaks, dips, cross, crossup, dose, ampl, gaps, steps, lag, Text, atom, listed, or, and, neg, finally, globally, next, until, weakUntil}
 
 -- NUMBERS. What digits come to, in decimal, behind digits that come to n
 abbrev pub decimalFrom : ℕ → List ℕ → ℕ
@@ -22,17 +23,21 @@ abbrev pub AllDigits : List ℕ → Type 0
 AllDigits [] = Unit {0}
 AllDigits (d ∷ w) = (isDigit d ≡ true) × AllDigits w
 
--- digits without a leading zero (`1` to `9`, then digits) that come to a number of the axis
-pub record Positive (d : ℕ) (w : List ℕ) : Type 0 where
+-- digits without a leading zero (`1` to `9`, then digits) that come to m at most
+pub record Positive (m d : ℕ) (w : List ℕ) : Type 0 where
   pub first : 49 ≤ d
   pub digits : AllDigits (d ∷ w)
-  pub onAxis : decimal (d ∷ w) ≤ origin
+  pub within : decimal (d ∷ w) ≤ m
 
 -- the word of a number, with the number's index on the axis: `0`, or without a leading zero, minus allowed
 pub data Numeral : List ℕ → ℕ → Type 0 where
   zero-itself : Numeral (bytes "0") origin
-  plain : {d : ℕ} {w : List ℕ} → Positive d w → Numeral (d ∷ w) (origin + decimal (d ∷ w))
-  minus : {d : ℕ} {w : List ℕ} → Positive d w → Numeral (bytes "-" ++ d ∷ w) (origin - decimal (d ∷ w))
+  plain : {d : ℕ} {w : List ℕ} → Positive origin d w → Numeral (d ∷ w) (origin + decimal (d ∷ w))
+  minus : {d : ℕ} {w : List ℕ} → Positive origin d w → Numeral (bytes "-" ++ d ∷ w) (origin - decimal (d ∷ w))
+
+-- the number of a pigment: 1 to 16, in decimal, without a leading zero
+abbrev pub PigmentNumber : ℕ → List ℕ → Type 0
+PigmentNumber d w = Positive mostPigments d w
 
 -- ATOMS
 abbrev pub curveWord : Curve → List ℕ
@@ -54,12 +59,13 @@ pub data OperandWord : List ℕ → Operand → Type 0 where
   the-v : OperandWord (bytes "v") v
   a-number : {w : List ℕ} {k : ℕ} → Numeral w k → OperandWord w (number k)
 
--- A, B or T, a relation, then v or a number; A, a relation, then B; `fall(c)`; `rise(c)`
+-- A, B or T, a relation, then v or a number; A, a relation, then B; `fall(c)`; `rise(c)`; `P=k`
 pub data AtomWord : List ℕ → Atom → Type 0 where
   compared : {w : List ℕ} {o : Operand} (f : Field) (r : Relation) → OperandWord w o → AtomWord (fieldWord f ++ relationWord r ++ w) (compare f r o)
   curves : (r : Relation) → AtomWord (bytes "A" ++ relationWord r ++ bytes "B") (A-to-B r)
   falling : (c : Curve) → AtomWord (bytes "fall(" ++ curveWord c ++ bytes ")") (fall c)
   rising : (c : Curve) → AtomWord (bytes "rise(" ++ curveWord c ++ bytes ")") (rise c)
+  pigment-is : {d : ℕ} {w : List ℕ} → PigmentNumber d w → AtomWord (bytes "P=" ++ d ∷ w) (pigment (decimal (d ∷ w)))
 
 -- THE LISTED QUESTIONS
 pub data ListedWord : List ℕ → Listed → Type 0 where
@@ -71,6 +77,7 @@ pub data ListedWord : List ℕ → Listed → Type 0 where
   a-dips : (c : Curve) → ListedWord (bytes "dips(" ++ curveWord c ++ bytes ")") (dips c)
   a-cross : ListedWord (bytes "cross") cross
   a-crossup : ListedWord (bytes "crossup") crossup
+  a-dose : {d : ℕ} {w : List ℕ} → PigmentNumber d w → ListedWord (bytes "dose(" ++ (d ∷ w) ++ bytes ")") (dose (decimal (d ∷ w)))
   an-ampl : (c : Curve) → ListedWord (bytes "ampl(" ++ curveWord c ++ bytes ")") (ampl c)
   a-gaps : (c : Curve) → ListedWord (bytes "gaps(" ++ curveWord c ++ bytes ")") (gaps c)
   a-steps : (c : Curve) → ListedWord (bytes "steps(" ++ curveWord c ++ bytes ")") (steps c)

@@ -5,7 +5,7 @@ use mathlib.Core.List.{List, [], _∷_, _++_}
 use lib.Dec.{eqb, ltb}
 use lib.ListN.{length, take}
 use Rattle.number.specs.Least.{least}
-use Rattle.grammar.specs.Syntax.{Listed, high, low, lowafter, capafter, peaks, dips, cross, crossup, ampl, gaps, steps, lag, Text, atom, listed, or, and, neg, finally, globally, next, until, weakUntil}
+use Rattle.grammar.specs.Syntax.{Listed, high, low, lowafter, capafter, peaks, dips, cross, crossup, dose, ampl, gaps, steps, lag, Text, atom, listed, or, and, neg, finally, globally, next, until, weakUntil}
 
 -- the text writes one of F, G, X, U and W
 abbrev pub temporal : Text → Bool
@@ -59,6 +59,7 @@ afterTime (peaks c) = []
 afterTime (dips c) = []
 afterTime cross = []
 afterTime crossup = []
+afterTime (dose k) = []
 afterTime (ampl c) = []
 afterTime (gaps c) = []
 afterTime (steps c) = []

@@ -1,4 +1,4 @@
--- Document 01, "The question text": what a text reads as. A number of a text is carried as its index on the axis.
+-- Document 01, "The question text", and Papers 1 and 3: what a text reads as. A number of a text is carried as its index on the axis, that of a pigment as it is.
 use Prim.Native.Nat.{ℕ}
 use Rattle.recording.specs.Reading.{Curve}
 
@@ -20,6 +20,8 @@ pub data Atom : Type 0 where
   compare : Field → Relation → Operand → Atom
   A-to-B : Relation → Atom
   fall rise : Curve → Atom
+  -- `P=k`
+  pigment : ℕ → Atom
 
 -- the listed questions; the number of `lowafter` and `capafter` is an after-time
 pub data Listed : Type 0 where
@@ -27,6 +29,7 @@ pub data Listed : Type 0 where
   lowafter capafter : Curve → ℕ → Listed
   peaks dips : Curve → Listed
   cross crossup : Listed
+  dose : ℕ → Listed
   ampl gaps steps : Curve → Listed
   lag : Listed
 

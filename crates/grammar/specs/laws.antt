@@ -3,3 +3,4 @@ pub mod Class
 pub mod Number
 pub mod Leaf
 pub mod Unique
+pub mod Pigment

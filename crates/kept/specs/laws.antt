@@ -4,5 +4,6 @@ pub mod Rule
 pub mod On
 pub mod Kept
 pub mod Limit
+pub mod Unpigmented
 pub mod Mark
 pub mod Flag

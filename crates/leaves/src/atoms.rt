@@ -5,7 +5,7 @@ ghost use lib.Dec.{eqb};
 ghost use lib.ListN.{length};
 ghost use Rattle.number.specs.Axis.{axis};
 ghost use Rattle.recording.specs.Recording.{Accepted};
-ghost use Rattle.grammar.specs.Syntax.{v, number, compare, A-to-B};
+ghost use Rattle.grammar.specs.Syntax.{v, number, compare, A-to-B, pigment};
 ghost use Rattle.grammar.specs.inner.Table.{fieldOf, relationOf};
 ghost use Rattle.meaning.specs.inner.Coded.{codedSlope};
 ghost use Rattle.meaning.specs.inner.Truth.{codedAt, relate, atomVal};
@@ -81,6 +81,14 @@ pub fn a_to_b(rec: &[u8], i: usize, relation: u32) -> Span
         fields::value_at(rec, i, 0),
         fields::value_at(rec, i, 1),
     ))
+}
+
+// Whether a pigment is added.
+pub fn adding(rec: &[u8], i: usize, k: u32) -> Span
+    requires { ⌜ Accepted (now rec) × (i < length (coded (now rec))) ⌝ }
+    ensures { λ r. ⌜ Spans (λ n. atomVal (pigment k) (codedAt (coded (now (rec .entry))) i) n) r ⌝ }
+{
+    span::all_if(tops::is_added(rec, i, k))
 }
 
 // Whether a curve has the slope.

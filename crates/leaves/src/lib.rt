@@ -10,7 +10,7 @@ ghost use Prim.Native.Nat.{_≤_, _<_};
 ghost use lib.ListN.{length};
 ghost use Rattle.runset.specs.Set.{slotWords, Makes};
 ghost use Rattle.meaning.specs.inner.Truth.{val};
-ghost use Rattle.grammar.specs.inner.Kinds.{PEAKS, AMPL, GAPS};
+ghost use Rattle.grammar.specs.inner.Kinds.{HIGH, PEAKS, DOSE, AMPL, GAPS};
 ghost use Rattle.meaning.specs.inner.Coded.{coded};
 ghost use Rattle.leaves.specs.inner.Leaf.{leafOf, timesOf, Asked};
 ghost use Rattle.grammar.specs.Syntax.{listed};
@@ -22,9 +22,9 @@ use runset::RunSet;
 use span::Span;
 use tops::Event;
 
-// Leaves with at most one run: the atoms, `high`, `low`, `lowafter` and `capafter`.
-fn spanned(rec: &[u8], i: usize, row: Row) -> Span
-    requires { ⌜ Asked (now rec) i row × (row .kind < PEAKS) ⌝ }
+// Atoms, whose sets have at most one run.
+fn atom(rec: &[u8], i: usize, row: Row) -> Span
+    requires { ⌜ Asked (now rec) i row × (row .kind < HIGH) ⌝ }
     ensures { λ r. ⌜ Spans (λ v. val (coded (now (rec .entry))) v (leafOf row) i) r ⌝ }
 {
     let kind = row.kind;
@@ -43,6 +43,15 @@ fn spanned(rec: &[u8], i: usize, row: Row) -> Span
     if kind == kinds::RISE {
         return atoms::sloped(rec, i, row.first, recording::RISING);
     }
+    atoms::adding(rec, i, row.number)
+}
+
+// `high`, `low`, `lowafter` and `capafter`, whose sets have at most one run.
+fn extreme(rec: &[u8], i: usize, row: Row) -> Span
+    requires { ⌜ Asked (now rec) i row × (HIGH ≤ row .kind) × (row .kind < PEAKS) ⌝ }
+    ensures { λ r. ⌜ Spans (λ v. val (coded (now (rec .entry))) v (leafOf row) i) r ⌝ }
+{
+    let kind = row.kind;
     let curve = recording::curve(row.first);
     if kind == kinds::HIGH {
         return extremes::high(rec, curve);
@@ -56,6 +65,17 @@ fn spanned(rec: &[u8], i: usize, row: Row) -> Span
     extremes::capafter(rec, curve, row.number)
 }
 
+// Leaves with at most one run, `ampl` aside.
+fn spanned(rec: &[u8], i: usize, row: Row) -> Span
+    requires { ⌜ Asked (now rec) i row × (row .kind < PEAKS) ⌝ }
+    ensures { λ r. ⌜ Spans (λ v. val (coded (now (rec .entry))) v (leafOf row) i) r ⌝ }
+{
+    if row.kind < kinds::HIGH {
+        return atom(rec, i, row);
+    }
+    extreme(rec, i, row)
+}
+
 // `ampl`, which has one run too.
 fn amplitude(rec: &[u8], i: usize, row: Row) -> Span
     requires { ⌜ Asked (now rec) i row × (row .kind ≡ AMPL) ⌝ }
@@ -66,7 +86,7 @@ fn amplitude(rec: &[u8], i: usize, row: Row) -> Span
 
 // The event whose times a leaf asks for: `peaks`, `dips`, `cross` or `crossup`.
 fn event_of(row: Row) -> Event
-    requires { ⌜ (PEAKS ≤ row .kind) × (row .kind < AMPL) ⌝ }
+    requires { ⌜ (PEAKS ≤ row .kind) × (row .kind < DOSE) ⌝ }
     ensures { λ r. ⌜ Known r × (leafOf row ≡ listed (timesOf (eventOf r))) ⌝ }
 {
     let kind = row.kind;
@@ -85,10 +105,18 @@ fn event_of(row: Row) -> Event
 
 // Leaves on events.
 fn happening(rec: &[u8], i: usize, row: Row, set: &mut [u32]) -> bool
-    requires { ⌜ Asked (now rec) i row × (PEAKS ≤ row .kind) × (row .kind < AMPL) × (length (now set) ≡ slotWords) ⌝ }
+    requires { ⌜ Asked (now rec) i row × (PEAKS ≤ row .kind) × (row .kind < DOSE) × (length (now set) ≡ slotWords) ⌝ }
     ensures { λ r. ⌜ Makes (λ v. val (coded (now (rec .entry))) v (leafOf row) i) (now (set .exit)) r ⌝ }
 {
     times::events(rec, event_of(row), set)
+}
+
+// `dose`.
+fn added(rec: &[u8], i: usize, row: Row, set: &mut [u32]) -> bool
+    requires { ⌜ Asked (now rec) i row × (row .kind ≡ DOSE) × (length (now set) ≡ slotWords) ⌝ }
+    ensures { λ r. ⌜ Makes (λ v. val (coded (now (rec .entry))) v (leafOf row) i) (now (set .exit)) r ⌝ }
+{
+    times::additions(rec, row.number, set)
 }
 
 // Leaves on differences between tops: `gaps`, `steps` and `lag`.
@@ -118,8 +146,11 @@ pub fn leaf(rec: &[u8], i: usize, row: Row, set: &mut [u32]) -> bool
         RunSet::span(s.low, s.high, set);
         return false;
     }
-    if kind < kinds::AMPL {
+    if kind < kinds::DOSE {
         return happening(rec, i, row, set);
+    }
+    if kind == kinds::DOSE {
+        return added(rec, i, row, set);
     }
     if kind == kinds::AMPL {
         let s = amplitude(rec, i, row);

@@ -1,10 +1,10 @@
-// The sets of the listed questions on times: of events, and of the differences between tops.
+// The sets of the listed questions on times: of events, of additions, and of the differences between tops.
 ghost use mathlib.Core.Path.{_≡_};
 ghost use Prim.Native.Nat.{_≤_, _<_};
 ghost use lib.ListN.{length};
 ghost use Rattle.recording.specs.Recording.{Accepted};
 ghost use Rattle.grammar.specs.Syntax as asks;
-ghost use Rattle.meaning.specs.inner.Coded.{codedTimes};
+ghost use Rattle.meaning.specs.inner.Coded.{codedTimes, codedAdditions};
 ghost use Rattle.tops.specs.Tops.{mostTops};
 ghost use Rattle.meaning.specs.inner.Truth.{truth};
 ghost use Rattle.runset.specs.Set.{slotWords, Makes};
@@ -47,6 +47,26 @@ pub fn events(rec: &[u8], event: Event, set: &mut [u32]) -> bool
 {
     let mut times = [0u32; MOST_EDGES];
     let n = stamps(rec, event, &mut times);
+    differences::moments(&times[..n], set)
+}
+
+// The times of the additions of a pigment, as indices.
+fn addition_stamps(rec: &[u8], k: u32, times: &mut [u32]) -> usize
+    requires { ⌜ Accepted (now rec) × (length (codedAdditions k (coded (now rec))) ≤ length (now times)) ⌝ }
+    ensures { λ r. ⌜ Stamped (codedAdditions k (coded (now (rec .entry)))) r (now (times .exit)) ⌝ }
+{
+    let n = tops::addition_times(rec, rec.len() / 16, k, times);
+    shift(times, n);
+    n
+}
+
+// `dose`.
+pub fn additions(rec: &[u8], k: u32, set: &mut [u32]) -> bool
+    requires { ⌜ Accepted (now rec) × (length (now set) ≡ slotWords) ⌝ }
+    ensures { λ r. ⌜ Makes (λ v. truth (asks.dose k) (coded (now (rec .entry))) v) (now (set .exit)) r ⌝ }
+{
+    let mut times = [0u32; recording::MOST_RECORDS];
+    let n = addition_stamps(rec, k, &mut times);
     differences::moments(&times[..n], set)
 }
 

@@ -12,9 +12,9 @@ use Rattle.grammar.specs.declared.Found.{Found}
 use Rattle.grammar.specs.declared.Found.the-variants.{At, Missing}
 use Rattle.grammar.specs.declared.Leaf.{Leaf}
 use Rattle.grammar.specs.declared.Leaf.the-variants.{Node, Open, Nothing}
-use Rattle.grammar.specs.inner.Kinds.{COMPARE-V, COMPARE, A-TO-B, FALL, LOWAFTER, CAPAFTER, CROSS, CROSSUP, LAG}
+use Rattle.grammar.specs.inner.Kinds.{COMPARE-V, COMPARE, A-TO-B, FALL, PIGMENT, LOWAFTER, CAPAFTER, CROSS, CROSSUP, DOSE, LAG}
 use Rattle.grammar.specs.inner.Table.{row, unaryFrom}
-use Rattle.grammar.specs.inner.Lexer.{byte, firstOf, curves, relations, heads, numberAt, whenFound, closedBy, operandAt, comparisonAt, timedAt, isTimed, argumentsAt, isBare, namedAt, headedAt, leafAt}
+use Rattle.grammar.specs.inner.Lexer.{byte, firstOf, curves, relations, heads, numberAt, pigmentAt, whenFound, closedBy, operandAt, comparisonAt, timedAt, isTimed, argumentsAt, takesPigment, pigmentLeafAt, isBare, namedAt, headedAt, leafAt}
 
 -- the leaf with the number that was found
 abbrev pub numbered : ℕ → ℕ → ℕ → ℕ → Leaf
@@ -59,13 +59,19 @@ pub timed-none : (s : List ℕ) (k c j b : ℕ) → b ≡ byte s j → (b ≡ 44
 unfolding timedAt
 timed-none s k c j b p e = rw (ne-eqb (byte s j) 44 (λ z. e (p ∙ z)))
 
--- THE KINDS of names with a number, and of names without arguments
+-- THE KINDS of names with a number, of words with a pigment's, and of names without arguments
 module _ (k : ℕ) where
   pub timed-first : k ≡ LOWAFTER → true ≡ isTimed k
   timed-first e = rw (eq-eqb k LOWAFTER e)
 
   pub timed-rest : (k ≡ LOWAFTER → ⊥) → eqb k CAPAFTER ≡ isTimed k
   timed-rest n = rw (ne-eqb k LOWAFTER n)
+
+  pub takes-first : k ≡ PIGMENT → true ≡ takesPigment k
+  takes-first e = rw (eq-eqb k PIGMENT e)
+
+  pub takes-rest : (k ≡ PIGMENT → ⊥) → eqb k DOSE ≡ takesPigment k
+  takes-rest n = rw (ne-eqb k PIGMENT n)
 
   pub bare-first : k ≡ CROSS → true ≡ isBare k
   bare-first e = rw (eq-eqb k CROSS e)
@@ -94,9 +100,27 @@ module _ (s : List ℕ) (k i : ℕ) where
   unfolding namedAt
   named-bare t p e = rw (sym p ∙ e)
 
-  pub named-other : (t : Bool) → t ≡ isBare k → t ≡ false → argumentsAt s k i ≡ namedAt s k i
+  pub named-pigment : (t u : Bool) → t ≡ isBare k → t ≡ false → u ≡ takesPigment k → u ≡ true → pigmentLeafAt s k i ≡ namedAt s k i
   unfolding namedAt
-  named-other t p e = rw (sym p ∙ e)
+  named-pigment t u p e q h = rw (sym p ∙ e, sym q ∙ h)
+
+  pub named-other : (t u : Bool) → t ≡ isBare k → t ≡ false → u ≡ takesPigment k → u ≡ false → argumentsAt s k i ≡ namedAt s k i
+  unfolding namedAt
+  named-other t u p e q h = rw (sym p ∙ e, sym q ∙ h)
+
+  -- the leaf with the pigment that was found
+  abbrev pub labelling : ℕ → ℕ → Leaf
+  labelling n e = cond (eqb k DOSE) (closedBy s 41 (row k 0 0 n) e) (Node (row k 0 0 n) e)
+
+  pub pigment-is : (u : Found) → u ≡ pigmentAt s i → whenFound u labelling ≡ pigmentLeafAt s k i
+  unfolding pigmentLeafAt
+  pigment-is u e = ap (λ (x : Found). whenFound x labelling) e
+
+  pub labelling-dose : (n e : ℕ) → k ≡ DOSE → closedBy s 41 (row k 0 0 n) e ≡ labelling n e
+  labelling-dose n e h = rw (eq-eqb k DOSE h)
+
+  pub labelling-atom : (n e : ℕ) → (k ≡ DOSE → ⊥) → Node (row k 0 0 n) e ≡ labelling n e
+  labelling-atom n e h = rw (ne-eqb k DOSE h)
 
   pub headed-field : k < FALL → comparisonAt s k i ≡ headedAt s k i
   unfolding headedAt

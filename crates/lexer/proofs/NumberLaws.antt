@@ -7,13 +7,14 @@ use native.Mathlib.Omega.{arith}
 use lib.ListN.{length, drop, drop-of-length-le}
 use borrow.Author.Tests.{not-true, not-false, eq-eqb, ne-eqb, le-leb, lt-leb}
 use Rattle.number.specs.Axis.{origin}
+use Rattle.recording.specs.Recording.{mostPigments}
 use Rattle.grammar.specs.declared.Found.{Found}
 use Rattle.grammar.specs.declared.Found.the-variants.{At, Missing}
 use Rattle.grammar.specs.Classes.{isDigit}
 use Rattle.grammar.specs.Grammar.{decimal, decimalFrom}
-use Rattle.grammar.specs.inner.Lexer.{byte, digitRun, unsignedAt, numberAt, negated, shifted}
+use Rattle.grammar.specs.inner.Lexer.{byte, digitRun, unsignedAt, numberAt, negated, shifted, ofPigment, pigmentAt}
 use Rattle.grammar.specs.laws.Word.{bound}
-use Rattle.grammar.specs.laws.Number.{run-ends, run-first, digit-low, digit-high, Unsigned, naught, counted, unsigned-sound, number-sound}
+use Rattle.grammar.specs.laws.Number.{run-ends, run-first, digit-low, digit-high, Unsigned, naught, counted, unsigned-sound, number-sound, pigment-sound}
 
 -- the value of digits, held
 abbrev pub held : ℕ → List ℕ → ℕ
@@ -94,7 +95,7 @@ unsigned-low s i n j f p q = go n j (unsigned-sound s i n j (sym p ∙ q))
   where
     go : (n j : ℕ) → Unsigned s i n j → n ≤ origin
     go n j (naught e) = omega arith
-    go n j (counted d w h st) = h .onAxis
+    go n j (counted d w h st) = h .within
 
 negated-some : (n j : ℕ) → (n ≡ 0 → ⊥) → negated (At n j) ≡ At (origin - n) j
 negated-some zero j h = absurd (h refl)
@@ -132,3 +133,36 @@ module _ (s : List ℕ) (i b : ℕ) (p : b ≡ byte s i) (f : Found) where
 -- what is found stops within the text
 pub number-within : (s : List ℕ) (i n j : ℕ) (f : Found) → f ≡ numberAt s i → f ≡ At n j → j ≤ length s
 number-within s i n j f p q = let r = number-sound s i n j (sym p ∙ q) in let b = bound s i (r .spelling) (r .here) in omega (arith, r .upto)
+
+-- THE NUMBER OF A PIGMENT
+of-zero : (n j : ℕ) → n ≡ 0 → ofPigment (At n j) ≡ Missing
+of-zero n j h = rw h refl
+
+of-some : (n j : ℕ) → (n ≡ 0 → ⊥) → n ≤ mostPigments → ofPigment (At n j) ≡ At n j
+of-some zero j h l = absurd (h refl)
+of-some (suc n) j h l = rw (le-leb (suc n) mostPigments l)
+
+of-large : (n j : ℕ) → mostPigments < n → ofPigment (At n j) ≡ Missing
+of-large zero j l = absurd (omega arith)
+of-large (suc n) j l = rw (lt-leb (suc n) mostPigments l)
+
+module _ (s : List ℕ) (i : ℕ) (f : Found) (q : f ≡ unsignedAt s i) where
+  pigment-of : ofPigment f ≡ pigmentAt s i
+  unfolding pigmentAt
+  pigment-of = ap ofPigment q
+
+  pub pigment-none : f ≡ Missing → Missing ≡ pigmentAt s i
+  pigment-none r = sym (ap ofPigment r) ∙ pigment-of
+
+  module _ (n j : ℕ) (r : f ≡ At n j) where
+    pub pigment-zero : n ≡ 0 → Missing ≡ pigmentAt s i
+    pigment-zero h = sym (ap ofPigment r ∙ of-zero n j h) ∙ pigment-of
+
+    pub pigment-some : (n ≡ 0 → ⊥) → n ≤ mostPigments → At n j ≡ pigmentAt s i
+    pigment-some h l = sym (ap ofPigment r ∙ of-some n j h l) ∙ pigment-of
+
+    pub pigment-large : mostPigments < n → Missing ≡ pigmentAt s i
+    pigment-large l = sym (ap ofPigment r ∙ of-large n j l) ∙ pigment-of
+
+pub pigment-within : (s : List ℕ) (i n j : ℕ) (f : Found) → f ≡ pigmentAt s i → f ≡ At n j → j ≤ length s
+pigment-within s i n j f p q = let r = pigment-sound s i n j (sym p ∙ q) in let b = bound s i (r .spelling) (r .here) in omega (arith, r .upto)

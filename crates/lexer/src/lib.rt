@@ -4,7 +4,7 @@ ghost use mathlib.Core.Bool.{_&&_};
 ghost use Prim.Native.Nat.{_+_, _≤_, _<_};
 ghost use lib.Dec.{eqb};
 ghost use lib.ListN.{length};
-ghost use Rattle.grammar.specs.inner.Lexer.{closedBy, operandAt, comparisonAt, timedAt, isTimed, argumentsAt, isBare, namedAt, headedAt, leafAt};
+ghost use Rattle.grammar.specs.inner.Lexer.{closedBy, operandAt, comparisonAt, timedAt, isTimed, argumentsAt, takesPigment, pigmentLeafAt, isBare, namedAt, headedAt, leafAt};
 
 mod numbers;
 
@@ -144,6 +144,38 @@ fn arguments(text: &[u8], kind: u32, at: usize) -> Leaf
     }
 }
 
+// Whether a word of the kind has the number of a pigment: `P=` and `dose(` have.
+fn takes_pigment(kind: u32) -> bool
+    ensures { λ r. ⌜ r ≡ takesPigment kind ⌝ }
+{
+    if kind == kinds::PIGMENT {
+        return true;
+    }
+    kind == kinds::DOSE
+}
+
+// The number of a pigment, and of `dose(` the closing bracket.
+fn pigment_leaf(text: &[u8], kind: u32, at: usize) -> Leaf
+    requires { ⌜ at ≤ length (now text) ⌝ }
+    ensures { λ r. ⌜ r ≡ pigmentLeafAt (now (text .entry)) kind at ⌝ }
+{
+    match numbers::pigment(text, at) {
+        Found::At(n, e) => {
+            let row = Row {
+                kind,
+                first: 0,
+                second: 0,
+                number: n,
+            };
+            if kind == kinds::DOSE {
+                return closed(text, row, e);
+            }
+            Leaf::Node(row, e)
+        }
+        Found::Missing => Leaf::Nothing,
+    }
+}
+
 // Whether a name of the kind has no arguments: `cross`, `crossup` and `lag` have none.
 fn is_bare(kind: u32) -> bool
     ensures { λ r. ⌜ r ≡ isBare kind ⌝ }
@@ -172,6 +204,9 @@ fn named(text: &[u8], kind: u32, at: usize) -> Leaf
             },
             at,
         );
+    }
+    if takes_pigment(kind) {
+        return pigment_leaf(text, kind, at);
     }
     arguments(text, kind, at)
 }

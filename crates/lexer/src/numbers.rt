@@ -4,7 +4,7 @@ ghost use Prim.Native.Nat.{_+_, _-_, _*_, _≤_, _<_, min};
 ghost use lib.ListN.{length, drop};
 ghost use Rattle.number.specs.Axis.{origin};
 ghost use Rattle.grammar.specs.Grammar.{decimal};
-ghost use Rattle.grammar.specs.inner.Lexer.{digitRun, unsignedAt, numberAt};
+ghost use Rattle.grammar.specs.inner.Lexer.{digitRun, unsignedAt, numberAt, pigmentAt};
 use grammar::Found;
 use grammar::classes;
 use number::ORIGIN;
@@ -13,6 +13,9 @@ use number::ORIGIN;
 const LARGEST: u64 = ORIGIN as u64;
 
 const LARGER: u64 = LARGEST + 1;
+
+// The greatest number of a pigment.
+const MOST_PIGMENTS: u32 = recording::MOST_PIGMENTS as u32;
 
 // The digits in front: what they come to, or 2,000,000,001 where that is more, and where they stop.
 pub struct Digits {
@@ -90,5 +93,25 @@ pub fn number(text: &[u8], at: usize) -> Found
             Found::At(n, e) => Found::At(ORIGIN + n, e),
             Found::Missing => Found::Missing,
         }
+    }
+}
+
+// The number of a pigment: 1 to 16.
+pub fn pigment(text: &[u8], at: usize) -> Found
+    requires { ⌜ at ≤ length (now text) ⌝ }
+    ensures { λ r. ⌜ r ≡ pigmentAt (now (text .entry)) at ⌝ }
+{
+    match unsigned(text, at) {
+        Found::At(n, e) => {
+            if n == 0 {
+                return Found::Missing;
+            }
+            if n <= MOST_PIGMENTS {
+                Found::At(n, e)
+            } else {
+                Found::Missing
+            }
+        }
+        Found::Missing => Found::Missing,
     }
 }

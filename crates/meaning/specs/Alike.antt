@@ -8,7 +8,7 @@ use lib.IntN.{ℤ}
 use lib.Signed.{_≤ℤ_, _<ℤ_}
 use Rattle.number.specs.Axis.{origin}
 use Rattle.recording.specs.Condition.{Condition, pick}
-use Rattle.recording.specs.Reading.{Reading, Curve, value, Event, event}
+use Rattle.recording.specs.Reading.{Reading, Curve, value, Event, event, added}
 use Rattle.grammar.specs.Syntax.{Text}
 use Rattle.meaning.specs.Listed.{SomeRecord, After}
 use Rattle.meaning.specs.Meaning.{readingAt, Holds}
@@ -28,7 +28,7 @@ pub record Plain (marks : List ℕ) (p : Text) : Type 0 where
 abbrev pub times : Condition Reading → List Reading → List ℕ
 times ρ r = map (λ (x : Reading). x .time) (pick ρ r)
 
--- THE SAME OBSERVATION: the first reading, how far each curve goes up and down, also after each mark, and the times of every event
+-- THE SAME OBSERVATION: the first reading, how far each curve goes up and down, also after each mark, and the times of every event and of the additions of every pigment
 pub record Alike (marks : List ℕ) (r s : List Reading) : Type 0 where
   pub first : readingAt r 0 ≡ readingAt s 0
   pub up : (c : Curve) (z : ℤ) → SomeRecord r (λ x. z ≤ℤ value c x) ↔ SomeRecord s (λ x. z ≤ℤ value c x)
@@ -38,6 +38,7 @@ pub record Alike (marks : List ℕ) (r s : List Reading) : Type 0 where
   pub down-after : (k : ℕ) → List·Memᴰ k (map markIndex marks) → (c : Curve) (z : ℤ)
       → SomeRecord r (λ x. After k x × (value c x ≤ℤ z)) ↔ SomeRecord s (λ x. After k x × (value c x ≤ℤ z))
   pub events : (e : Event) → times (event e) r ≡ times (event e) s
+  pub additions : (k : ℕ) → times (added k) r ≡ times (added k) s
 
 -- the same truth for every number, and the same refusals 8 and 9
 pub record Same (r s : List Reading) (p : Text) : Type 0 where

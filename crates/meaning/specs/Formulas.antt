@@ -1,7 +1,7 @@
--- Document 01, "Listed questions", and Paper 1: the formulas that eight of them equal.
+-- Document 01, "Listed questions", and Papers 1 and 3: the formulas that nine of them equal.
 use Prim.Native.Nat.{ℕ}
 use Rattle.recording.specs.Reading.{Curve}
-use Rattle.grammar.specs.Syntax.{of, T, ge, le, gt, eq, v, number, compare, A-to-B, fall, rise, Listed, high, low, lowafter, capafter, peaks, dips, cross, crossup, Text, atom, or, and, neg, finally, globally, next}
+use Rattle.grammar.specs.Syntax.{of, T, ge, le, gt, eq, v, number, compare, A-to-B, fall, rise, pigment, Listed, high, low, lowafter, capafter, peaks, dips, cross, crossup, dose, Text, atom, or, and, neg, finally, globally, next}
 
 -- the question equals the formula, both asked alone
 pub data Formula : Listed → Text → Type 0 where
@@ -17,3 +17,5 @@ pub data Formula : Listed → Text → Type 0 where
   -- F(!rise(c)&X(rise(c)&T=v)); F(A<=B&X(A>B&T=v))
   of-dips : {c : Curve} → Formula (dips c) (finally (and (neg (atom (rise c))) (next (and (atom (rise c)) (atom (compare T eq v))))))
   of-crossup : Formula crossup (finally (and (atom (A-to-B le)) (next (and (atom (A-to-B gt)) (atom (compare T eq v))))))
+  -- F(P=k&T=v)
+  of-dose : {k : ℕ} → Formula (dose k) (finally (and (atom (pigment k)) (atom (compare T eq v))))

@@ -1,4 +1,4 @@
--- Document 01, "Listed questions", and Paper 1: what each of them asks of a recording with the number z put in, in the words of its own sentence.
+-- Document 01, "Listed questions", and Papers 1 and 3: what each of them asks of a recording with the number z put in, in the words of its own sentence.
 use Prim.Native.Nat.{ℕ, _<_}
 use mathlib.Core.Path.{_≡_}
 use mathlib.Core.Bool.{So}
@@ -8,8 +8,8 @@ use lib.IntN.{ℤ, pos, _+ℤ_, _-ℤ_}
 use lib.Signed.{_≤ℤ_, _<ℤ_}
 use Rattle.number.specs.Axis.{whole}
 use Rattle.recording.specs.Condition.{Condition, holdsAt}
-use Rattle.recording.specs.Reading.{Reading, Curve, A, B, value, top, dip, crossing, upcrossing, nothing}
-use Rattle.grammar.specs.Syntax.{Listed, high, low, lowafter, capafter, peaks, dips, cross, crossup, ampl, gaps, steps, lag}
+use Rattle.recording.specs.Reading.{Reading, Curve, A, B, value, top, dip, crossing, upcrossing, added, pigmented, nothing}
+use Rattle.grammar.specs.Syntax.{Listed, high, low, lowafter, capafter, peaks, dips, cross, crossup, dose, ampl, gaps, steps, lag}
 
 -- record i
 abbrev pub recordAt : List Reading → ℕ → Reading
@@ -63,6 +63,8 @@ Says (peaks c) r z = TimeOf (top c) r z
 Says (dips c) r z = TimeOf (dip c) r z
 Says cross r z = TimeOf crossing r z
 Says crossup r z = TimeOf upcrossing r z
+-- v is the time of a record at which pigment k is added
+Says (dose k) r z = TimeOf (added k) r z
 -- some whole w has c ≤ w at a record and c ≥ w + v at a record
 Says (ampl c) r z = (w : ℤ) × SomeRecord r (λ x. value c x ≤ℤ w) × SomeRecord r (λ x. (w +ℤ z) ≤ℤ value c x)
 -- v is a later top's time minus an earlier top's

@@ -1,4 +1,4 @@
--- Document 01, "The question text": what a text says of a recording at record i, with the number z put in for v.
+-- Document 01, "The question text", and Paper 3: what a text says of a recording at record i, with the number z put in for v.
 -- It is linear temporal logic over a finite trace whose last reading repeats for ever.
 use Prim.Native.Nat.{ℕ, suc, _-_, _≤_, _<_, min}
 use mathlib.Core.Path.{_≡_}
@@ -9,8 +9,8 @@ use lib.ListN.{length}
 use lib.IntN.{ℤ}
 use lib.Signed.{_≤ℤ_, _<ℤ_}
 use Rattle.number.specs.Axis.{whole}
-use Rattle.recording.specs.Reading.{Reading, value, falls, rises}
-use Rattle.grammar.specs.Syntax.{Field, of, T, Relation, ge, le, gt, lt, eq, Operand, v, number, Atom, compare, A-to-B, fall, rise, Text, atom, listed, or, and, neg, finally, globally, next, until, weakUntil}
+use Rattle.recording.specs.Reading.{Reading, value, falls, rises, adds}
+use Rattle.grammar.specs.Syntax.{Field, of, T, Relation, ge, le, gt, lt, eq, Operand, v, number, Atom, compare, A-to-B, fall, rise, pigment, Text, atom, listed, or, and, neg, finally, globally, next, until, weakUntil}
 use Rattle.meaning.specs.Listed.{recordAt, timeOf, Says}
 
 -- the index of the last record
@@ -45,6 +45,7 @@ AtomSays (compare f ρ o) x z = Relates ρ (field f x) (operand o z)
 AtomSays (A-to-B ρ) x z = Relates ρ (x .a) (x .b)
 AtomSays (fall c) x z = So (falls c x)
 AtomSays (rise c) x z = So (rises c x)
+AtomSays (pigment k) x z = So (adds k x)
 
 -- F: some record from i on
 abbrev pub Finally : (ℕ → Type 0) → ℕ → Type 0

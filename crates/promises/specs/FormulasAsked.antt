@@ -1,4 +1,4 @@
--- Document 01, "Listed questions", and Paper 1: asked alone, each of the eight questions that have a formula equals it, asked alone, in set and in refusal 8.
+-- Document 01, "Listed questions", and Papers 1 and 3: asked alone, each of the nine questions that have a formula equals it, asked alone, in set and in refusal 8.
 -- Here of the calls. The formulas are those of `Formula`; that the calls agree is `formulas-asked` (laws/FormulasAsked).
 use Prim.Native.Nat.{ℕ}
 use Prim.Native.String.{String}
@@ -42,7 +42,7 @@ infix 70 _equals_
 abbrev pub _equals_ : String → String → NamedFormula
 n equals f = record { name = n; formula = f }
 
--- THE EIGHT AS THE DOCUMENTS WRITE THEM, c being A and k being 40
+-- THE NINE AS THE DOCUMENTS WRITE THEM, c being A, an after-time 40 and a pigment 3
 abbrev pub writtenFormulas : List NamedFormula
 writtenFormulas =
     "high(A)" equals "F(A>=v)"
@@ -53,6 +53,7 @@ writtenFormulas =
     ∷ "cross" equals "F(A>B&X(A<=B&T=v))"
     ∷ "dips(A)" equals "F(!rise(A)&X(rise(A)&T=v))"
     ∷ "crossup" equals "F(A<=B&X(A>B&T=v))"
+    ∷ "dose(3)" equals "F(P=3&T=v)"
     ∷ []
 
 -- the two texts read as a question and as its formula, and none of 5, 6 and 7 refuses either

@@ -4,4 +4,5 @@ pub mod Recording
 pub mod Output
 pub mod R1
 pub mod R2
+pub mod R3
 pub mod laws

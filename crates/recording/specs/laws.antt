@@ -2,3 +2,4 @@ pub mod Value
 pub mod Record
 pub mod Acceptance
 pub mod Outcome
+pub mod Pigment

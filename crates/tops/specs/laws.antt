@@ -1,4 +1,5 @@
-pub mod Edge
 pub mod Scan
+pub mod Edge
 pub mod Pick
 pub mod Event
+pub mod Addition

@@ -4,7 +4,7 @@ ghost use mathlib.Core.List.{[], _∷_, _++_};
 ghost use Prim.Native.Nat.{_+_, _≤_, _<_};
 ghost use lib.ListN.{length};
 ghost use Rattle.grammar.specs.Bytes.{bytes};
-ghost use Rattle.grammar.specs.inner.Lexer.{byte, word, spelledAt, firstOf, curves, relations, fields, levelNames, topNames, differenceNames, openings, heads};
+ghost use Rattle.grammar.specs.inner.Lexer.{byte, word, spelledAt, firstOf, curves, relations, fields, levelNames, topNames, differenceNames, pigmentNames, openings, heads};
 use grammar::Class;
 use grammar::Found;
 use grammar::classes;
@@ -157,6 +157,20 @@ fn difference_name(text: &[u8], at: usize) -> Found
     Found::Missing
 }
 
+// The kind of the leaf that a word with the number of a pigment begins.
+fn pigment_name(text: &[u8], at: usize) -> Found
+    requires { ⌜ at ≤ length (now text) ⌝ }
+    ensures { λ r. ⌜ r ≡ firstOf pigmentNames (now (text .entry)) at ⌝ }
+{
+    if spelled(text, at, b"P=") {
+        return Found::At(kinds::PIGMENT, at + 2);
+    }
+    if spelled(text, at, b"dose(") {
+        return Found::At(kinds::DOSE, at + 5);
+    }
+    Found::Missing
+}
+
 // The kind of the node that an opening begins, or that of a bracket, which is no node.
 fn opening(text: &[u8], at: usize) -> Found
     requires { ⌜ at ≤ length (now text) ⌝ }
@@ -183,21 +197,32 @@ fn opening(text: &[u8], at: usize) -> Found
     Found::Missing
 }
 
+// What a primary text begins with behind all names that have no number of a pigment.
+fn pigment_or_opening(text: &[u8], at: usize) -> Found
+    requires { ⌜ at ≤ length (now text) ⌝ }
+    ensures { λ r. ⌜ r ≡ firstOf (pigmentNames ++ openings) (now (text .entry)) at ⌝ }
+{
+    match pigment_name(text, at) {
+        Found::At(k, e) => Found::At(k, e),
+        Found::Missing => opening(text, at),
+    }
+}
+
 // What a primary text begins with behind the names of slopes, levels, tops, dips and crossings.
 fn difference_or_opening(text: &[u8], at: usize) -> Found
     requires { ⌜ at ≤ length (now text) ⌝ }
-    ensures { λ r. ⌜ r ≡ firstOf (differenceNames ++ openings) (now (text .entry)) at ⌝ }
+    ensures { λ r. ⌜ r ≡ firstOf (differenceNames ++ (pigmentNames ++ openings)) (now (text .entry)) at ⌝ }
 {
     match difference_name(text, at) {
         Found::At(k, e) => Found::At(k, e),
-        Found::Missing => opening(text, at),
+        Found::Missing => pigment_or_opening(text, at),
     }
 }
 
 // What a primary text begins with that does not begin with a field.
 fn name_or_opening(text: &[u8], at: usize) -> Found
     requires { ⌜ at ≤ length (now text) ⌝ }
-    ensures { λ r. ⌜ r ≡ firstOf (levelNames ++ (topNames ++ (differenceNames ++ openings))) (now (text .entry)) at ⌝ }
+    ensures { λ r. ⌜ r ≡ firstOf (levelNames ++ (topNames ++ (differenceNames ++ (pigmentNames ++ openings)))) (now (text .entry)) at ⌝ }
 {
     match level_name(text, at) {
         Found::At(k, e) => Found::At(k, e),

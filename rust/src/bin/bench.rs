@@ -11,8 +11,10 @@ fn main() {
     println!("{:<52} {:>14} {:>12} {:>12} {:>7} {:>5}", "", "outcome", "library us", "plain us", "ratio", "aim");
     thinning();
     thinning_of_all_events();
+    thinning_of_additions();
     thinning_of_fewer();
     listed();
+    doses();
     temporal();
     degrees();
     pairs();
@@ -43,6 +45,15 @@ fn thinning_of_all_events() {
     }
 }
 
+/// Sparse and dense pigments, and a pigment at every reading.
+fn thinning_of_additions() {
+    for additions in [64, 2_048, RECORDS] {
+        let recording = bytes(&with_additions(additions));
+        let name = format!("thin, 64 tops, {additions} additions, 0 marks");
+        writing(&name, 1.2, |out| mill::thin_into(&recording, &[], out), |out| plain::thin(&recording, &[], out));
+    }
+}
+
 /// The cost grows with the records: a quarter and half of them.
 fn thinning_of_fewer() {
     for records in [RECORDS / 4, RECORDS / 2] {
@@ -68,6 +79,12 @@ fn listed() {
     question("lag, 256 tops evenly", 1.0, &with_tops(&many, &many), "lag");
     question("lag, 256 tops, dense and often the same", 1.0, &with_tops(&by(2), &by(3)), "lag");
     question("lag, 256 tops, dense and far", 1.0, &with_tops(&by(2), &by(15)), "lag");
+}
+
+fn doses() {
+    for additions in [0, 64, 256, RECORDS] {
+        question(&format!("dose(1), {additions} additions"), 1.2, &with_additions(additions), "dose(1)");
+    }
 }
 
 fn temporal() {
@@ -207,8 +224,18 @@ fn with_tops(of_a: &[usize], of_b: &[usize]) -> Vec<Reading> {
         b: 600_000 + wave(index, 700),
         slope_a: slope(of_a, index),
         slope_b: slope(of_b, index),
+        pigment: 0,
     };
     (0..RECORDS).map(reading).collect()
+}
+
+/// 64 tops of A, and so many additions of pigment 1, evenly spaced.
+fn with_additions(additions: usize) -> Vec<Reading> {
+    let mut readings = with_tops(&evenly(64, RECORDS), &[]);
+    for addition in 0..additions {
+        readings[addition * RECORDS / additions].pigment = 1;
+    }
+    readings
 }
 
 fn bytes(readings: &[Reading]) -> Vec<u8> {

@@ -1,7 +1,7 @@
 //! The sets of a text's nodes at the records, from the definitions of the operators and not by steps from record to record.
 
 use super::meaning;
-use super::recording::{crossing_times, dip_times, top_times, upward_crossing_times, Record, FALLING, RISING};
+use super::recording::{crossing_times, dip_times, dose_times, top_times, upward_crossing_times, Record, FALLING, RISING};
 use super::set::{Set, HIGH, LOW};
 use super::text::{Left, Node, Relation, Right};
 use super::MOST_RUNS;
@@ -51,6 +51,7 @@ fn column(records: &[Record], judged: usize, node: &Node, how: Quantify) -> Resu
         }
         Node::Fall(curve) => records[..judged].iter().map(|record| Set::if_true(record.slope[*curve] == FALLING)).collect(),
         Node::Rise(curve) => records[..judged].iter().map(|record| Set::if_true(record.slope[*curve] == RISING)).collect(),
+        Node::Pigment(k) => records[..judged].iter().map(|record| Set::if_true(record.pigment == *k)).collect(),
         listed => vec![listed_set(listed, records); judged],
     };
     if sets.iter().any(|set| set.runs().len() > MOST_RUNS) {
@@ -170,6 +171,7 @@ fn listed_set(listed: &Node, records: &[Record]) -> Set {
         Node::Dips(curve) => Set::of_numbers(dip_times(records, *curve)),
         Node::Cross => Set::of_numbers(crossing_times(records)),
         Node::Crossup => Set::of_numbers(upward_crossing_times(records)),
+        Node::Dose(k) => Set::of_numbers(dose_times(records, *k)),
         Node::Ampl(curve) => {
             let values = || records.iter().map(|record| record.value[*curve]);
             Set::of(vec![(LOW, values().max().unwrap() - values().min().unwrap())])

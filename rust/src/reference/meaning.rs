@@ -18,6 +18,7 @@ pub fn holds(node: &Node, records: &[Record], i: usize, v: i64) -> bool {
         Node::Compare(left, relation, right) => compare(&records[i], *left, *relation, *right, v),
         Node::Fall(curve) => records[i].slope[*curve] == FALLING,
         Node::Rise(curve) => records[i].slope[*curve] == RISING,
+        Node::Pigment(k) => records[i].pigment == *k,
         listed => answers(listed, records, v),
     }
 }
@@ -60,6 +61,7 @@ fn answers(listed: &Node, records: &[Record], v: i64) -> bool {
         Node::Dips(curve) => dip_times(records, *curve).contains(&v),
         Node::Cross => crossing_times(records).contains(&v),
         Node::Crossup => upward_crossing_times(records).contains(&v),
+        Node::Dose(k) => records.iter().any(|record| record.pigment == *k && record.time == v),
         // The least w that serves a record is its own value.
         Node::Ampl(curve) => {
             records.iter().map(|record| record.value[*curve]).any(|w| records.iter().any(|record| record.value[*curve] >= w + v))

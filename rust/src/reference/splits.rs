@@ -1,6 +1,7 @@
 //! The grammar once more, as a list of ways to split a text: every way is tried, and every reading found is given. It takes
 //! exponential time, so it is for short texts.
 
+use super::recording::MOST_PIGMENT;
 use super::set::{HIGH, LOW};
 use super::text::{Left, Node, OfOne, OfTwo, Relation, Right};
 
@@ -88,6 +89,9 @@ fn atom(text: &str) -> Vec<Node> {
         found.extend((text == format!("fall({letter})")).then_some(Node::Fall(curve)));
         found.extend((text == format!("rise({letter})")).then_some(Node::Rise(curve)));
     }
+    for k in 1..=MOST_PIGMENT {
+        found.extend((text == format!("P={k}")).then_some(Node::Pigment(k)));
+    }
     found
 }
 
@@ -116,6 +120,9 @@ fn listed(text: &str) -> Vec<Node> {
     found.extend((text == "cross").then_some(Node::Cross));
     found.extend((text == "crossup").then_some(Node::Crossup));
     found.extend((text == "lag").then_some(Node::Lag));
+    for k in 1..=MOST_PIGMENT {
+        found.extend((text == format!("dose({k})")).then_some(Node::Dose(k)));
+    }
     found
 }
 

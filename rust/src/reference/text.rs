@@ -1,5 +1,6 @@
 //! Question texts: their tree, and a reader from left to right.
 
+use super::recording::MOST_PIGMENT;
 use super::set::{HIGH, LOW};
 use super::Refused;
 
@@ -44,6 +45,8 @@ pub enum Node {
     Compare(Left, Relation, Right),
     Fall(usize),
     Rise(usize),
+    /// `P=k`
+    Pigment(u8),
     High(usize),
     Low(usize),
     LowAfter(usize, i64),
@@ -52,6 +55,7 @@ pub enum Node {
     Dips(usize),
     Cross,
     Crossup,
+    Dose(u8),
     Ampl(usize),
     Gaps(usize),
     Steps(usize),
@@ -100,6 +104,7 @@ impl Node {
                 | Node::Dips(_)
                 | Node::Cross
                 | Node::Crossup
+                | Node::Dose(_)
                 | Node::Ampl(_)
                 | Node::Gaps(_)
                 | Node::Steps(_)
@@ -207,7 +212,7 @@ impl Reader<'_> {
         self.named()
     }
 
-    /// `fall`, `rise`, the listed questions; else a relation.
+    /// `fall`, `rise`, `P=k`, the listed questions; else a relation.
     fn named(&mut self) -> Option<Node> {
         let of_curve: [(&str, OfCurve); 9] = [
             ("fall(", Node::Fall),
@@ -234,6 +239,12 @@ impl Reader<'_> {
                     Some(make(curve, reader.number()?))
                 });
             }
+        }
+        if self.take("dose(").is_some() {
+            return self.closed(|reader| Some(Node::Dose(reader.pigment()?)));
+        }
+        if self.take("P=").is_some() {
+            return Some(Node::Pigment(self.pigment()?));
         }
         // Before `cross`, which begins it.
         if self.take("crossup").is_some() {
@@ -286,6 +297,12 @@ impl Reader<'_> {
         let size = digits.iter().fold(0, |size, digit| size * 10 + i64::from(digit - b'0'));
         let number = if minus { -size } else { size };
         (LOW..=HIGH).contains(&number).then_some(number)
+    }
+
+    /// A number that is a pigment's.
+    fn pigment(&mut self) -> Option<u8> {
+        let number = self.number()?;
+        (1..=i64::from(MOST_PIGMENT)).contains(&number).then_some(number as u8)
     }
 
     /// What `read` reads, with its closing bracket.

@@ -5,6 +5,7 @@ use crate::calls::{degree, pair, question, thin, Tally};
 use crate::support::cases::{begin, cases};
 use crate::support::r1::r1_bytes;
 use crate::support::r2::r2_bytes;
+use crate::support::r3::r3_bytes;
 use crate::support::recordings::{self, damaged, with_tops_at};
 use mill::reference::recording::{bytes, Record};
 use mill::sys::MILL_SET_BYTES;
@@ -12,6 +13,7 @@ use mill::sys::MILL_SET_BYTES;
 /// All calls; the number of the pair call's outcome.
 fn all_calls(recording: &[u8]) -> u32 {
     question(recording, b"peaks(A)|dips(A)", MILL_SET_BYTES);
+    question(recording, b"dose(3)|dose(16)&P=3", MILL_SET_BYTES);
     degree(recording, b"high(B)", 7);
     thin(recording, &[40, 0, 0, 0], 65_536);
     pair(recording, 0, 40)
@@ -20,7 +22,7 @@ fn all_calls(recording: &[u8]) -> u32 {
 #[test]
 fn every_bit_flipped() {
     let mut tally = Tally::default();
-    for whole in [r1_bytes(), r2_bytes()] {
+    for whole in [r1_bytes(), r2_bytes(), r3_bytes()] {
         for bit in 0..8 * whole.len() {
             begin("every bit flipped", bit as u64);
             let mut recording = whole.clone();
@@ -62,7 +64,7 @@ fn every_length() {
 
 #[test]
 fn every_byte_of_a_record() {
-    for whole in [r1_bytes(), r2_bytes()] {
+    for whole in [r1_bytes(), r2_bytes(), r3_bytes()] {
         for index in [0, 3, 7] {
             for at in 0..16 {
                 for byte in 0..=255 {
@@ -71,6 +73,8 @@ fn every_byte_of_a_record() {
                     recording[16 * index + at] = byte;
                     question(&recording, b"cross", MILL_SET_BYTES);
                     question(&recording, b"crossup|dips(A)", MILL_SET_BYTES);
+                    question(&recording, b"dose(3)|F(P=16)", MILL_SET_BYTES);
+                    question(&recording, b"F(P=3&A=v|P=16&T=v)", MILL_SET_BYTES);
                     pair(&recording, 0, 40);
                     thin(&recording, &[], 65_536);
                 }
@@ -81,7 +85,7 @@ fn every_byte_of_a_record() {
 
 #[test]
 fn fields_at_their_limits() {
-    let good = Record { time: 5, value: [0, 0], slope: [1, 1] };
+    let good = Record { time: 5, value: [0, 0], slope: [1, 1], pigment: 0 };
     let last = Record { time: 2_000_000_000, ..good };
     let with = |change: &dyn Fn(&mut Record)| {
         let mut middle = Record { time: 6, ..good };
@@ -109,6 +113,11 @@ fn fields_at_their_limits() {
         (3, with(&|record| record.slope = [3, 0])),
         (3, with(&|record| record.slope = [0, 3])),
         (3, with(&|record| record.slope = [255, 0])),
+        (0, with(&|record| record.pigment = 1)),
+        (0, with(&|record| record.pigment = 16)),
+        (3, with(&|record| record.pigment = 17)),
+        (3, with(&|record| record.pigment = 128)),
+        (3, with(&|record| record.pigment = 255)),
     ]
     .into_iter()
     .enumerate()
@@ -126,6 +135,29 @@ fn fields_at_their_limits() {
     assert_eq!(all_calls(&recording), 3);
     recording.push(0);
     assert_eq!(all_calls(&recording), 1);
+}
+
+/// Byte 14 is 0 to 16 and byte 15 is 0, in every record; the place is that record's.
+#[test]
+fn every_pigment_and_every_last_byte() {
+    for whole in [r1_bytes(), r3_bytes()] {
+        for index in 0..8u32 {
+            for byte in 0..=255u8 {
+                begin("every pigment and every last byte", byte.into());
+                let changed = |at: usize| {
+                    let mut recording = whole.clone();
+                    recording[16 * index as usize + at] = byte;
+                    recording
+                };
+                let refused = |most: u8| if byte <= most { None } else { Some(mill::Refusal::BadRecord { index }) };
+                for (recording, most) in [(changed(14), 16), (changed(15), 0)] {
+                    all_calls(&recording);
+                    assert_eq!(mill::thin(&recording, &[]).err(), refused(most), "{byte}");
+                    assert_eq!(mill::question(&recording, b"high(A)").err(), refused(most), "{byte}");
+                }
+            }
+        }
+    }
 }
 
 #[test]

@@ -31,7 +31,7 @@ fn random_degrees() {
 
 /// A recording whose only time is the last there is, so that `T=v` is every distance up to 4,000,000,000 from some target.
 fn last_time() -> Vec<u8> {
-    bytes(&[Record { time: HIGH, value: [0, 0], slope: [1, 1] }])
+    bytes(&[Record { time: HIGH, value: [0, 0], slope: [1, 1], pigment: 0 }])
 }
 
 #[test]
@@ -94,10 +94,10 @@ fn degrees_bit_by_bit() {
 #[test]
 fn ends_of_every_range() {
     let ends = bytes(&[
-        Record { time: 0, value: [-MOST_VALUE, MOST_VALUE], slope: [2, 0] },
-        Record { time: 1, value: [MOST_VALUE, -MOST_VALUE], slope: [0, 2] },
-        Record { time: MOST_TIME - 1, value: [0, 0], slope: [2, 2] },
-        Record { time: MOST_TIME, value: [-MOST_VALUE, MOST_VALUE], slope: [0, 0] },
+        Record { time: 0, value: [-MOST_VALUE, MOST_VALUE], slope: [2, 0], pigment: 16 },
+        Record { time: 1, value: [MOST_VALUE, -MOST_VALUE], slope: [0, 2], pigment: 0 },
+        Record { time: MOST_TIME - 1, value: [0, 0], slope: [2, 2], pigment: 0 },
+        Record { time: MOST_TIME, value: [-MOST_VALUE, MOST_VALUE], slope: [0, 0], pigment: 16 },
     ]);
     let texts = [
         "A=v",
@@ -120,6 +120,11 @@ fn ends_of_every_range() {
         "lag",
         "cross",
         "crossup",
+        "dose(16)",
+        "!dose(16)",
+        "dose(1)",
+        "F(P=16&T=v)",
+        "P=16",
         "lowafter(A,1999999999)",
         "capafter(B,0)",
         "lowafter(B,2000000000)",

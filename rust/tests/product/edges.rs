@@ -4,8 +4,9 @@
 use crate::calls::{degree, question, thin};
 use crate::support::cases::begin;
 use crate::support::r1::{r1_bytes, RIGHT_AFTER};
-use crate::support::r2::{r2_bytes, LOST};
-use crate::support::recordings::{flat, with_crossings, with_dips, with_tops, with_tops_at, with_values};
+use crate::support::r2::{self, r2_bytes};
+use crate::support::r3::{self, r3_bytes};
+use crate::support::recordings::{flat, with_additions, with_crossings, with_dips, with_tops, with_tops_at, with_values};
 use mill::reference::recording::{bytes, Record, FALLING, FLAT, RISING};
 use mill::reference::set::{HIGH, LOW};
 use mill::Run;
@@ -40,11 +41,14 @@ fn r1_keeps_what_comes_right_after() {
 
 #[test]
 fn what_is_not_kept_is_lost() {
-    assert_eq!(thin(&r2_bytes(), &[], 96), 0);
-    let kept = mill::thin(&r2_bytes(), &[]).unwrap();
-    for (text, on_full, on_kept) in LOST {
-        assert_eq!(runs(&r2_bytes(), text), on_full, "{text}");
-        assert_eq!(runs(&kept, text), on_kept, "{text}");
+    for (recording, length, lost) in [(r2_bytes(), 96, &r2::LOST[..]), (r3_bytes(), 128, &r3::LOST)] {
+        assert_eq!(thin(&recording, &[], length), 0);
+        assert_eq!(thin(&recording, &[], length - 1), 10);
+        let kept = mill::thin(&recording, &[]).unwrap();
+        for (text, on_full, on_kept) in lost {
+            assert_eq!(runs(&recording, text), *on_full, "{text}");
+            assert_eq!(runs(&kept, text), *on_kept, "{text}");
+        }
     }
 }
 
@@ -112,6 +116,124 @@ fn two_hundred_and_fifty_six_crossings_and_one_more() {
     }
     assert_eq!(refused(&crossings(256), "!crossup"), 8);
     assert_eq!(runs(&crossings(255), "!crossup").len(), 256);
+}
+
+/// Additions lie apart here; 9 is not for them.
+#[test]
+fn two_hundred_and_fifty_six_additions_and_one_more() {
+    for k in [1, 9, 10, 16] {
+        let additions = |count: usize| bytes(&with_additions(4096, count, k));
+        let every: Vec<(i64, i64)> = (0..256).map(|i| 16 * i).map(|time| (time, time)).collect();
+        for text in [format!("dose({k})"), format!("F(P={k}&T=v)")] {
+            assert_eq!(runs(&additions(256), &text), every);
+            assert_eq!(question(&additions(256), text.as_bytes(), 2048), 0);
+            assert_eq!(question(&additions(256), text.as_bytes(), 2047), 10);
+            for count in [257, 1_000, 2_048] {
+                assert_eq!(refused(&additions(count), &text), 8, "{count}");
+            }
+            assert_eq!(question(&additions(257), text.as_bytes(), 0), 8);
+            assert_eq!(degree(&additions(256), text.as_bytes(), 9), 0);
+            assert_eq!(degree(&additions(257), text.as_bytes(), 9), 8);
+            // All records: neighbours join.
+            assert_eq!(runs(&additions(4096), &text), [(0, 4095)]);
+            assert_eq!(degree(&additions(4096), text.as_bytes(), 5_000), 0);
+            assert_eq!(runs(&additions(0), &text), []);
+        }
+        assert_eq!(refused(&additions(256), &format!("!dose({k})")), 8);
+        assert_eq!(runs(&additions(255), &format!("!dose({k})")).len(), 256);
+        // Another pigment was never added.
+        for other in (1..=16).filter(|other| *other != k) {
+            assert_eq!(runs(&additions(257), &format!("dose({other})")), []);
+        }
+    }
+}
+
+/// Every second record has one pigment and the others have another: apart each, together one run.
+#[test]
+fn additions_join_before_runs_are_counted() {
+    let two = |count: usize| {
+        let mut records = flat(count);
+        records.iter_mut().enumerate().for_each(|(index, record)| record.pigment = [1, 2][index % 2]);
+        bytes(&records)
+    };
+    assert_eq!(runs(&two(512), "dose(1)").len(), 256);
+    assert_eq!(runs(&two(512), "dose(1)|dose(2)"), [(0, 511)]);
+    assert_eq!(runs(&two(512), "dose(1)&dose(2)"), []);
+    assert_eq!(runs(&two(512), "F((P=1|P=2)&T=v)"), [(0, 511)]);
+    assert_eq!(refused(&two(513), "dose(1)|dose(2)"), 8);
+    assert_eq!(runs(&two(513), "dose(2)").len(), 256);
+    assert_eq!(refused(&two(514), "dose(2)"), 8);
+    assert_eq!(runs(&two(4096), "F((P=1|P=2)&T=v)"), [(0, 4095)]);
+    // Runs of three neighbours, then one record without: 300 of them are 8 though they hold 900 times.
+    let threes = |count: usize| {
+        let mut records = flat(4 * count);
+        records.iter_mut().enumerate().for_each(|(index, record)| record.pigment = [7, 7, 7, 0][index % 4]);
+        bytes(&records)
+    };
+    let every: Vec<(i64, i64)> = (0..256).map(|i| (4 * i, 4 * i + 2)).collect();
+    assert_eq!(runs(&threes(256), "dose(7)"), every);
+    assert_eq!(runs(&threes(256), "F(P=7&T=v)"), every);
+    assert_eq!(refused(&threes(257), "dose(7)"), 8);
+    assert_eq!(refused(&threes(300), "F(P=7&T=v)"), 8);
+}
+
+#[test]
+fn an_addition_at_the_first_and_at_the_last_record() {
+    for (text, formula) in [("dose(5)", "F(P=5&T=v)"), ("dose(5)|dose(6)", "F(P=5&T=v)|F(P=6&T=v)")] {
+        let mut records = flat(1);
+        records[0].pigment = 5;
+        records[0].time = HIGH;
+        assert_eq!(runs(&bytes(&records), text), [(HIGH, HIGH)]);
+        assert_eq!(runs(&bytes(&records), formula), [(HIGH, HIGH)]);
+        let mut records = flat(9);
+        records[0].pigment = 5;
+        assert_eq!(runs(&bytes(&records), text), [(0, 0)]);
+        records[8].pigment = 5;
+        assert_eq!(runs(&bytes(&records), text), [(0, 0), (8, 8)]);
+        assert_eq!(runs(&bytes(&records), formula), [(0, 0), (8, 8)]);
+        records[0].pigment = 0;
+        assert_eq!(runs(&bytes(&records), text), [(8, 8)]);
+    }
+}
+
+/// `P=k` is an atom: it is judged at a record, goes with F, G, X, U and W, and is no other field.
+#[test]
+fn the_atom_of_a_pigment() {
+    let r3 = r3_bytes();
+    for (text, expected) in r3::ANSWERS {
+        assert_eq!(runs(&r3, text), expected, "{text}");
+    }
+    assert_eq!(runs(&r3, "X(X(P=3&T=v))"), [(20, 20)]);
+    assert_eq!(runs(&r3, "U(!P=16,P=16&T=v)"), [(70, 70)]);
+    assert_eq!(runs(&r3, "W(P=3,T=v)"), [(0, 0), (10, 10)]);
+    assert_eq!(runs(&r3, "G(!P=1)"), [(LOW, HIGH)]);
+    assert_eq!(runs(&r3, "F(P=3&rise(A)&T=v)"), [(0, 0)]);
+    assert_eq!(runs(&r3, "P=3&high(A)"), [(LOW, 10)]);
+    // A of 3, T of 3 and a slope of 2 are no pigments.
+    let records = [Record { time: 3, value: [3, 3], slope: [RISING, RISING], pigment: 1 }];
+    for k in 1..=16 {
+        assert_eq!(runs(&bytes(&records), &format!("dose({k})")), if k == 1 { vec![(3, 3)] } else { vec![] });
+        assert_eq!(runs(&bytes(&records), &format!("P={k}")), if k == 1 { vec![(LOW, HIGH)] } else { vec![] });
+    }
+    let unread = ["P=0", "P=17", "P=01", "P=v", "P=-1", "P>=1", "P>0", "P<=16", "P=B", "A=P", "P", "P=", "P=1P=1", "p=1"];
+    let doses = ["dose(0)", "dose(17)", "dose(01)", "dose(017)", "dose(v)", "dose(A)", "dose()", "dose", "dose(1", "doses(1)"];
+    for text in unread.iter().chain(&doses).chain(&["F(dose(1))", "dose(1)|X(P=1)", "dose(1)&dose(17)", "dose(4294967297)"]) {
+        assert_eq!(refused(&r3, text), 6, "{text}");
+        assert_eq!(degree(&r3, text.as_bytes(), 0), 6, "{text}");
+    }
+}
+
+/// Recordings of before Paper 3 read as they did: nothing is added, and their lines stay.
+#[test]
+fn recordings_without_pigments() {
+    for recording in [r1_bytes(), r2_bytes(), bytes(&with_tops(4096, [256, 256]))] {
+        for k in 1..=16 {
+            assert_eq!(runs(&recording, &format!("dose({k})")), []);
+            assert_eq!(runs(&recording, &format!("F(P={k}&T=v)")), []);
+        }
+        assert_eq!(runs(&recording, "P=1"), []);
+        assert_eq!(runs(&recording, "!P=1"), [(LOW, HIGH)]);
+    }
 }
 
 #[test]
@@ -350,8 +472,8 @@ fn many_differences_that_join() {
 #[test]
 fn axis_ends() {
     let ends = bytes(&[
-        Record { time: 0, value: [-1_000_000_000, 1_000_000_000], slope: [RISING, RISING] },
-        Record { time: 2_000_000_000, value: [1_000_000_000, -1_000_000_000], slope: [FALLING, FALLING] },
+        Record { time: 0, value: [-1_000_000_000, 1_000_000_000], slope: [RISING, RISING], pigment: 0 },
+        Record { time: 2_000_000_000, value: [1_000_000_000, -1_000_000_000], slope: [FALLING, FALLING], pigment: 0 },
     ]);
     assert_eq!(runs(&ends, "ampl(A)"), [(LOW, HIGH)]);
     assert_eq!(runs(&ends, "ampl(B)"), [(LOW, HIGH)]);
@@ -400,7 +522,12 @@ fn the_last_record_repeats() {
 #[test]
 fn tops_by_the_recorded_slopes() {
     let slopes = |slopes: &[u8]| {
-        let record = |(time, slope): (usize, &u8)| Record { time: time as i64, value: [time as i64, 0], slope: [*slope, FLAT] };
+        let record = |(time, slope): (usize, &u8)| Record {
+            time: time as i64,
+            value: [time as i64, 0],
+            slope: [*slope, FLAT],
+            pigment: 0,
+        };
         bytes(&slopes.iter().enumerate().map(record).collect::<Vec<_>>())
     };
     assert_eq!(runs(&slopes(&[FALLING, FALLING]), "peaks(A)"), []);

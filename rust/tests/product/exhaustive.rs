@@ -1,4 +1,5 @@
-//! Covers: every recording of up to three records over a small field set with all slopes; every pair of tops of nine records.
+//! Covers: every recording of up to three records over a small field set with all slopes; every way to add two pigments to six
+//! records; every pair of tops of nine records.
 
 use crate::calls::{degree, pair, question, thin};
 use crate::support::cases::begin;
@@ -10,7 +11,7 @@ fn every_record(values: &[[i64; 2]]) -> Vec<Record> {
     for value in values {
         for slope_a in 0..3 {
             for slope_b in 0..3 {
-                found.push(Record { time: 0, value: *value, slope: [slope_a, slope_b] });
+                found.push(Record { time: 0, value: *value, slope: [slope_a, slope_b], pigment: 0 });
             }
         }
     }
@@ -75,13 +76,43 @@ fn every_recording_of_three_records() {
 }
 
 #[test]
+fn every_way_to_add_pigments_to_six_records() {
+    let texts = [
+        "dose(1)",
+        "dose(16)",
+        "!dose(1)&dose(16)",
+        "F(P=1&T=v)",
+        "U(!P=16,P=1&T=v)",
+        "X(P=1|P=16&A=v)",
+        "G(P=1|T<=v)",
+        "P=1&A=v",
+    ];
+    for code in 0..3usize.pow(6) {
+        begin("every way to add pigments to six records", code as u64);
+        let pigment = |index: u32| [0, 1, 16][code / 3usize.pow(index) % 3];
+        let record = |index: u32| Record { time: 0, value: [5 - i64::from(index), 9], slope: [1, 1], pigment: pigment(index) };
+        let records: Vec<Record> = (0..6).map(record).collect();
+        for times in [[0, 1, 2, 3, 4, 5], [1, 2, 4, 5, 7, 9]] {
+            let recording = at_times(&records, &times);
+            for text in texts {
+                question(&recording, text.as_bytes(), 64);
+            }
+            degree(&recording, b"dose(1)", 3);
+            thin(&recording, &[], 96);
+            thin(&recording, &[2, 0, 0, 0], 96);
+        }
+    }
+}
+
+#[test]
 fn every_pair_of_tops_of_nine_records() {
     for code in 0..1 << 9 {
         begin("every pair of tops of nine records", code);
         let falls = |index: u32| (code >> index & 1) as u8;
         // A falls where the code says, B where it does not.
         let slope = |index: u32| [2 - 2 * falls(index), falls(index)];
-        let records: Vec<Record> = (0..9).map(|index| Record { time: 0, value: [0, 0], slope: slope(index) }).collect();
+        let records: Vec<Record> =
+            (0..9).map(|index| Record { time: 0, value: [0, 0], slope: slope(index), pigment: 0 }).collect();
         for times in [[0, 1, 2, 3, 4, 5, 6, 7, 8], [1, 2, 4, 5, 6, 8, 9, 10, 12]] {
             let recording = at_times(&records, &times);
             for target in -1..=12 {
@@ -97,7 +128,7 @@ fn every_thinning_of_four_flat_records() {
     let values: Vec<[i64; 2]> = (0..9).map(|value| [value / 3, value % 3]).collect();
     for code in 0..9usize.pow(4) {
         begin("every thinning of four flat records", code as u64);
-        let record = |index: u32| Record { time: 0, value: values[code / 9usize.pow(index) % 9], slope: [1, 1] };
+        let record = |index: u32| Record { time: 0, value: values[code / 9usize.pow(index) % 9], slope: [1, 1], pigment: 0 };
         let recording = at_times(&[record(0), record(1), record(2), record(3)], &[0, 2, 3, 5]);
         for mark in 0..=5 {
             thin(&recording, &[mark, 0, 0, 0], 64);

@@ -1,5 +1,5 @@
 //! Covers: what the library must do whatever the independent implementation says: plain questions answer alike on kept and on
-//! full readings, and each of the eight listed questions that stand for a formula is that formula, in set and in refusal 8.
+//! full readings, and each of the nine listed questions that stand for a formula is that formula, in set and in refusal 8.
 
 use crate::calls::{bytes_of, degree, pair, question, Tally};
 use crate::question::room;
@@ -18,7 +18,7 @@ fn plain_text(random: &mut Random, records: &[Record], marks: &[i64], size: usiz
     if size < 2 {
         let name = if marks.is_empty() { 0 } else { random.pick(marks) };
         return loop {
-            let text = if random.once_in(4) { texts::atom(random, records) } else { texts::listed(random, name) };
+            let text = if random.once_in(4) { texts::atom(random, records) } else { texts::listed(random, records, name) };
             if !marks.is_empty() || !text.contains("after") {
                 break text;
             }
@@ -90,7 +90,7 @@ fn promises(random: &mut Random, records: &[Record]) -> u64 {
 #[test]
 fn plain_questions_answer_alike_on_kept_readings() {
     let mut dropped = 0;
-    cases("kept as full", 12_000, |random| {
+    cases("kept as full", 15_000, |random| {
         let records = recordings::any(random);
         dropped += u64::from(promises(random, &records) > 0);
     });
@@ -102,6 +102,12 @@ fn plain_questions_answer_alike_on_kept_readings() {
     cases("kept as full, long", 40, |random| {
         let records = recordings::accepted(random, 4096);
         promises(random, &records);
+    });
+    // As many additions as readings: all are kept.
+    cases("kept as full, 4,096 additions", 8, |random| {
+        let mut records = recordings::accepted(random, 4096);
+        records.iter_mut().for_each(|record| record.pigment = random.between(1, 16) as u8);
+        assert_eq!(promises(random, &records), 0);
     });
 }
 
@@ -148,13 +154,13 @@ fn nothing_kept_of_nothing() {
 
 #[test]
 fn listed_questions_are_their_formulas() {
-    let mut tallies = [(); 8].map(|()| Tally::default());
+    let mut tallies = [(); 9].map(|()| Tally::default());
     cases("listed questions are their formulas", 4_000, |random| {
         let records = if random.once_in(8) { with_many_events(random) } else { recordings::any(random) };
         let recording = bytes(&records);
         let (curve, k, room) = (random.pick(&["A", "B"]), texts::number(random, &records), room(random));
-        for ((name, written), tally) in texts::eight(curve, k).into_iter().zip(&mut tallies) {
-            let formula = texts::formula(name, curve, k);
+        let pigment = texts::pigment(random, &records);
+        for ((written, formula), tally) in texts::nine(curve, k, pigment).into_iter().zip(&mut tallies) {
             let of_name = bytes_of(&recording, written.as_bytes(), room, mill_question);
             assert_eq!(of_name, bytes_of(&recording, formula.as_bytes(), room, mill_question), "{written} of {records:?}");
             tally.add(mill_number(of_name.0));
@@ -162,7 +168,7 @@ fn listed_questions_are_their_formulas() {
     });
     for (place, tally) in tallies.iter().enumerate() {
         tally.saw(&[0], 1_000);
-        // The last four are sets of single times: tops, dips, and crossings either way.
+        // The last five are sets of times: tops, dips, crossings either way, and additions.
         tally.saw(if place < 4 { &[] } else { &[8] }, 10);
     }
 }

@@ -3,7 +3,7 @@
 
 use crate::calls::{pair, thin};
 use crate::support::cases::begin;
-use crate::support::recordings::{flat, with_crossings, with_dips, with_tops, with_tops_at, with_values};
+use crate::support::recordings::{flat, with_additions, with_crossings, with_dips, with_tops, with_tops_at, with_values};
 use mill::reference::recording::{bytes, FALLING, FLAT, RISING};
 
 #[test]
@@ -51,6 +51,28 @@ fn four_thousand_and_ninety_six_records_and_one_more() {
 }
 
 #[test]
+fn four_thousand_and_ninety_six_additions() {
+    begin("four thousand and ninety-six additions", 0);
+    let all = bytes(&with_additions(4096, 4096, 16));
+    assert_eq!(thin(&all, &[], 65_536), 0);
+    assert_eq!(thin(&all, &[], 65_535), 10);
+    assert_eq!(mill::thin(&all, &[]), Ok(all.clone()));
+    assert_eq!(mill::thin(&all, &[7; 8]), Ok(all.clone()));
+    assert_eq!(pair(&all, 0, 1), 0);
+    // One more record is 2, with a bad pigment too.
+    assert_eq!(thin(&[&all[..], &[255; 16]].concat(), &[], 65_536), 2);
+    // The last record counts.
+    let mut bad = all;
+    bad[65_534] = 17;
+    assert_eq!(mill::thin(&bad, &[]), Err(mill::Refusal::BadRecord { index: 4095 }));
+    // The first, the last, and every sixteenth between.
+    let some = bytes(&with_additions(4096, 256, 1));
+    assert_eq!(thin(&some, &[], 257 * 16), 0);
+    assert_eq!(thin(&some, &[], 257 * 16 - 1), 10);
+    assert_eq!(mill::thin(&some, &[]).map(|kept| kept.len()), Ok(257 * 16));
+}
+
+#[test]
 fn pairs_at_the_axis_ends() {
     begin("pairs at the axis ends", 0);
     let apart = with_tops_at([&[1, 2_000_000_000], &[2, 1_999_999_999]]);
@@ -94,6 +116,26 @@ fn crossings_are_kept_with_the_record_before() {
     // Greatest first, least second; then from below to a tie, above at 4, at a tie again at 7, below.
     let recording = with_values(&[[9, 9], [0, 0], [5, 6], [5, 5], [6, 5], [7, 5], [6, 5], [5, 5], [5, 6], [5, 6]]);
     assert_eq!(kept_times(&recording), [0, 1, 3, 4, 6, 7, 9]);
+}
+
+#[test]
+fn additions_are_kept_without_the_record_before() {
+    for k in 1..=16 {
+        let mut records = flat(9);
+        (records[3].pigment, records[4].pigment, records[7].pigment) = (k, 17 - k, k);
+        assert_eq!(kept_times(&bytes(&records)), [0, 3, 4, 7, 8]);
+        // What is kept is unaltered.
+        let kept = mill::thin(&bytes(&records), &[]).unwrap();
+        assert_eq!(kept, bytes(&[records[0], records[3], records[4], records[7], records[8]]));
+        assert_eq!(
+            mill::question(&kept, format!("dose({k})").as_bytes()),
+            mill::question(&bytes(&records), format!("dose({k})").as_bytes())
+        );
+    }
+    // Beside an event, and an event whose record before has the pigment.
+    let mut records = flat(9);
+    (records[4].slope[0], records[3].pigment, records[5].pigment) = (FALLING, 2, 2);
+    assert_eq!(kept_times(&bytes(&records)), [0, 3, 4, 5, 8]);
 }
 
 #[test]

@@ -4,12 +4,13 @@
 //! An answer is `empty`; or runs in ascending order, parted by `, `, each a number or `low..high`, with `Lo` and `Hi` for the
 //! axis ends; or `refused` with number and place. ```` ```mill kept ```` asks R1's kept readings without marks,
 //! ```` ```mill kept 40 50 ```` those with these marks. ```` ```mill degree 51 ```` asks for degrees of this target: `met`,
-//! `distance d, degree g` or `no value`. ```` ```mill R2 ````, with any of these behind it, asks R2. Blank lines, and lines that
-//! begin with `#`, say nothing. A block ```` ```ask ```` holds lines `$ echo 'text' | ask`, each with what the program prints
-//! below it. Other fenced blocks are not looked at.
+//! `distance d, degree g` or `no value`. ```` ```mill R2 ```` and ```` ```mill R3 ````, with any of these behind it, ask R2 and R3.
+//! Blank lines, and lines that begin with `#`, say nothing. A block ```` ```ask ```` holds lines `$ echo 'text' | ask`, each with
+//! what the program prints below it. Other fenced blocks are not looked at.
 
 use crate::support::r1::{self, r1_bytes};
 use crate::support::r2::{self, r2_bytes};
+use crate::support::r3::{self, r3_bytes};
 use mill::{Degree, Refusal, Run};
 
 /// Of which recording.
@@ -17,6 +18,7 @@ use mill::{Degree, Refusal, Run};
 enum Recording {
     R1,
     R2,
+    R3,
 }
 
 /// How an example is asked, and its answer written.
@@ -88,6 +90,7 @@ fn block_of(name: &str) -> Result<Block, String> {
     let unread = |_| format!("numbers of '{name}'");
     let (recording, how) = match words[..] {
         ["mill", "R2", ref how @ ..] => (Recording::R2, how),
+        ["mill", "R3", ref how @ ..] => (Recording::R3, how),
         ["mill", ref how @ ..] => (Recording::R1, how),
         ["ask"] => return Ok(Block::Examples(Recording::R1, Asked::AtThePrompt)),
         _ => return Ok(Block::Other),
@@ -109,6 +112,7 @@ fn answer(example: &Example) -> String {
     let recording = match example.recording {
         Recording::R1 => r1_bytes(),
         Recording::R2 => r2_bytes(),
+        Recording::R3 => r3_bytes(),
     };
     let text = example.text.as_bytes();
     let written = match &example.asked {
@@ -181,6 +185,8 @@ fn the_page_answers_as_the_library() {
         "dips(",
         "cross",
         "crossup",
+        "dose(",
+        "P=",
         "ampl(",
         "gaps(",
         "steps(",
@@ -204,6 +210,12 @@ fn the_page_answers_as_the_library() {
     assert!(has(Recording::R1, false, r1::RIGHT_AFTER.0));
     for (text, ..) in r2::LOST {
         assert!(has(Recording::R2, true, text) && has(Recording::R2, false, text), "{path} has no two examples {text} of R2");
+    }
+    for (text, _) in r3::ANSWERS {
+        assert!(has(Recording::R3, true, text), "{path} has no example {text} of R3");
+    }
+    for (text, ..) in r3::LOST {
+        assert!(has(Recording::R3, true, text) && has(Recording::R3, false, text), "{path} has no two examples {text} of R3");
     }
     for name in names {
         assert!(examples.iter().any(|example| example.text.contains(name)), "{path} has no example with {name}");
@@ -250,6 +262,10 @@ peaks(A) => 30, 70
 ```mill R2 kept 10
 X(A=v) => 8
 ```
+```mill R3 kept
+dose(16) => 70
+dose(3) => 20, 60
+```
 ```ask
 $ echo 'peaks(A)' | ask
 runs 2
@@ -264,18 +280,19 @@ refused 6 0
 ```
 ";
     let found = examples(page).unwrap();
-    assert_eq!(found.len(), 19);
+    assert_eq!(found.len(), 21);
     let wrong = wrong(&found);
-    assert_eq!(wrong.len(), 5, "{wrong:?}");
+    assert_eq!(wrong.len(), 6, "{wrong:?}");
     assert_eq!(wrong[0], "line 7: A=v|A>90 => 40, and not refused 9 9");
     assert_eq!(wrong[1], "line 22: F(T=v&A=55) => 50, and not empty");
     assert_eq!(wrong[2], "line 26: peaks(A) => distance 19, degree 0.05, and not distance 19, degree 0.06");
     assert_eq!(wrong[3], "line 32: peaks(A) => 40, 60, and not 30, 70");
-    assert_eq!(wrong[4], "line 44: lag => runs 0\n, and not runs 1\n");
+    assert_eq!(wrong[4], "line 39: dose(3) => 0, 20, 60, and not 20, 60");
+    assert_eq!(wrong[5], "line 48: lag => runs 0\n, and not runs 1\n");
     assert!(examples("```mill\nlag\n```\n").is_err());
     assert!(examples("```mill\nlag => empty\n").is_err());
     assert!(examples("```mill keep\n```\n").is_err());
-    assert!(examples("```mill R3\n```\n").is_err());
+    assert!(examples("```mill R4\n```\n").is_err());
     assert!(examples("```mill kept R2\n```\n").is_err());
     assert!(examples("```mill kept x\n```\n").is_err());
     assert!(examples("```mill degree\n```\n").is_err());

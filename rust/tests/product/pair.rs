@@ -160,7 +160,7 @@ fn every_kind_of_curve_number() {
 #[test]
 fn kept_readings_give_the_same_pair() {
     let (mut dropped, mut several) = (0, 0);
-    cases("kept readings give the same pair", 12_000, |random| {
+    cases("kept readings give the same pair", 15_000, |random| {
         let records = match random.below(10) {
             0 => with_many_tops(random),
             1..=3 => with_tops_on_a_grid(random),

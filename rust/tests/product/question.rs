@@ -1,10 +1,10 @@
 //! Covers: the question call on random recordings and texts, read and unread, with outputs of any length; sets near the limit
-//! of 256 runs; many tops, dips and crossings; long recordings.
+//! of 256 runs; many tops, dips, crossings and additions; long recordings.
 
 use crate::calls::{question, Tally};
 use crate::support::cases::cases;
 use crate::support::random::Random;
-use crate::support::recordings::{self, put_top, with_many_events, with_many_tops};
+use crate::support::recordings::{self, put_top, with_additions, with_many_additions, with_many_events, with_many_tops};
 use crate::support::texts::{self, Kind};
 use mill::reference::recording::{bytes, Record, FLAT};
 use mill::sys::MILL_SET_BYTES;
@@ -126,6 +126,47 @@ fn many_events() {
     tally.saw(&[0, 8, 10], 300);
 }
 
+/// Doses and their atom, alone, joined, complemented and in formulas.
+#[test]
+fn many_additions() {
+    let mut tally = Tally::default();
+    cases("many additions", 9_000, |random| {
+        let records = with_many_additions(random);
+        let (k, other) = (texts::pigment(random, &records), texts::pigment(random, &records));
+        let text = match random.below(9) {
+            0 | 1 => format!("dose({k})"),
+            2 => format!("dose({k})|dose({other})"),
+            3 => format!("!(dose({k})&!dose({other}))"),
+            4 => format!("!dose({k})&T<v|P={other}"),
+            5 => format!("F(P={k}&T=v)"),
+            6 => format!("F(P={k}&A=v|P={other}&T=v)"),
+            7 => format!("U(!P={k},P={other}&T=v)|F(P={k}&X(T=v))"),
+            _ => format!("dose({k})&peaks(A)|cross&dose({other})"),
+        };
+        let room = room(random);
+        tally.add(question(&bytes(&records), text.as_bytes(), room));
+    });
+    tally.saw(&[0, 8, 10], 300);
+}
+
+/// 4,096 additions, of one kind or of several.
+#[test]
+fn four_thousand_and_ninety_six_additions() {
+    let mut tally = Tally::default();
+    cases("four thousand and ninety-six additions", 60, |random| {
+        let mut records = with_additions(4096, 4096, 1 + random.below(16) as u8);
+        let others = random.pick(&[0, 0, 100, 255, 256, 300, 4096]);
+        for _ in 0..others {
+            records[random.below(4096)].pigment = 1 + random.below(16) as u8;
+        }
+        let (k, other) = (texts::pigment(random, &records), texts::pigment(random, &records));
+        for text in [format!("dose({k})"), format!("dose({k})|dose({other})"), format!("F(P={k}&T=v)")] {
+            tally.add(question(&bytes(&records), text.as_bytes(), MILL_SET_BYTES));
+        }
+    });
+    tally.saw(&[0, 8], 20);
+}
+
 /// Chains of `|` and `&` over sets of about 180 runs: which two are put together first decides whether 8 is due.
 #[test]
 fn chains_near_the_limit() {
@@ -147,6 +188,8 @@ fn chains_near_the_limit() {
             "!dips(B)",
             "cross",
             "crossup",
+            "dose(1)",
+            "!dose(16)",
             "high(A)",
             "low(B)",
             "A<v",

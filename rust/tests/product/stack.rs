@@ -9,7 +9,7 @@ use mill::reference::recording::bytes;
 use mill::sys::{mill_degree, mill_pair, mill_question, mill_thin};
 use std::collections::BTreeMap;
 
-/// A recording of 4,096 readings under which sets grow to 250 runs.
+/// A recording of 4,096 readings under which sets grow to 250 runs, with additions.
 fn wide() -> Vec<u8> {
     let mut records = flat(4096);
     for (index, record) in records.iter_mut().enumerate() {
@@ -18,6 +18,7 @@ fn wide() -> Vec<u8> {
     for top in 0..250 {
         put_top(&mut records, 0, 10 + 16 * top);
         put_top(&mut records, 1, 14 + 16 * top);
+        records[12 + 16 * top].pigment = 1;
     }
     bytes(&records)
 }
@@ -53,6 +54,10 @@ fn texts() -> Vec<String> {
         format!("!{}lag", "peaks(A)|".repeat(15)),
         nested("!", "lag", "", 31),
         nested("!", "gaps(A)", "", 31),
+        "dose(1)".into(),
+        nested("!", "dose(1)", "", 31),
+        nested("F(", "P=16", ")", 16),
+        format!("{}P=1", "P=16|".repeat(15)),
         format!("A>{}", "1".repeat(254)),
         "x".into(),
         // Open to the last byte: no reading, and the deepest way to find that out.

@@ -4,6 +4,7 @@
 use crate::calls::{question, Tally};
 use crate::support::cases::begin;
 use crate::support::r1::r1_bytes;
+use crate::support::r3::r3_bytes;
 use crate::support::texts::GOOD;
 use mill::sys::MILL_SET_BYTES;
 
@@ -45,6 +46,9 @@ fn every_short_text_of_words() {
     assert_eq!(every_text("every short text of words, crossings", &words, 5), 1 + 2 + 4 + 9 + 20);
     let words = ["dips(", "dip(", "peaks(", "A", "B", ")", "!"];
     assert_eq!(every_text("every short text of words, turns", &words, 4), 4 + 4);
+    let words = ["P=", "dose(", "0", "1", "6", "7", ")", "!"];
+    // 1, 6, 7, 10, 11 and 16, as `P=k` and in `dose(k)`; then with `!` and `!!`.
+    assert_eq!(every_text("every short text of words, pigments", &words, 4), 6 + 6 + 6 + 3 + 3);
     let words = ["lag", "low(", "lowafter(", "A", ",", "5", ")", "|", "X("];
     assert_eq!(every_text("every short text of words, listed", &words, 5), 1 + 2 + 4);
 }
@@ -54,6 +58,21 @@ fn every_short_number() {
     // 0 alone; else 1 to 4 digits of which the first is not 0, with a minus 1 to 3.
     let numbers = 1 + 2 * (1 + 3 + 9 + 27) + 2 * (1 + 3 + 9);
     assert_eq!(every_text("every short number", &["A>", "0", "1", "7", "-"], 5), numbers);
+}
+
+#[test]
+fn every_number_of_a_pigment() {
+    let recording = r3_bytes();
+    for k in 0..=300 {
+        begin("every number of a pigment", k);
+        let number = if (1..=16).contains(&k) { 0 } else { 6 };
+        for text in [format!("P={k}"), format!("dose({k})"), format!("F(P={k}&T=v)"), format!("!(dose({k})|P=1)")] {
+            assert_eq!(question(&recording, text.as_bytes(), MILL_SET_BYTES), number, "{text}");
+        }
+        for text in [format!("P=0{k}"), format!("P=-{k}"), format!("dose(0{k})"), format!("dose(-{k})"), format!("P>{k}")] {
+            assert_eq!(question(&recording, text.as_bytes(), MILL_SET_BYTES), 6, "{text}");
+        }
+    }
 }
 
 #[test]

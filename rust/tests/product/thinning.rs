@@ -104,7 +104,7 @@ fn piece(random: &mut Random, last: &mut i64, seen: &[u8]) -> Vec<u8> {
 fn lists_of_calls() {
     let mut tally = Tally::default();
     cases("lists of calls", 6_000, |random| {
-        let times = [Record { time: random.between(0, 60), value: [0, 0], slope: [1, 1] }];
+        let times = [Record { time: random.between(0, 60), value: [0, 0], slope: [1, 1], pigment: 0 }];
         let marks = match random.below(12) {
             0 => odd_marks(random),
             _ => mark_bytes(&recordings::marks(random, &times)),
@@ -139,6 +139,7 @@ fn long_lists_of_calls() {
                 last += 1;
                 record.time = last;
                 record.value = [random.between(0, 1_000), 2_000 + random.between(0, 50)];
+                record.pigment = if random.once_in(60) { 16 } else { 0 };
             }
             for _ in 0..random.below(60) {
                 put_top(&mut records, random.below(2), 1 + random.below(count - 1));
@@ -210,6 +211,22 @@ fn refused_pieces_are_not_taken() {
     assert_eq!(calls.call(&r2[..17], 0), 1);
     assert_eq!(calls.call(&r2[16..], 0), 11);
     assert_eq!(Book::open(&[0; 3]).call(&r2, 0), Err(Refused::plain(11)));
+}
+
+/// Pieces whose every reading has a pigment: all are kept, until the readings held and a piece pass 4,096.
+#[test]
+fn additions_in_pieces() {
+    cases::begin("additions in pieces", 0);
+    let whole = bytes(&recordings::with_additions(5_000, 5_000, 9));
+    let mut calls = Calls::begin(&[]);
+    for piece in whole.chunks(1_000 * 16).take(4) {
+        assert_eq!(calls.call(piece, 65_536), 0);
+    }
+    assert_eq!(calls.call(&whole[4_000 * 16..], 65_536), 2);
+    assert_eq!(calls.call(&whole[4_000 * 16..4_096 * 16], 65_535), 10);
+    assert_eq!(calls.call(&whole[4_000 * 16..4_096 * 16], 65_536), 0);
+    assert_eq!(calls.held, whole[..65_536]);
+    assert_eq!(calls.call(&whole[4_096 * 16..4_097 * 16], 1 << 17), 2);
 }
 
 #[test]

@@ -1,7 +1,8 @@
-//! Covers: the safe wrapper: the lines of R1 and R2 through it, every refusal by its name, number and place.
+//! Covers: the safe wrapper: the lines of R1, R2 and R3 through it, every refusal by its name, number and place.
 
 use crate::support::r1::{self, r1_bytes};
 use crate::support::r2::{self, r2_bytes};
+use crate::support::r3::{self, r3_bytes};
 use crate::support::recordings::{flat, with_tops};
 use mill::reference::recording::bytes;
 use mill::{Curve, Degree, Pair, Reading, Refusal, Run, Slope};
@@ -16,6 +17,7 @@ fn r1() -> Vec<u8> {
         b: 50,
         slope_a: *slope_a,
         slope_b: Flat,
+        pigment: 0,
     };
     readings.iter().enumerate().map(reading).flat_map(Reading::to_bytes).collect()
 }
@@ -58,6 +60,21 @@ fn r2_lines() {
     for (marks, expected) in r2::KEPT {
         assert_eq!(kept_times(&recording, marks), expected, "{marks:?}");
     }
+}
+
+#[test]
+fn r3_lines() {
+    let recording = r3_bytes();
+    let first = Reading { time: 0, a: 10, b: 0, slope_a: Slope::Rising, slope_b: Slope::Flat, pigment: 3 };
+    assert_eq!(recording[..16], first.to_bytes());
+    for (text, expected) in r3::ANSWERS {
+        assert_eq!(runs(&recording, text), expected, "{text}");
+    }
+    for (marks, expected) in r3::KEPT {
+        assert_eq!(kept_times(&recording, marks), expected, "{marks:?}");
+    }
+    let bad = Reading { pigment: 17, ..first }.to_bytes();
+    assert_eq!(mill::question(&bad, b"dose(1)"), Err(Refusal::BadRecord { index: 0 }));
 }
 
 #[test]

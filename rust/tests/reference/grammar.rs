@@ -47,6 +47,28 @@ fn every_short_text_of_tokens() {
 }
 
 #[test]
+fn every_short_text_of_pigments() {
+    // 1, 6, 7, 10, 11 and 16, as `P=k` and in `dose(k)`; then with `!` and `!!`.
+    let (atoms, doses) = (3 + 3, 3 + 3);
+    assert_eq!(every(&["P=", "dose(", "0", "1", "6", "7", ")", "!"], 4), atoms + doses + atoms + 3 + 3);
+    // `P` of single bytes.
+    assert_eq!(every(&["P", "=", "1", "2", "-", "v", ">"], 4), 2 + 2);
+}
+
+#[test]
+fn every_number_of_a_pigment() {
+    for k in 0..300u16 {
+        let pigment = (1..=16).contains(&k);
+        for text in [format!("P={k}"), format!("dose({k})"), format!("F(P={k}&T=v)")] {
+            assert_eq!(agree(&text), pigment, "{text}");
+        }
+        assert!(!agree(&format!("P=0{k}")) && !agree(&format!("dose(0{k})")) && !agree(&format!("dose(-{k})")));
+    }
+    assert_eq!(reading(b"P=16"), Some(Node::Pigment(16)));
+    assert_eq!(reading(b"dose(1)"), Some(Node::Dose(1)));
+}
+
+#[test]
 fn every_number_by_its_digits() {
     // `A=0` takes no digit; behind the minus 1 to 4 digits, the first not 0.
     assert_eq!(every(&["A=0", "A=-", "0", "1", "2", "9", "-"], 5), 1 + 3 * (1 + 4 + 16 + 64));
@@ -118,8 +140,51 @@ fn traps() {
         "F(dips(A))",
         "X(crossup)",
         "crossup|U(A=v,B=v)",
-        "P=1",
-        "dose(1)",
+        "P=0",
+        "P=17",
+        "P=01",
+        "P=016",
+        "P=-1",
+        "P=v",
+        "P=B",
+        "P=",
+        "P",
+        "P>=1",
+        "P<=1",
+        "P>1",
+        "P<1",
+        "P==1",
+        "P=1v",
+        "P=1.",
+        "P=161",
+        "P=65537",
+        "P=4294967297",
+        "P=18446744073709551617",
+        "A=P",
+        "A>P",
+        "1=P",
+        "p=1",
+        "P(1)",
+        "P=(1)",
+        "dose(0)",
+        "dose(17)",
+        "dose(01)",
+        "dose(017)",
+        "dose(-1)",
+        "dose(v)",
+        "dose(A)",
+        "dose()",
+        "dose(1",
+        "dose(1)1",
+        "dose",
+        "dose1",
+        "doses(1)",
+        "dose(1,2)",
+        "dose(A,1)",
+        "dose(P=1)",
+        "F(dose(1))",
+        "F(P=1)&dose(1)",
+        "dose(2)|X(A=v)",
         "()",
         "!",
         "A=v|",
@@ -168,6 +233,17 @@ fn traps() {
         "(crossup)",
         "cross|crossup&!cross",
         "!dips(A)&crossup|peaks(A)",
+        "P=1",
+        "P=9",
+        "P=10",
+        "P=16",
+        "!P=3&P=4",
+        "F(P=1&T=v)",
+        "U(P=2,X(P=16))",
+        "dose(1)",
+        "dose(16)",
+        "(dose(9))|P=9",
+        "dose(1)&!dose(2)|lag",
     ] {
         assert!(agree(text), "{text}");
     }

@@ -27,11 +27,11 @@ fn the_faster_way_is_the_rule() {
     });
 }
 
-/// Each reason keeps records of its own: the ends, four extremes, a top and a dip of each curve, a crossing either way, and four
-/// extremes after the mark.
+/// Each reason keeps records of its own: the ends, four extremes, a top and a dip of each curve, a crossing either way, two
+/// additions, and four extremes after the mark.
 #[test]
 fn the_limit_is_attained() {
-    let rows: [([i64; 2], [u8; 2]); 24] = [
+    let rows: [([i64; 2], [u8; 2]); 26] = [
         ([50, 60], [FLAT, FLAT]),
         ([99, 100], [FLAT, FLAT]),
         ([1, 60], [FLAT, FLAT]),
@@ -49,7 +49,9 @@ fn the_limit_is_attained() {
         ([61, 60], [FLAT, FLAT]),
         ([61, 60], [FLAT, FLAT]),
         ([60, 60], [FLAT, FLAT]),
-        // Two that are not kept, the second of them at the mark.
+        // Two with a pigment, then two that are not kept, the second of them at the mark.
+        ([50, 60], [FLAT, FLAT]),
+        ([50, 60], [FLAT, FLAT]),
         ([50, 60], [FLAT, FLAT]),
         ([71, 81], [FLAT, FLAT]),
         ([70, 75], [FLAT, FLAT]),
@@ -58,14 +60,33 @@ fn the_limit_is_attained() {
         ([40, 55], [FLAT, FLAT]),
         ([50, 60], [FLAT, FLAT]),
     ];
-    let record =
-        |(time, (value, slope)): (usize, &([i64; 2], [u8; 2]))| Record { time: time as i64, value: *value, slope: *slope };
-    let records: Vec<Record> = rows.iter().enumerate().map(record).collect();
-    for (marks, limit) in [(&[18][..], 2 * 6 + 6 + 4), (&[18, 18], 2 * 6 + 6 + 8)] {
+    let record = |(time, (value, slope)): (usize, &([i64; 2], [u8; 2]))| Record {
+        time: time as i64,
+        value: *value,
+        slope: *slope,
+        pigment: 0,
+    };
+    let mut records: Vec<Record> = rows.iter().enumerate().map(record).collect();
+    let kept = |records: &[Record], marks: &[i64]| chosen_by_rule(records, marks).iter().filter(|kept| **kept).count();
+    assert_eq!((most_kept(&records, &[20]), kept(&records, &[20])), (2 * 6 + 6 + 4, 22));
+    (records[17].pigment, records[18].pigment) = (1, 16);
+    for (marks, limit) in [(&[20][..], 2 * 6 + 6 + 4 + 2), (&[20, 20], 2 * 6 + 6 + 8 + 2)] {
         assert_eq!(most_kept(&records, marks), limit);
-        assert_eq!(chosen_by_rule(&records, marks).iter().filter(|kept| **kept).count(), 22);
+        assert_eq!(kept(&records, marks), 24);
     }
     assert_eq!(most_kept(&[], &[]), 6);
+}
+
+/// An addition keeps its own record, and not the one before.
+#[test]
+fn additions_are_kept() {
+    let mut records = recordings::flat(9);
+    (records[3].pigment, records[4].pigment, records[7].pigment) = (16, 1, 1);
+    let kept: Vec<usize> = (0..9).filter(|i| chosen_by_rule(&records, &[])[*i]).collect();
+    assert_eq!(kept, [0, 3, 4, 7, 8]);
+    let all = recordings::with_additions(4096, 4096, 2);
+    assert_eq!(most_kept(&all, &[]), 6 + 4096);
+    assert!(chosen(&all, &[]).iter().all(|kept| *kept));
 }
 
 #[test]

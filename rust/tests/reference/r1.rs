@@ -1,8 +1,9 @@
-//! Covers: the lines of the recordings R1 and R2, the table's examples and its orders, on the independent implementation.
+//! Covers: the lines of the recordings R1, R2 and R3, the table's examples and its orders, on the independent implementation.
 
 use crate::support::r1::{self, r1, r1_bytes};
 use crate::support::r2::{self, r2_bytes};
-use crate::support::recordings::{flat, with_crossings, with_dips, with_tops, with_tops_at};
+use crate::support::r3::{self, r3_bytes};
+use crate::support::recordings::{flat, with_additions, with_crossings, with_dips, with_tops, with_tops_at};
 use mill::reference::set::{HIGH, LOW};
 use mill::reference::{degree, kept, pair, question, recording, thin, Degree, Refused};
 
@@ -62,6 +63,48 @@ fn lines_of_r2() {
 }
 
 #[test]
+fn lines_of_r3() {
+    for (text, expected) in r3::ANSWERS {
+        assert_eq!(runs_of(&r3_bytes(), text), expected, "{text}");
+    }
+    for (marks, expected) in r3::KEPT {
+        assert_eq!(kept_times(&r3_bytes(), marks), expected, "{marks:?}");
+    }
+    let kept = thin(&r3_bytes(), &[], ROOM).unwrap();
+    for (text, on_full, on_kept) in r3::LOST {
+        assert_eq!(runs_of(&r3_bytes(), text), on_full, "{text}");
+        assert_eq!(runs_of(&kept, text), on_kept, "{text}");
+    }
+}
+
+/// Bytes 14 and 15 of a record: 17 values of the first are good, and one of the second.
+#[test]
+fn pigments_out_of_their_rules() {
+    for byte in 0..=255 {
+        let mut recording = r1_bytes();
+        recording[5 * 16 + 14] = byte;
+        let expected = if byte <= 16 { Ok(vec![]) } else { Err(Refused { number: 3, place: 5 }) };
+        assert_eq!(question(&recording, b"lag", ROOM), expected, "pigment {byte}");
+        recording[5 * 16 + 14] = 0;
+        recording[5 * 16 + 15] = byte;
+        let expected = if byte == 0 { Ok(vec![]) } else { Err(Refused { number: 3, place: 5 }) };
+        assert_eq!(question(&recording, b"lag", ROOM), expected, "byte 15 of {byte}");
+    }
+}
+
+#[test]
+fn recordings_of_before_have_no_additions() {
+    for k in 1..=16 {
+        for recording in [r1_bytes(), r2_bytes()] {
+            for text in [format!("dose({k})"), format!("F(P={k}&T=v)"), format!("F(P={k})")] {
+                assert_eq!(runs_of(&recording, &text), [], "{text}");
+            }
+            assert_eq!(runs_of(&recording, &format!("G(!P={k})")), [(LOW, HIGH)]);
+        }
+    }
+}
+
+#[test]
 fn table_examples() {
     let r1 = r1_bytes();
     assert_eq!(question(&[0; 17], b"high(A)", ROOM), Err(refused(1)));
@@ -87,6 +130,15 @@ fn table_examples() {
         assert_eq!(question(&crossings(257), text.as_bytes(), ROOM), Err(refused(8)));
         assert_eq!(runs_of(&crossings(256), text).len(), 256);
     }
+    let additions = |count: usize| recording::bytes(&with_additions(4096, count, 5));
+    for text in ["dose(5)", "F(P=5&T=v)"] {
+        assert_eq!(question(&additions(257), text.as_bytes(), ROOM), Err(refused(8)));
+        assert_eq!(runs_of(&additions(256), text).len(), 256);
+        // Neighbours join.
+        assert_eq!(runs_of(&additions(4096), text), [(0, 4095)]);
+        assert_eq!(question(&additions(2048), text.as_bytes(), ROOM), Err(refused(8)));
+    }
+    assert_eq!(runs_of(&additions(4096), "dose(4)"), []);
     assert_eq!(question(&tops(257), b"gaps(A)", ROOM), Err(refused(9)));
     assert_eq!(runs_of(&tops(256), "gaps(A)").len(), 255);
     assert_eq!(pair(&tops(257), 0, 1), Err(refused(9)));

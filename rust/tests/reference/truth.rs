@@ -1,5 +1,5 @@
 //! Covers: the sets of the independent implementation against truth with a number put in; its two ways to work out F, G, U
-//! and W against each other; the eight listed questions that stand for a formula against it; `ampl` by trying every w.
+//! and W against each other; the nine listed questions that stand for a formula against it; `ampl` by trying every w.
 
 use crate::support::cases::cases;
 use crate::support::{recordings, texts};
@@ -67,8 +67,8 @@ fn listed_questions_and_their_formulas() {
     cases("listed questions and their formulas", 4_000, |random| {
         let records = if random.once_in(40) { recordings::with_many_events(random) } else { recordings::any(random) };
         let (curve, k) = (random.pick(&["A", "B"]), texts::number(random, &records));
-        for (name, written) in texts::eight(curve, k) {
-            let formula = texts::formula(name, curve, k);
+        let pigment = texts::pigment(random, &records);
+        for (written, formula) in texts::nine(curve, k, pigment) {
             let set = |text: &str| answer(&records, &reading(text.as_bytes()).expect(text));
             assert_eq!(set(&written), set(&formula), "{written} of {records:?}");
         }

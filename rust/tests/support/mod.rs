@@ -7,6 +7,7 @@ pub mod header;
 pub mod painted;
 pub mod r1;
 pub mod r2;
+pub mod r3;
 pub mod random;
 pub mod recordings;
 pub mod small_stack;

@@ -6,7 +6,7 @@ use mill::reference::set::{HIGH, LOW};
 pub fn r1() -> Vec<Record> {
     let a = [40, 60, 80, 70, 30, 55, 90, 45];
     let slopes = [2, 2, 2, 0, 0, 2, 2, 0];
-    (0..8).map(|i| Record { time: 10 * i as i64, value: [a[i], 50], slope: [slopes[i], FLAT] }).collect()
+    (0..8).map(|i| Record { time: 10 * i as i64, value: [a[i], 50], slope: [slopes[i], FLAT], pigment: 0 }).collect()
 }
 
 pub fn r1_bytes() -> Vec<u8> {

@@ -5,7 +5,7 @@ use mill::reference::set::{HIGH, LOW};
 
 pub fn r2() -> Vec<Record> {
     let slopes = [2, 2, 1, 1, 0, 1, 0, 1, 1];
-    (0..9).map(|i| Record { time: 10 * i as i64, value: [10 - i as i64, 0], slope: [slopes[i], FLAT] }).collect()
+    (0..9).map(|i| Record { time: 10 * i as i64, value: [10 - i as i64, 0], slope: [slopes[i], FLAT], pigment: 0 }).collect()
 }
 
 pub fn r2_bytes() -> Vec<u8> {

@@ -1,12 +1,12 @@
-//! Recordings of many shapes, marks, and damage.
+//! Recordings of many shapes, with and without pigments, marks, and damage.
 
 use super::random::Random;
-use mill::reference::recording::{self, Record, FALLING, FLAT, MOST_TIME, MOST_VALUE, RISING};
+use mill::reference::recording::{self, Record, FALLING, FLAT, MOST_PIGMENT, MOST_TIME, MOST_VALUE, RISING};
 use std::cmp::Ordering;
 
 /// `count` flat records at times 0, 1, .., all values 0.
 pub fn flat(count: usize) -> Vec<Record> {
-    (0..count).map(|i| Record { time: i as i64, value: [0, 0], slope: [FLAT, FLAT] }).collect()
+    (0..count).map(|i| Record { time: i as i64, value: [0, 0], slope: [FLAT, FLAT], pigment: 0 }).collect()
 }
 
 /// Makes record `index` a top of the curve and not the one before; both lie after the first.
@@ -53,6 +53,15 @@ pub fn with_crossings(count: usize, crossings: usize) -> Vec<Record> {
     records
 }
 
+/// A recording of `count` records with `additions` additions of the pigment, evenly spaced, the first at the first record.
+pub fn with_additions(count: usize, additions: usize, pigment: u8) -> Vec<Record> {
+    let mut records = flat(count);
+    for addition in 0..additions {
+        records[addition * count / additions].pigment = pigment;
+    }
+    records
+}
+
 /// How many records a random recording has: few, mostly.
 pub fn length(random: &mut Random) -> usize {
     match random.below(10) {
@@ -70,7 +79,10 @@ pub fn accepted(random: &mut Random, count: usize) -> Vec<Record> {
     let a = values(random, &times);
     let b = if random.once_in(4) { beside(random, &a) } else { values(random, &times) };
     let (slopes_a, slopes_b) = (slopes(random, &a), slopes(random, &b));
-    (0..count).map(|i| Record { time: times[i], value: [a[i], b[i]], slope: [slopes_a[i], slopes_b[i]] }).collect()
+    let pigments = pigments(random, count);
+    (0..count)
+        .map(|i| Record { time: times[i], value: [a[i], b[i]], slope: [slopes_a[i], slopes_b[i]], pigment: pigments[i] })
+        .collect()
 }
 
 /// An accepted recording of a random length.
@@ -161,6 +173,19 @@ fn fitting_slopes(values: &[i64]) -> Vec<u8> {
     (0..values.len()).map(slope).collect()
 }
 
+/// Pigments: mostly none, else sparse, or dense of few kinds or of all.
+fn pigments(random: &mut Random, count: usize) -> Vec<u8> {
+    let any = (1 + random.below(MOST_PIGMENT.into())) as u8;
+    let from: &[u8] = match random.below(8) {
+        0 | 1 => &[0, 0, 0, 0, 0, 0, 0, 0, 0, any],
+        2 => &[0, any],
+        3 => &[0, 1, 2, 16],
+        4 => return (0..count).map(|_| random.below(1 + usize::from(MOST_PIGMENT)) as u8).collect(),
+        _ => &[0],
+    };
+    (0..count).map(|_| random.pick(from)).collect()
+}
+
 /// Accepted marks: 0 to 8, near the recording's times or anywhere, with repeats.
 pub fn marks(random: &mut Random, records: &[Record]) -> Vec<i64> {
     let count = random.pick(&[0, 0, 1, 1, 2, 3, 8]);
@@ -207,7 +232,7 @@ pub fn damaged(random: &mut Random, mut bytes: Vec<u8>) -> Vec<u8> {
             }
             7 if length >= 16 => {
                 let at = 16 * random.below(length / 16) + 12 + random.below(4);
-                bytes[at] = random.pick(&[0, 1, 2, 3, 255]);
+                bytes[at] = random.pick(&[0, 1, 2, 3, 16, 17, 255]);
             }
             8 if length >= 32 => {
                 // A time again.
@@ -280,11 +305,27 @@ pub fn with_many_crossings(random: &mut Random) -> Vec<Record> {
     records
 }
 
-/// A recording with many tops, many dips or many crossings both ways.
+/// A recording with up to some 600 additions of one pigment, others among them, at times that join or lie apart.
+pub fn with_many_additions(random: &mut Random) -> Vec<Record> {
+    let most = random.pick(&[3, 12, 66, 257, 300]);
+    let mut records = accepted(random, 2 * most + 10);
+    let pigment = 1 + random.below(MOST_PIGMENT.into()) as u8;
+    let other = 1 + random.below(MOST_PIGMENT.into()) as u8;
+    let stays = random.pick(&[1, 1, 1, 2, 20]);
+    let mut here = random.once_in(2);
+    for record in &mut records {
+        here ^= random.once_in(stays);
+        record.pigment = if here { pigment } else { random.pick(&[0, 0, other]) };
+    }
+    records
+}
+
+/// A recording with many tops, many dips, many crossings both ways or many additions.
 pub fn with_many_events(random: &mut Random) -> Vec<Record> {
-    match random.below(3) {
+    match random.below(4) {
         0 => with_many_tops(random),
         1 => with_many_dips(random),
+        2 => with_many_additions(random),
         _ => with_many_crossings(random),
     }
 }
@@ -317,7 +358,7 @@ pub fn gap(random: &mut Random, records: &[Record], curve: usize) -> i64 {
 
 /// Flat records at times 0, 1, .. with these values.
 pub fn with_values(values: &[[i64; 2]]) -> Vec<u8> {
-    let record = |(time, value): (usize, &[i64; 2])| Record { time: time as i64, value: *value, slope: [FLAT, FLAT] };
+    let record = |(time, value): (usize, &[i64; 2])| Record { time: time as i64, value: *value, slope: [FLAT, FLAT], pigment: 0 };
     recording::bytes(&values.iter().enumerate().map(record).collect::<Vec<_>>())
 }
 
@@ -330,7 +371,7 @@ pub fn with_tops_at(tops: [&[i64]; 2]) -> Vec<u8> {
     recording::bytes(
         &times
             .iter()
-            .map(|time| Record { time: *time, value: [0, 0], slope: [slope(0, *time), slope(1, *time)] })
+            .map(|time| Record { time: *time, value: [0, 0], slope: [slope(0, *time), slope(1, *time)], pigment: 0 })
             .collect::<Vec<_>>(),
     )
 }

@@ -1,11 +1,11 @@
 //! Question texts of many shapes: made from the grammar, or changed byte by byte.
 
 use super::random::Random;
-use mill::reference::recording::Record;
+use mill::reference::recording::{Record, MOST_PIGMENT};
 use mill::reference::set::{HIGH, LOW};
 
 /// Texts with a reading, each kind of piece among them.
-pub const GOOD: [&str; 33] = [
+pub const GOOD: [&str; 37] = [
     "A>=v",
     "B<=v",
     "T>v",
@@ -17,6 +17,8 @@ pub const GOOD: [&str; 33] = [
     "A<=B",
     "fall(A)",
     "rise(B)",
+    "P=7",
+    "P=16",
     "high(A)",
     "low(B)",
     "lowafter(A,40)",
@@ -25,6 +27,8 @@ pub const GOOD: [&str; 33] = [
     "dips(B)",
     "cross",
     "crossup",
+    "dose(1)",
+    "dose(10)",
     "ampl(A)",
     "gaps(B)",
     "steps(A)",
@@ -108,32 +112,43 @@ fn leaf(random: &mut Random, kind: Kind, records: &[Record]) -> String {
         atom(random, records)
     } else {
         let k = number(random, records);
-        listed(random, k)
+        listed(random, records, k)
     }
 }
 
 /// An atom, mostly one with `v`.
 pub fn atom(random: &mut Random, records: &[Record]) -> String {
     let relation = random.pick(&[">=", "<=", ">", "<", "=", "="]);
-    match random.below(10) {
+    match random.below(11) {
         0 => format!("A{relation}B"),
         1 => format!("{}({})", random.pick(&["fall", "rise"]), random.pick(&["A", "B"])),
         2 | 3 => format!("{}{relation}{}", random.pick(&["A", "B", "T"]), number(random, records)),
+        4 => format!("P={}", pigment(random, records)),
         _ => format!("{}{relation}v", random.pick(&["A", "A", "B", "T"])),
     }
 }
 
 /// A listed question; `k` is its after-time, if it has one.
-pub fn listed(random: &mut Random, k: i64) -> String {
+pub fn listed(random: &mut Random, records: &[Record], k: i64) -> String {
     let curve = random.pick(&["A", "B"]);
-    match random.below(12) {
+    match random.below(13) {
         0 => "cross".into(),
         1 => "crossup".into(),
         2 => "lag".into(),
         3 => format!("lowafter({curve},{k})"),
         4 => format!("capafter({curve},{k})"),
+        5 => format!("dose({})", pigment(random, records)),
         _ => format!("{}({curve})", random.pick(&["high", "low", "peaks", "dips", "ampl", "gaps", "steps"])),
     }
+}
+
+/// A pigment, mostly one of the recording.
+pub fn pigment(random: &mut Random, records: &[Record]) -> u8 {
+    let added: Vec<u8> = records.iter().map(|record| record.pigment).filter(|pigment| *pigment > 0).collect();
+    if added.is_empty() || random.once_in(6) {
+        return 1 + random.below(MOST_PIGMENT.into()) as u8;
+    }
+    random.pick(&added)
 }
 
 /// A number of the axis, near one of the recording.
@@ -149,7 +164,7 @@ pub fn number(random: &mut Random, records: &[Record]) -> i64 {
 /// The text with one to three changes: a byte left out, doubled, put in, replaced, swapped with the next, a cut, or a number
 /// that is just not one.
 pub fn changed(random: &mut Random, text: &str) -> Vec<u8> {
-    const BYTES: &[u8] = b"ABTvFGXUW|&!(),<>=-0123456789fallrisehighlowaftercappeaksdipsamplgapsstepslagcrossup \n\0\xff";
+    const BYTES: &[u8] = b"ABTPvFGXUW|&!(),<>=-0123456789fallrisehighlowaftercappeaksdipsamplgapsstepslagcrossupdose \n\0\xff";
     let mut bytes = text.as_bytes().to_vec();
     for _ in 0..1 + random.below(3) {
         if bytes.is_empty() {
@@ -164,8 +179,20 @@ pub fn changed(random: &mut Random, text: &str) -> Vec<u8> {
             4 if at + 1 < bytes.len() => bytes.swap(at, at + 1),
             5 => bytes.truncate(at),
             6 => {
-                let numbers =
-                    ["-0", "00", "01", "-", "2000000001", "-2000000001", "2147483647", "4294967296", "18446744073709551616"];
+                let numbers = [
+                    "-0",
+                    "00",
+                    "01",
+                    "-",
+                    "0",
+                    "17",
+                    "-1",
+                    "2000000001",
+                    "-2000000001",
+                    "2147483647",
+                    "4294967296",
+                    "18446744073709551616",
+                ];
                 let is_digit = |byte: &u8| byte.is_ascii_digit() || *byte == b'v';
                 let from = bytes.iter().position(is_digit).unwrap_or(at);
                 bytes.splice(from..from + 1, random.pick(&numbers).bytes());
@@ -176,33 +203,19 @@ pub fn changed(random: &mut Random, text: &str) -> Vec<u8> {
     bytes
 }
 
-/// The eight listed questions that stand for a formula, by name and as they are written.
-pub fn eight(curve: &str, k: i64) -> [(&'static str, String); 8] {
+/// The nine listed questions that stand for a formula, each as it is written, with its formula.
+pub fn nine(curve: &str, k: i64, pigment: u8) -> [(String, String); 9] {
     [
-        ("high", format!("high({curve})")),
-        ("low", format!("low({curve})")),
-        ("lowafter", format!("lowafter({curve},{k})")),
-        ("capafter", format!("capafter({curve},{k})")),
-        ("peaks", format!("peaks({curve})")),
-        ("dips", format!("dips({curve})")),
-        ("cross", "cross".into()),
-        ("crossup", "crossup".into()),
+        (format!("high({curve})"), format!("F({curve}>=v)")),
+        (format!("low({curve})"), format!("F({curve}<=v)")),
+        (format!("lowafter({curve},{k})"), format!("F(T>{k}&{curve}<=v)")),
+        (format!("capafter({curve},{k})"), format!("G(!(T>{k})|{curve}<=v)")),
+        (format!("peaks({curve})"), format!("F(!fall({curve})&X(fall({curve})&T=v))")),
+        (format!("dips({curve})"), format!("F(!rise({curve})&X(rise({curve})&T=v))")),
+        ("cross".into(), "F(A>B&X(A<=B&T=v))".into()),
+        ("crossup".into(), "F(A<=B&X(A>B&T=v))".into()),
+        (format!("dose({pigment})"), format!("F(P={pigment}&T=v)")),
     ]
-}
-
-/// The formula that one of the eight stands for.
-pub fn formula(name: &str, curve: &str, k: i64) -> String {
-    match name {
-        "high" => format!("F({curve}>=v)"),
-        "low" => format!("F({curve}<=v)"),
-        "lowafter" => format!("F(T>{k}&{curve}<=v)"),
-        "capafter" => format!("G(!(T>{k})|{curve}<=v)"),
-        "peaks" => format!("F(!fall({curve})&X(fall({curve})&T=v))"),
-        "dips" => format!("F(!rise({curve})&X(rise({curve})&T=v))"),
-        "cross" => "F(A>B&X(A<=B&T=v))".into(),
-        "crossup" => "F(A<=B&X(A>B&T=v))".into(),
-        _ => unreachable!("{name} stands for no formula"),
-    }
 }
 
 /// A target near the recording's numbers, anywhere, at the axis ends, or off the axis.

@@ -74,6 +74,10 @@ fn every_short_text_of_tokens() {
     assert_eq!(every(&["cross", "crossup", "up", "s", "1", "(", "A", ")", "|"], 4), 2 + 1 + 6 + 5);
     // `dips(` of the pieces `dip` and `s(`; beside `F(` it has no reading.
     assert_eq!(every(&["dips(", "dip", "s(", "peaks(", "A", "T", ")", "|", "F("], 5), 2 + 1);
+    // 1, 6, 7, 10, 11 and 16, as `P=k` and in `dose(k)`; then with `!` and `!!`; beside `F(` no `dose` has a reading.
+    assert_eq!(every(&["P=", "dose(", "0", "1", "6", "7", ")", "!", "F("], 4), 6 + 6 + 6 + 3 + 3 + 3);
+    // `P` of single bytes.
+    assert_eq!(every(&["P", "=", "1", "2", "-", "v", ">"], 4), 2 + 2);
     // `A=0` takes no digit; behind the minus 1 to 4 digits, the first not 0.
     assert_eq!(every(&["A=0", "A=-", "0", "1", "2", "9", "-"], 5), 1 + 3 * (1 + 4 + 16 + 64));
 }
@@ -88,6 +92,30 @@ fn dips_and_upward_crossings() {
     let dips = ["dip(A)", "dips", "dips(T)", "dips(A", "dips()", "dips(A,40)", "dips(A)B"];
     let mixed = ["F(crossup)", "crossup&G(A=v)", "X(dips(A))", "dips(B)|U(A=v,B=v)", "W(A>v,!dips(B))"];
     for text in crossings.iter().chain(&dips).chain(&mixed) {
+        assert_eq!(agree_by_splits(text), Err(6), "{text}");
+    }
+}
+
+#[test]
+fn pigments() {
+    for k in 0..=300 {
+        begin("pigments", k);
+        let read = if (1..=16).contains(&k) { Ok(1) } else { Err(6) };
+        for text in [format!("P={k}"), format!("dose({k})"), format!("(P={k})")] {
+            assert_eq!(agree_by_splits(&text), read, "{text}");
+        }
+        for text in [format!("P=0{k}"), format!("dose(0{k})"), format!("P=-{k}"), format!("dose(-{k})"), format!("P>={k}")] {
+            assert_eq!(agree_by_splits(&text), Err(6), "{text}");
+        }
+    }
+    for (text, nodes) in [("F(P=1&T=v)", 4), ("!P=16|dose(16)", 4), ("U(P=2,X(P=3))", 4), ("dose(1)&dose(2)|P=3", 5)] {
+        assert_eq!(agree_by_splits(text), Ok(nodes), "{text}");
+    }
+    let atoms = ["P", "P=", "P=v", "P=B", "P=P", "A=P", "P<2", "P>1", "P=1P", "p=1", "P(1)", "P=1,", "P=65537", "P=4294967297"];
+    let names =
+        ["dose", "dose(", "dose()", "dose(v)", "dose(A)", "dose(1", "dose(1)1", "dose(1,2)", "doses(1)", "dos(1)", "Dose(1)"];
+    let mixed = ["F(dose(1))", "dose(1)&G(A=v)", "X(P=1)|dose(2)", "dose(1)|U(P=1,B=v)", "dose(4294967297)", "dose(P=1)"];
+    for text in atoms.iter().chain(&names).chain(&mixed) {
         assert_eq!(agree_by_splits(text), Err(6), "{text}");
     }
 }
@@ -141,7 +169,7 @@ fn made_and_changed_texts() {
 
 #[test]
 fn random_bytes() {
-    const BYTES: &[u8] = b"ABTv|&!(),<>=-019FGXUW";
+    const BYTES: &[u8] = b"ABTPv|&!(),<>=-0169FGXUW";
     cases("random bytes", 300_000, |random| {
         let length = random.pick(&[3, 4, 5, 8, 13, 40, 256, 257]);
         let text: Vec<u8> =

@@ -17,69 +17,75 @@ FALL = 3
 abbrev pub RISE : ℕ
 RISE = 4
 
+abbrev pub PIGMENT : ℕ
+PIGMENT = 5
+
 -- the listed questions
 abbrev pub HIGH : ℕ
-HIGH = 5
+HIGH = 6
 
 abbrev pub LOW : ℕ
-LOW = 6
+LOW = 7
 
 abbrev pub LOWAFTER : ℕ
-LOWAFTER = 7
+LOWAFTER = 8
 
 abbrev pub CAPAFTER : ℕ
-CAPAFTER = 8
+CAPAFTER = 9
 
 abbrev pub PEAKS : ℕ
-PEAKS = 9
+PEAKS = 10
 
 abbrev pub DIPS : ℕ
-DIPS = 10
+DIPS = 11
 
 abbrev pub CROSS : ℕ
-CROSS = 11
+CROSS = 12
 
 abbrev pub CROSSUP : ℕ
-CROSSUP = 12
+CROSSUP = 13
+
+abbrev pub DOSE : ℕ
+DOSE = 14
 
 abbrev pub AMPL : ℕ
-AMPL = 13
+AMPL = 15
 
 abbrev pub GAPS : ℕ
-GAPS = 14
+GAPS = 16
 
 abbrev pub STEPS : ℕ
-STEPS = 15
+STEPS = 17
 
 abbrev pub LAG : ℕ
-LAG = 16
+LAG = 18
 
 -- operators over one text: `!`, X, F and G
 abbrev pub NOT : ℕ
-NOT = 17
+NOT = 19
 
 abbrev pub NEXT : ℕ
-NEXT = 18
+NEXT = 20
 
 abbrev pub FINALLY : ℕ
-FINALLY = 19
+FINALLY = 21
 
 abbrev pub GLOBALLY : ℕ
-GLOBALLY = 20
+GLOBALLY = 22
 
 -- operators over two texts: `|`, `&`, U and W
 abbrev pub OR : ℕ
-OR = 21
+OR = 23
 
 abbrev pub AND : ℕ
-AND = 22
+AND = 24
 
 abbrev pub UNTIL : ℕ
-UNTIL = 23
+UNTIL = 25
 
 abbrev pub WEAK-UNTIL : ℕ
-WEAK-UNTIL = 24
+WEAK-UNTIL = 26
 
 -- a bracket, which is no node
 abbrev pub BRACKET : ℕ
-BRACKET = 25
+BRACKET = 27

@@ -5,6 +5,7 @@ use mathlib.Core.List.{List, [], _∷_, _++_}
 use lib.Dec.{eqb, leb, ltb}
 use lib.ListN.{length, getD, drop}
 use Rattle.number.specs.Axis.{origin}
+use Rattle.recording.specs.Recording.{mostPigments}
 use Rattle.grammar.specs.declared.Row.{Row}
 use Rattle.grammar.specs.declared.Found.{Found}
 use Rattle.grammar.specs.declared.Found.the-variants.{At, Missing}
@@ -13,7 +14,7 @@ use Rattle.grammar.specs.declared.Leaf.the-variants.{Node, Open, Nothing
 use Rattle.grammar.specs.Bytes.{bytes}
 use Rattle.grammar.specs.Classes.{isDigit}
 use Rattle.grammar.specs.Grammar.{decimal}
-use Rattle.grammar.specs.inner.Kinds.{COMPARE-V, COMPARE, A-TO-B, FALL, RISE, HIGH, LOW, LOWAFTER, CAPAFTER, PEAKS, DIPS, CROSS, CROSSUP, AMPL, GAPS, STEPS, LAG, NEXT, FINALLY, GLOBALLY, UNTIL, WEAK-UNTIL, BRACKET}
+use Rattle.grammar.specs.inner.Kinds.{COMPARE-V, COMPARE, A-TO-B, FALL, RISE, PIGMENT, HIGH, LOW, LOWAFTER, CAPAFTER, PEAKS, DIPS, CROSS, CROSSUP, DOSE, AMPL, GAPS, STEPS, LAG, NEXT, FINALLY, GLOBALLY, UNTIL, WEAK-UNTIL, BRACKET}
 use Rattle.grammar.specs.inner.Table.{row, unaryFrom}
 
 -- what stands at a position: the byte, or 0 past the end
@@ -50,7 +51,7 @@ relations = word 0 (bytes ">=") ∷ word 1 (bytes "<=") ∷ word 2 (bytes ">") �
 abbrev pub fields : List Word
 fields = curves ++ (word 2 (bytes "T") ∷ [])
 
--- the names, by the kinds of their leaves: those of slopes and levels; those of tops, dips and crossings, `crossup` before `cross`; and those of differences
+-- the names, by the kinds of their leaves: those of slopes and levels; those of tops, dips and crossings, `crossup` before `cross`; those of differences; and those with the number of a pigment
 abbrev pub levelNames : List Word
 levelNames =
     word FALL (bytes "fall(")
@@ -77,6 +78,9 @@ differenceNames =
     ∷ word LAG (bytes "lag")
     ∷ []
 
+abbrev pub pigmentNames : List Word
+pigmentNames = word PIGMENT (bytes "P=") ∷ word DOSE (bytes "dose(") ∷ []
+
 -- the openings, by the kinds of their nodes; a bracket is no node
 abbrev pub openings : List Word
 openings =
@@ -90,7 +94,7 @@ openings =
 
 -- what a primary text begins with
 abbrev pub heads : List Word
-heads = fields ++ (levelNames ++ (topNames ++ (differenceNames ++ openings)))
+heads = fields ++ (levelNames ++ (topNames ++ (differenceNames ++ (pigmentNames ++ openings))))
 
 -- NUMBERS. The digits in front
 abbrev pub digitRun : List ℕ → List ℕ
@@ -119,6 +123,16 @@ shifted Missing = Missing
 -- the number at i, as its index on the axis
 unfoldable pub numberAt : List ℕ → ℕ → Found
 numberAt s i = cond (eqb (byte s i) 45) (negated (unsignedAt s (i + 1))) (shifted (unsignedAt s i))
+
+-- a number that was found, if it is a pigment's
+abbrev pub ofPigment : Found → Found
+ofPigment (At zero j) = Missing
+ofPigment (At (suc n) j) = cond (leb (suc n) mostPigments) (At (suc n) j) Missing
+ofPigment Missing = Missing
+
+-- the number of a pigment at i
+unfoldable pub pigmentAt : List ℕ → ℕ → Found
+pigmentAt s i = ofPigment (unsignedAt s i)
 
 -- LEAVES
 abbrev pub whenFound : Found → (ℕ → ℕ → Leaf) → Leaf
@@ -154,12 +168,21 @@ unfoldable pub argumentsAt : List ℕ → ℕ → ℕ → Leaf
 argumentsAt s k i =
     whenFound (firstOf curves s i) (λ c j. cond (isTimed k) (timedAt s k c j) (closedBy s 41 (row k c 0 0) j))
 
+-- `P=` and `dose(` have the number of a pigment
+abbrev pub takesPigment : ℕ → Bool
+takesPigment k = eqb k PIGMENT || eqb k DOSE
+
+-- the number of a pigment behind the word of kind k, from i on; `dose(` is closed
+unfoldable pub pigmentLeafAt : List ℕ → ℕ → ℕ → Leaf
+pigmentLeafAt s k i =
+    whenFound (pigmentAt s i) (λ n e. cond (eqb k DOSE) (closedBy s 41 (row k 0 0 n) e) (Node (row k 0 0 n) e))
+
 -- `cross`, `crossup` and `lag` have no arguments
 abbrev pub isBare : ℕ → Bool
 isBare k = eqb k CROSS || (eqb k CROSSUP || eqb k LAG)
 
 unfoldable pub namedAt : List ℕ → ℕ → ℕ → Leaf
-namedAt s k i = cond (isBare k) (Node (row k 0 0 0) i) (argumentsAt s k i)
+namedAt s k i = cond (isBare k) (Node (row k 0 0 0) i) (cond (takesPigment k) (pigmentLeafAt s k i) (argumentsAt s k i))
 
 unfoldable pub headedAt : List ℕ → ℕ → ℕ → Leaf
 headedAt s k i = cond (ltb k FALL) (comparisonAt s k i) (cond (ltb k unaryFrom) (namedAt s k i) (Open k i))

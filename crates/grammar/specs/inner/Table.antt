@@ -6,7 +6,7 @@ use lib.ListN.{getD}
 use Rattle.recording.specs.Reading.{Curve, A, B, curveOf}
 use Rattle.grammar.specs.declared.Row.{Row}
 use Rattle.grammar.specs.inner.Kinds.{NOT, OR, BRACKET}
-use Rattle.grammar.specs.Syntax.{Field, of, T, Relation, ge, le, gt, lt, eq, v, number, compare, A-to-B, fall, rise, high, low, lowafter, capafter, peaks, dips, cross, crossup, ampl, gaps, steps, lag, Text, atom, listed, or, and, neg, finally, globally, next, until, weakUntil}
+use Rattle.grammar.specs.Syntax.{Field, of, T, Relation, ge, le, gt, lt, eq, v, number, compare, A-to-B, fall, rise, pigment, high, low, lowafter, capafter, peaks, dips, cross, crossup, dose, ampl, gaps, steps, lag, Text, atom, listed, or, and, neg, finally, globally, next, until, weakUntil}
 
 abbrev pub row : ℕ → ℕ → ℕ → ℕ → Row
 row k a b n = record { kind = k; first = a; second = b; number = n }
@@ -19,7 +19,7 @@ fieldOf n = getD (of A ∷ of B ∷ T ∷ []) n T
 abbrev pub relationOf : ℕ → Relation
 relationOf n = getD (ge ∷ le ∷ gt ∷ lt ∷ eq ∷ []) n eq
 
--- the kinds before NOT, the leaves: of a field or a curve, `first` is its code; `second` the relation's; `number` an index on the axis
+-- the kinds before NOT, the leaves: of a field or a curve, `first` is its code; `second` the relation's; `number` an index on the axis, or the number of a pigment
 abbrev pub leafTexts : Row → List Text
 leafTexts r =
     atom (compare (fieldOf (r .first)) (relationOf (r .second)) v)
@@ -27,6 +27,7 @@ leafTexts r =
     ∷ atom (A-to-B (relationOf (r .second)))
     ∷ atom (fall (curveOf (r .first)))
     ∷ atom (rise (curveOf (r .first)))
+    ∷ atom (pigment (r .number))
     ∷ listed (high (curveOf (r .first)))
     ∷ listed (low (curveOf (r .first)))
     ∷ listed (lowafter (curveOf (r .first)) (r .number))
@@ -35,6 +36,7 @@ leafTexts r =
     ∷ listed (dips (curveOf (r .first)))
     ∷ listed cross
     ∷ listed crossup
+    ∷ listed (dose (r .number))
     ∷ listed (ampl (curveOf (r .first)))
     ∷ listed (gaps (curveOf (r .first)))
     ∷ listed (steps (curveOf (r .first)))

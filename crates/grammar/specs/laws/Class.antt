@@ -12,7 +12,7 @@ use Rattle.grammar.specs.declared.Class.the-variants.{Digit, Letter, Sig
 use Rattle.grammar.specs.Bytes.{bytes}
 use Rattle.grammar.specs.Classes.{classOf, isDigit, among, listedClass}
 use Rattle.grammar.specs.Syntax.{Field, of, T, Relation, ge, le, gt, lt, eq, Operand, Atom, Listed, Text}
-use Rattle.grammar.specs.Grammar.{AllDigits, Numeral, zero-itself, plain, minus, curveWord, fieldWord, relationWord, OperandWord, the-v, a-number, AtomWord, compared, curves, falling, rising, ListedWord, a-high, a-low, a-lowafter, a-capafter, a-peaks, a-dips, a-cross, a-crossup, an-ampl, a-gaps, a-steps, a-lag, Level, Reads, one-conjunction, bar, one-negation, ampersand, one-primary, bang, bracketed, an-F, a-G, an-X, a-U, a-W, an-atom, a-listed, ReadsWhole}
+use Rattle.grammar.specs.Grammar.{AllDigits, Numeral, zero-itself, plain, minus, PigmentNumber, curveWord, fieldWord, relationWord, OperandWord, the-v, a-number, AtomWord, compared, curves, falling, rising, pigment-is, ListedWord, a-high, a-low, a-lowafter, a-capafter, a-peaks, a-dips, a-cross, a-crossup, a-dose, an-ampl, a-gaps, a-steps, a-lag, Level, Reads, one-conjunction, bar, one-negation, ampersand, one-primary, bang, bracketed, an-F, a-G, an-X, a-U, a-W, an-atom, a-listed, ReadsWhole}
 use Rattle.grammar.specs.laws.Word.{and-left, and-right}
 
 abbrev pub number : Class → ℕ
@@ -141,6 +141,7 @@ clean-atom (compared {w} f r o) = join (fieldWord f ++ relationWord r) w (join (
 clean-atom (curves r) = join (bytes "A" ++ relationWord r) (bytes "B") (join (bytes "A") (relationWord r) refl (clean-relation r)) refl
 clean-atom (falling c) = with-curve (bytes "fall(") c refl
 clean-atom (rising c) = with-curve (bytes "rise(") c refl
+clean-atom (pigment-is {d} {w} p) = join (bytes "P=") (d ∷ w) refl (clean-digits (d ∷ w) (p .digits))
 
 clean-listed : {w : List ℕ} {q : Listed} → ListedWord w q → clean w ≡ true
 unfolding clean classOf
@@ -152,6 +153,7 @@ clean-listed (a-peaks c) = with-curve (bytes "peaks(") c refl
 clean-listed (a-dips c) = with-curve (bytes "dips(") c refl
 clean-listed a-cross = refl
 clean-listed a-crossup = refl
+clean-listed (a-dose {d} {w} p) = join (bytes "dose(" ++ (d ∷ w)) (bytes ")") (join (bytes "dose(") (d ∷ w) refl (clean-digits (d ∷ w) (p .digits))) refl
 clean-listed (an-ampl c) = with-curve (bytes "ampl(") c refl
 clean-listed (a-gaps c) = with-curve (bytes "gaps(") c refl
 clean-listed (a-steps c) = with-curve (bytes "steps(") c refl

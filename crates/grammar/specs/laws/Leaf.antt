@@ -16,14 +16,14 @@ use Rattle.grammar.specs.declared.Leaf.{Leaf}
 use Rattle.grammar.specs.declared.Leaf.the-variants.{Node, Open, Nothing}
 use Rattle.grammar.specs.Bytes.{bytes}
 use Rattle.grammar.specs.Classes.{isDigit, isLetter}
-use Rattle.grammar.specs.Syntax.{Field, of, T, Relation, ge, le, gt, lt, eq, Operand, v, number, Atom, compare, A-to-B, fall, rise, Listed, high, low, lowafter, capafter, peaks, dips, cross, crossup, ampl, gaps, steps, lag, Text, atom, listed, or, and, neg, finally, globally, next, until, weakUntil}
-use Rattle.grammar.specs.Grammar.{Numeral, curveWord, fieldWord, relationWord, OperandWord, the-v, a-number, AtomWord, compared, curves as A-with-B, falling, rising, ListedWord, a-high, a-low, a-lowafter, a-capafter, a-peaks, a-dips, a-cross, a-crossup, an-ampl, a-gaps, a-steps, a-lag, Level, alternation, primary, Reads, bracketed, an-F, a-G, an-X, a-U, a-W, an-atom, a-listed}
-use Rattle.grammar.specs.inner.Kinds.{COMPARE-V, COMPARE, A-TO-B, FALL, RISE, HIGH, LOW, LOWAFTER, CAPAFTER, PEAKS, DIPS, CROSS, CROSSUP, AMPL, GAPS, STEPS, LAG, NEXT, FINALLY, GLOBALLY, UNTIL, WEAK-UNTIL, BRACKET}
+use Rattle.grammar.specs.Syntax.{Field, of, T, Relation, ge, le, gt, lt, eq, Operand, v, number, Atom, compare, A-to-B, fall, rise, pigment, Listed, high, low, lowafter, capafter, peaks, dips, cross, crossup, dose, ampl, gaps, steps, lag, Text, atom, listed, or, and, neg, finally, globally, next, until, weakUntil}
+use Rattle.grammar.specs.Grammar.{Numeral, curveWord, fieldWord, relationWord, OperandWord, the-v, a-number, AtomWord, compared, curves as A-with-B, falling, rising, pigment-is, ListedWord, a-high, a-low, a-lowafter, a-capafter, a-peaks, a-dips, a-cross, a-crossup, a-dose, an-ampl, a-gaps, a-steps, a-lag, Level, alternation, primary, Reads, bracketed, an-F, a-G, an-X, a-U, a-W, an-atom, a-listed}
+use Rattle.grammar.specs.inner.Kinds.{COMPARE-V, COMPARE, A-TO-B, FALL, RISE, PIGMENT, HIGH, LOW, LOWAFTER, CAPAFTER, PEAKS, DIPS, CROSS, CROSSUP, DOSE, AMPL, GAPS, STEPS, LAG, NEXT, FINALLY, GLOBALLY, UNTIL, WEAK-UNTIL, BRACKET}
 use Rattle.grammar.specs.inner.Table.{row, fieldOf, relationOf, build, unaryFrom, binaryFrom, kinds}
-use Rattle.grammar.specs.inner.Lexer.{byte, firstOf, curves, relations, fields, levelNames, topNames, differenceNames, openings, heads, numberAt, whenFound, closedBy, operandAt, comparisonAt, timedAt, isTimed, argumentsAt, isBare, namedAt, headedAt, leafAt}
+use Rattle.grammar.specs.inner.Lexer.{byte, firstOf, curves, relations, fields, levelNames, topNames, differenceNames, pigmentNames, openings, heads, numberAt, pigmentAt, whenFound, closedBy, operandAt, comparisonAt, timedAt, isTimed, argumentsAt, takesPigment, pigmentLeafAt, isBare, namedAt, headedAt, leafAt}
 use Rattle.grammar.specs.inner.Parse.{leafOf, node}
 use Rattle.grammar.specs.laws.Word.{Stands, Spelt, Each, each-of-both, noByte, equalsSign, letterOrDigit, tellable, bound, before, behind, together, one-byte, found, found-is}
-use Rattle.grammar.specs.laws.Number.{number-sound, number-complete, numeral-first}
+use Rattle.grammar.specs.laws.Number.{number-sound, number-complete, numeral-first, PigmentWord, labelled, pigment-sound, pigment-complete}
 
 -- the word w stands in s from i up to j
 pub record Run (s : List ℕ) (i j : ℕ) (w : List ℕ) : Type 0 where
@@ -52,10 +52,14 @@ pub data Opening : ℕ → List ℕ → Type 0 where
 
 data Head : ℕ → List ℕ → Type 0 where
   field : {k : ℕ} → k < FALL → Head k (fieldWord (fieldOf k))
-  with-curve : {k : ℕ} {w : List ℕ} → FALL ≤ k → k < unaryFrom → isBare k ≡ false → isTimed k ≡ false
+  with-curve : {k : ℕ} {w : List ℕ} → FALL ≤ k → k < unaryFrom → isBare k ≡ false → takesPigment k ≡ false → isTimed k ≡ false
       → ((c : ℕ) → Reads primary (w ++ curveWord (curveOf c) ++ bytes ")") (leafOf (row k c 0 0))) → Head k w
-  with-time : {k : ℕ} {w : List ℕ} → FALL ≤ k → k < unaryFrom → isBare k ≡ false → isTimed k ≡ true
+  with-time : {k : ℕ} {w : List ℕ} → FALL ≤ k → k < unaryFrom → isBare k ≡ false → takesPigment k ≡ false → isTimed k ≡ true
       → ((c n : ℕ) (x : List ℕ) → Numeral x n → Reads primary (w ++ curveWord (curveOf c) ++ bytes "," ++ x ++ bytes ")") (leafOf (row k c 0 n))) → Head k w
+  with-pigment : {k : ℕ} {w : List ℕ} → FALL ≤ k → k < unaryFrom → isBare k ≡ false → takesPigment k ≡ true → eqb k DOSE ≡ false
+      → ((n : ℕ) (x : List ℕ) → PigmentWord x n → Reads primary (w ++ x) (leafOf (row k 0 0 n))) → Head k w
+  with-pigment-closed : {k : ℕ} {w : List ℕ} → FALL ≤ k → k < unaryFrom → isBare k ≡ false → takesPigment k ≡ true → eqb k DOSE ≡ true
+      → ((n : ℕ) (x : List ℕ) → PigmentWord x n → Reads primary (w ++ x ++ bytes ")") (leafOf (row k 0 0 n))) → Head k w
   bare : {k : ℕ} {w : List ℕ} → FALL ≤ k → k < unaryFrom → isBare k ≡ true → Reads primary w (leafOf (row k 0 0 0)) → Head k w
   opening : {k : ℕ} {w : List ℕ} → unaryFrom ≤ k → Opening k w → Head k w
 
@@ -63,22 +67,33 @@ fields-mean : Each Head fields
 fields-mean = (field (lit< tt), refl, (field (lit< tt), refl, (field (lit< tt), refl, tt)))
 
 level-names-mean : Each Head levelNames
-level-names-mean = (with-curve (lit< tt) (lit< tt) refl refl (λ c. an-atom (falling (curveOf c))), refl, (with-curve (lit< tt) (lit< tt) refl refl (λ c. an-atom (rising (curveOf c))), refl, (with-curve (lit< tt) (lit< tt) refl refl (λ c. a-listed (a-high (curveOf c))), refl, (with-curve (lit< tt) (lit< tt) refl refl (λ c. a-listed (a-low (curveOf c))), refl, (with-time (lit< tt) (lit< tt) refl refl (λ c n x m. a-listed (a-lowafter (curveOf c) m)), refl, (with-time (lit< tt) (lit< tt) refl refl (λ c n x m. a-listed (a-capafter (curveOf c) m)), refl, tt))))))
+level-names-mean = (with-curve (lit< tt) (lit< tt) refl refl refl (λ c. an-atom (falling (curveOf c))), refl, (with-curve (lit< tt) (lit< tt) refl refl refl (λ c. an-atom (rising (curveOf c))), refl, (with-curve (lit< tt) (lit< tt) refl refl refl (λ c. a-listed (a-high (curveOf c))), refl, (with-curve (lit< tt) (lit< tt) refl refl refl (λ c. a-listed (a-low (curveOf c))), refl, (with-time (lit< tt) (lit< tt) refl refl refl (λ c n x m. a-listed (a-lowafter (curveOf c) m)), refl, (with-time (lit< tt) (lit< tt) refl refl refl (λ c n x m. a-listed (a-capafter (curveOf c) m)), refl, tt))))))
 
 top-names-mean : Each Head topNames
-top-names-mean = (with-curve (lit< tt) (lit< tt) refl refl (λ c. a-listed (a-peaks (curveOf c))), refl, (with-curve (lit< tt) (lit< tt) refl refl (λ c. a-listed (a-dips (curveOf c))), refl, (bare (lit< tt) (lit< tt) refl (a-listed a-crossup), refl, (bare (lit< tt) (lit< tt) refl (a-listed a-cross), refl, tt))))
+top-names-mean = (with-curve (lit< tt) (lit< tt) refl refl refl (λ c. a-listed (a-peaks (curveOf c))), refl, (with-curve (lit< tt) (lit< tt) refl refl refl (λ c. a-listed (a-dips (curveOf c))), refl, (bare (lit< tt) (lit< tt) refl (a-listed a-crossup), refl, (bare (lit< tt) (lit< tt) refl (a-listed a-cross), refl, tt))))
 
 difference-names-mean : Each Head differenceNames
-difference-names-mean = (with-curve (lit< tt) (lit< tt) refl refl (λ c. a-listed (an-ampl (curveOf c))), refl, (with-curve (lit< tt) (lit< tt) refl refl (λ c. a-listed (a-gaps (curveOf c))), refl, (with-curve (lit< tt) (lit< tt) refl refl (λ c. a-listed (a-steps (curveOf c))), refl, (bare (lit< tt) (lit< tt) refl (a-listed a-lag), refl, tt))))
+difference-names-mean = (with-curve (lit< tt) (lit< tt) refl refl refl (λ c. a-listed (an-ampl (curveOf c))), refl, (with-curve (lit< tt) (lit< tt) refl refl refl (λ c. a-listed (a-gaps (curveOf c))), refl, (with-curve (lit< tt) (lit< tt) refl refl refl (λ c. a-listed (a-steps (curveOf c))), refl, (bare (lit< tt) (lit< tt) refl (a-listed a-lag), refl, tt))))
+
+pigment-reads : (n : ℕ) (x : List ℕ) → PigmentWord x n → Reads primary (bytes "P=" ++ x) (leafOf (row PIGMENT 0 0 n))
+pigment-reads n x (labelled p) = an-atom (pigment-is p)
+
+dose-reads : (n : ℕ) (x : List ℕ) → PigmentWord x n → Reads primary (bytes "dose(" ++ x ++ bytes ")") (leafOf (row DOSE 0 0 n))
+dose-reads n x (labelled p) = a-listed (a-dose p)
+
+pigment-names-mean : Each Head pigmentNames
+pigment-names-mean = (with-pigment (lit< tt) (lit< tt) refl refl refl pigment-reads, refl, (with-pigment-closed (lit< tt) (lit< tt) refl refl refl dose-reads, refl, tt))
 
 openings-mean : Each Head openings
 openings-mean = (opening (lit< tt) (single (lit< tt) (lit< tt) (lit< tt) (λ x p r. an-X r)), refl, (opening (lit< tt) (single (lit< tt) (lit< tt) (lit< tt) (λ x p r. an-F r)), refl, (opening (lit< tt) (single (lit< tt) (lit< tt) (lit< tt) (λ x p r. a-G r)), refl, (opening (lit< tt) (double (lit< tt) (lit< tt) (lit< tt) (λ x y p q r t. a-U r t)), refl, (opening (lit< tt) (double (lit< tt) (lit< tt) (lit< tt) (λ x y p q r t. a-W r t)), refl, (opening (lit< tt) round, refl, tt))))))
 
 heads-mean : Each Head heads
 heads-mean =
-    each-of-both Head fields (levelNames ++ (topNames ++ (differenceNames ++ openings))) fields-mean
-    (each-of-both Head levelNames (topNames ++ (differenceNames ++ openings)) level-names-mean
-    (each-of-both Head topNames (differenceNames ++ openings) top-names-mean (each-of-both Head differenceNames openings difference-names-mean openings-mean)))
+    each-of-both Head fields (levelNames ++ (topNames ++ (differenceNames ++ (pigmentNames ++ openings)))) fields-mean
+    (each-of-both Head levelNames (topNames ++ (differenceNames ++ (pigmentNames ++ openings))) level-names-mean
+    (each-of-both Head topNames (differenceNames ++ (pigmentNames ++ openings)) top-names-mean
+    (each-of-both Head differenceNames (pigmentNames ++ openings) difference-names-mean
+    (each-of-both Head pigmentNames openings pigment-names-mean openings-mean))))
 
 abbrev Relating : ℕ → List ℕ → Type 0
 Relating n w = relationWord (relationOf n) ≡ w
@@ -185,11 +200,35 @@ module _ (s : List ℕ) where
       go (At c m) eu g = timed-held k c m e q g (run-then s w (curveWord (curveOf c)) a (curve-run j c m eu)) (b c)
       go Missing eu g = absurd-leaf q e g
 
+  labelled-held : {i : ℕ} {w : List ℕ} (k j e : ℕ) (q : Row) → pigmentLeafAt s k j ≡ Node q e → Run s i j w → eqb k DOSE ≡ false
+      → ((n : ℕ) (x : List ℕ) → PigmentWord x n → Reads primary (w ++ x) (leafOf (row k 0 0 n))) → Held s primary i e (leafOf q)
+  unfolding pigmentLeafAt
+  labelled-held {i} {w} k j e q h a t b = go (pigmentAt s j) refl (rw t at h)
+    where
+      go : (u : Found) → pigmentAt s j ≡ u → whenFound u (λ n m. Node (row k 0 0 n) m) ≡ Node q e → Held s primary i e (leafOf q)
+      go (At n m) eu g =
+          let d = pigment-sound s j n m eu in
+          held m e (row k 0 0 n) q g (run-then s w (d .spelling) a (record { here = d .here; upto = d .upto })) (b n (d .spelling) (d .holds))
+      go Missing eu g = absurd-leaf q e g
+
+  labelled-closed-held : {i : ℕ} {w : List ℕ} (k j e : ℕ) (q : Row) → pigmentLeafAt s k j ≡ Node q e → Run s i j w → eqb k DOSE ≡ true
+      → ((n : ℕ) (x : List ℕ) → PigmentWord x n → Reads primary (w ++ x ++ bytes ")") (leafOf (row k 0 0 n))) → Held s primary i e (leafOf q)
+  unfolding pigmentLeafAt
+  labelled-closed-held {i} {w} k j e q h a t b = go (pigmentAt s j) refl (rw t at h)
+    where
+      go : (u : Found) → pigmentAt s j ≡ u → whenFound u (λ n m. closedBy s 41 (row k 0 0 n) m) ≡ Node q e → Held s primary i e (leafOf q)
+      go (At n m) eu g =
+          let d = pigment-sound s j n m eu in
+          closed-held m e (row k 0 0 n) q g (run-then s w (d .spelling) a (record { here = d .here; upto = d .upto })) (b n (d .spelling) (d .holds))
+      go Missing eu g = absurd-leaf q e g
+
   headed-held : {i : ℕ} {w : List ℕ} (k j e : ℕ) (q : Row) → Head k w → Run s i j w → headedAt s k j ≡ Node q e → Held s primary i e (leafOf q)
   unfolding headedAt namedAt
   headed-held k j e q (field l) a h = comparison-held k j e q (rw (lt-ltb k FALL l) at h) a
-  headed-held k j e q (with-curve l m x y b) a h = curved-held k j e q (rw (le-ltb k FALL l, lt-ltb k unaryFrom m, x) at h) a y b
-  headed-held k j e q (with-time l m x y b) a h = aftertime-held k j e q (rw (le-ltb k FALL l, lt-ltb k unaryFrom m, x) at h) a y b
+  headed-held k j e q (with-curve l m x p y b) a h = curved-held k j e q (rw (le-ltb k FALL l, lt-ltb k unaryFrom m, x, p) at h) a y b
+  headed-held k j e q (with-time l m x p y b) a h = aftertime-held k j e q (rw (le-ltb k FALL l, lt-ltb k unaryFrom m, x, p) at h) a y b
+  headed-held k j e q (with-pigment l m x p y b) a h = labelled-held k j e q (rw (le-ltb k FALL l, lt-ltb k unaryFrom m, x, p) at h) a y b
+  headed-held k j e q (with-pigment-closed l m x p y b) a h = labelled-closed-held k j e q (rw (le-ltb k FALL l, lt-ltb k unaryFrom m, x, p) at h) a y b
   headed-held k j e q (bare l m x b) a h = held j e (row k 0 0 0) q (rw (le-ltb k FALL l, lt-ltb k unaryFrom m, x) at h) a b
   headed-held k j e q (opening l o) a h =
       let g = rw (le-ltb k FALL (omega arith), le-ltb k unaryFrom l) at h in
@@ -238,18 +277,31 @@ module _ (s : List ℕ) where
       cond-shut (eqb (byte s j) 44) _ Nothing
       (when-shut (numberAt s (j + 1)) (λ n e. closedBy s 41 (row k c 0 n) e) (λ n e. closed-shut (row k c 0 n) e)) tt
 
+  arguments-shut : (k j : ℕ) → Shut (argumentsAt s k j)
+  unfolding argumentsAt
+  arguments-shut k j =
+      when-shut (firstOf curves s j) (λ c m. cond (isTimed k) (timedAt s k c m) (closedBy s 41 (row k c 0 0) m))
+      (λ c m. cond-shut (isTimed k) (timedAt s k c m) (closedBy s 41 (row k c 0 0) m) (timed-shut k c m) (closed-shut (row k c 0 0) m))
+
+  pigment-shut : (k j : ℕ) → Shut (pigmentLeafAt s k j)
+  unfolding pigmentLeafAt
+  pigment-shut k j =
+      when-shut (pigmentAt s j) (λ n m. cond (eqb k DOSE) (closedBy s 41 (row k 0 0 n) m) (Node (row k 0 0 n) m))
+      (λ n m. cond-shut (eqb k DOSE) (closedBy s 41 (row k 0 0 n) m) (Node (row k 0 0 n) m) (closed-shut (row k 0 0 n) m) tt)
+
   named-shut : (k j : ℕ) → Shut (namedAt s k j)
-  unfolding namedAt argumentsAt
+  unfolding namedAt
   named-shut k j =
       cond-shut (isBare k) (Node (row k 0 0 0) j) _ tt
-      (when-shut (firstOf curves s j) (λ c m. cond (isTimed k) (timedAt s k c m) (closedBy s 41 (row k c 0 0) m))
-      (λ c m. cond-shut (isTimed k) (timedAt s k c m) (closedBy s 41 (row k c 0 0) m) (timed-shut k c m) (closed-shut (row k c 0 0) m)))
+      (cond-shut (takesPigment k) (pigmentLeafAt s k j) (argumentsAt s k j) (pigment-shut k j) (arguments-shut k j))
 
   headed-open : {i : ℕ} {w : List ℕ} (k j n e : ℕ) → Head k w → Run s i j w → headedAt s k j ≡ Open n e → Spelt s Opening i n e
   unfolding headedAt
   headed-open k j n e (field l) a h = absurd (subst Shut (rw (lt-ltb k FALL l) at h) (comparison-shut k j))
-  headed-open k j n e (with-curve l m x y b) a h = absurd (subst Shut (rw (le-ltb k FALL l, lt-ltb k unaryFrom m) at h) (named-shut k j))
-  headed-open k j n e (with-time l m x y b) a h = absurd (subst Shut (rw (le-ltb k FALL l, lt-ltb k unaryFrom m) at h) (named-shut k j))
+  headed-open k j n e (with-curve l m x p y b) a h = absurd (subst Shut (rw (le-ltb k FALL l, lt-ltb k unaryFrom m) at h) (named-shut k j))
+  headed-open k j n e (with-time l m x p y b) a h = absurd (subst Shut (rw (le-ltb k FALL l, lt-ltb k unaryFrom m) at h) (named-shut k j))
+  headed-open k j n e (with-pigment l m x p y b) a h = absurd (subst Shut (rw (le-ltb k FALL l, lt-ltb k unaryFrom m) at h) (named-shut k j))
+  headed-open k j n e (with-pigment-closed l m x p y b) a h = absurd (subst Shut (rw (le-ltb k FALL l, lt-ltb k unaryFrom m) at h) (named-shut k j))
   headed-open k j n e (bare l m x b) a h = absurd (subst Shut (rw (le-ltb k FALL l, lt-ltb k unaryFrom m) at h) (named-shut k j))
   headed-open {i} {w} k j n e (opening l o) a h =
       let g = rw (le-ltb k FALL (omega arith), le-ltb k unaryFrom l) at h in
@@ -405,10 +457,10 @@ module _ (s : List ℕ) where
   closed-at r j e = rw (eq-eqb (byte s j) 41 e)
 
   curved-lexed : {t : Text} (k : ℕ) (w : List ℕ) (c : Curve) (i : ℕ) → tellable noByte heads k w ≡ true → FALL ≤ k → k < unaryFrom
-      → isBare k ≡ false → isTimed k ≡ false → leafOf (row k (curveCode c) 0 0) ≡ t
+      → isBare k ≡ false → takesPigment k ≡ false → isTimed k ≡ false → leafOf (row k (curveCode c) 0 0) ≡ t
       → Stands s i (w ++ curveWord c ++ bytes ")") → Lexed s i (i + length (w ++ curveWord c ++ bytes ")")) t
   unfolding leafAt headedAt namedAt argumentsAt
-  curved-lexed k w c i find l m x y t st =
+  curved-lexed k w c i find l m x p y t st =
       let a = length-append w (curveWord c) in
       let b = length-append (w ++ curveWord c) (bytes ")") in
       let d = curve-length c in
@@ -416,14 +468,14 @@ module _ (s : List ℕ) where
       let front = before s (w ++ curveWord c) (bytes ")") i st in
       let back : Stands s (j + 1) (bytes ")") = subst (λ (n : ℕ). Stands s n (bytes ")")) (omega arith) (behind s (w ++ curveWord c) (bytes ")") i st) in
       lexed (j + 1 + 1) _ (row k (curveCode c) 0 0)
-      (rw (found s noByte heads k w i find (before s w (curveWord c) i front) refl, le-ltb k FALL l, lt-ltb k unaryFrom m, x, curve-found j c (behind s w (curveWord c) i front), y) (closed-at (row k (curveCode c) 0 0) (j + 1) (back .0)))
+      (rw (found s noByte heads k w i find (before s w (curveWord c) i front) refl, le-ltb k FALL l, lt-ltb k unaryFrom m, x, p, curve-found j c (behind s w (curveWord c) i front), y) (closed-at (row k (curveCode c) 0 0) (j + 1) (back .0)))
       t (omega arith)
 
   timed-lexed : {t : Text} {u : List ℕ} {n : ℕ} (k : ℕ) (w : List ℕ) (c : Curve) (i : ℕ) → tellable noByte heads k w ≡ true → FALL ≤ k → k < unaryFrom
-      → isBare k ≡ false → isTimed k ≡ true → leafOf (row k (curveCode c) 0 n) ≡ t → Numeral u n
+      → isBare k ≡ false → takesPigment k ≡ false → isTimed k ≡ true → leafOf (row k (curveCode c) 0 n) ≡ t → Numeral u n
       → Stands s i (w ++ curveWord c ++ bytes "," ++ u ++ bytes ")") → Lexed s i (i + length (w ++ curveWord c ++ bytes "," ++ u ++ bytes ")")) t
   unfolding leafAt headedAt namedAt argumentsAt timedAt
-  timed-lexed {t} {u} {n} k w c i find l m x y t′ num st =
+  timed-lexed {t} {u} {n} k w c i find l m x p y t′ num st =
       let a1 = length-append w (curveWord c) in
       let a2 = length-append (w ++ curveWord c) (bytes ",") in
       let a3 = length-append (w ++ curveWord c ++ bytes ",") u in
@@ -438,8 +490,38 @@ module _ (s : List ℕ) where
       let close : Stands s (j + 1 + 1 + length u) (bytes ")") = subst (λ (q : ℕ). Stands s q (bytes ")")) (omega arith) (behind s (w ++ curveWord c ++ bytes "," ++ u) (bytes ")") i st) in
       let stop : isDigit (byte s (j + 1 + 1 + length u)) ≡ false = rw (close .0) refl in
       lexed (j + 1 + 1 + length u + 1) _ (row k (curveCode c) 0 n)
-      (rw (found s noByte heads k w i find (before s w (curveWord c) i s1) refl, le-ltb k FALL l, lt-ltb k unaryFrom m, x, curve-found j c (behind s w (curveWord c) i s1), y, eq-eqb (byte s (j + 1)) 44 (comma .0), number-complete s (j + 1 + 1) num digits stop)
+      (rw (found s noByte heads k w i find (before s w (curveWord c) i s1) refl, le-ltb k FALL l, lt-ltb k unaryFrom m, x, p, curve-found j c (behind s w (curveWord c) i s1), y, eq-eqb (byte s (j + 1)) 44 (comma .0), number-complete s (j + 1 + 1) num digits stop)
       (closed-at (row k (curveCode c) 0 n) (j + 1 + 1 + length u) (close .0)))
+      t′ (omega arith)
+
+  -- `P=` and `dose(` with the number that is written
+  labelled-lexed : {t : Text} {u : List ℕ} {n : ℕ} (k : ℕ) (w : List ℕ) (i : ℕ) → tellable noByte heads k w ≡ true → FALL ≤ k → k < unaryFrom
+      → isBare k ≡ false → takesPigment k ≡ true → eqb k DOSE ≡ false → leafOf (row k 0 0 n) ≡ t → PigmentWord u n
+      → Stands s i (w ++ u) → isDigit (byte s (i + length (w ++ u))) ≡ false → Lexed s i (i + length (w ++ u)) t
+  unfolding leafAt headedAt namedAt pigmentLeafAt
+  labelled-lexed {t} {u} {n} k w i find l m x p y t′ num st e =
+      let a = length-append w u in
+      let j : ℕ = i + length w in
+      let end : j + length u ≡ i + length (w ++ u) = omega arith in
+      let stop : isDigit (byte s (j + length u)) ≡ false = subst (λ (q : ℕ). isDigit (byte s q) ≡ false) (sym end) e in
+      lexed (j + length u) _ (row k 0 0 n)
+      (rw (found s noByte heads k w i find (before s w u i st) refl, le-ltb k FALL l, lt-ltb k unaryFrom m, x, p, pigment-complete s j num (behind s w u i st) stop, y))
+      t′ end
+
+  labelled-closed-lexed : {t : Text} {u : List ℕ} {n : ℕ} (k : ℕ) (w : List ℕ) (i : ℕ) → tellable noByte heads k w ≡ true → FALL ≤ k → k < unaryFrom
+      → isBare k ≡ false → takesPigment k ≡ true → eqb k DOSE ≡ true → leafOf (row k 0 0 n) ≡ t → PigmentWord u n
+      → Stands s i (w ++ u ++ bytes ")") → Lexed s i (i + length (w ++ u ++ bytes ")")) t
+  unfolding leafAt headedAt namedAt pigmentLeafAt
+  labelled-closed-lexed {t} {u} {n} k w i find l m x p y t′ num st =
+      let a = length-append w u in
+      let b = length-append (w ++ u) (bytes ")") in
+      let j : ℕ = i + length w in
+      let front = before s (w ++ u) (bytes ")") i st in
+      let close : Stands s (j + length u) (bytes ")") = subst (λ (q : ℕ). Stands s q (bytes ")")) (omega arith) (behind s (w ++ u) (bytes ")") i st) in
+      let stop : isDigit (byte s (j + length u)) ≡ false = rw (close .0) refl in
+      lexed (j + length u + 1) _ (row k 0 0 n)
+      (rw (found s noByte heads k w i find (before s w u i front) refl, le-ltb k FALL l, lt-ltb k unaryFrom m, x, p, pigment-complete s j num (behind s w u i front) stop, y)
+      (closed-at (row k 0 0 n) (j + length u) (close .0)))
       t′ (omega arith)
 
   bare-lexed : {t : Text} (k : ℕ) (w : List ℕ) (i : ℕ) → tellable letterOrDigit heads k w ≡ true → FALL ≤ k → k < unaryFrom
@@ -450,21 +532,24 @@ module _ (s : List ℕ) where
   pub atom-lexed : {w : List ℕ} {a : Atom} (i : ℕ) → AtomWord w a → Stands s i w → WordEnds s (i + length w) → Lexed s i (i + length w) (atom a)
   atom-lexed {w} i (compared f r o) st e = compared-lexed i f r o st (none-left (isDigit (byte s (i + length w))) (isLetter (byte s (i + length w))) e)
   atom-lexed i (A-with-B r) st e = curves-lexed i r st
-  atom-lexed i (falling c) st e = curved-lexed FALL (bytes "fall(") c i refl (lit< tt) (lit< tt) refl refl (ap (λ (x : Curve). atom (fall x)) (curve-code c)) st
-  atom-lexed i (rising c) st e = curved-lexed RISE (bytes "rise(") c i refl (lit< tt) (lit< tt) refl refl (ap (λ (x : Curve). atom (rise x)) (curve-code c)) st
+  atom-lexed i (falling c) st e = curved-lexed FALL (bytes "fall(") c i refl (lit< tt) (lit< tt) refl refl refl (ap (λ (x : Curve). atom (fall x)) (curve-code c)) st
+  atom-lexed i (rising c) st e = curved-lexed RISE (bytes "rise(") c i refl (lit< tt) (lit< tt) refl refl refl (ap (λ (x : Curve). atom (rise x)) (curve-code c)) st
+  atom-lexed {w} i (pigment-is p) st e =
+      labelled-lexed PIGMENT (bytes "P=") i refl (lit< tt) (lit< tt) refl refl refl refl (labelled p) st (none-left (isDigit (byte s (i + length w))) (isLetter (byte s (i + length w))) e)
 
   pub listed-lexed : {w : List ℕ} {q : Listed} (i : ℕ) → ListedWord w q → Stands s i w → WordEnds s (i + length w) → Lexed s i (i + length w) (listed q)
-  listed-lexed i (a-high c) st e = curved-lexed HIGH (bytes "high(") c i refl (lit< tt) (lit< tt) refl refl (ap (λ (x : Curve). listed (high x)) (curve-code c)) st
-  listed-lexed i (a-low c) st e = curved-lexed LOW (bytes "low(") c i refl (lit< tt) (lit< tt) refl refl (ap (λ (x : Curve). listed (low x)) (curve-code c)) st
-  listed-lexed i (a-lowafter {k = n} c m) st e = timed-lexed LOWAFTER (bytes "lowafter(") c i refl (lit< tt) (lit< tt) refl refl (ap (λ (x : Curve). listed (lowafter x n)) (curve-code c)) m st
-  listed-lexed i (a-capafter {k = n} c m) st e = timed-lexed CAPAFTER (bytes "capafter(") c i refl (lit< tt) (lit< tt) refl refl (ap (λ (x : Curve). listed (capafter x n)) (curve-code c)) m st
-  listed-lexed i (a-peaks c) st e = curved-lexed PEAKS (bytes "peaks(") c i refl (lit< tt) (lit< tt) refl refl (ap (λ (x : Curve). listed (peaks x)) (curve-code c)) st
-  listed-lexed i (a-dips c) st e = curved-lexed DIPS (bytes "dips(") c i refl (lit< tt) (lit< tt) refl refl (ap (λ (x : Curve). listed (dips x)) (curve-code c)) st
+  listed-lexed i (a-high c) st e = curved-lexed HIGH (bytes "high(") c i refl (lit< tt) (lit< tt) refl refl refl (ap (λ (x : Curve). listed (high x)) (curve-code c)) st
+  listed-lexed i (a-low c) st e = curved-lexed LOW (bytes "low(") c i refl (lit< tt) (lit< tt) refl refl refl (ap (λ (x : Curve). listed (low x)) (curve-code c)) st
+  listed-lexed i (a-lowafter {k = n} c m) st e = timed-lexed LOWAFTER (bytes "lowafter(") c i refl (lit< tt) (lit< tt) refl refl refl (ap (λ (x : Curve). listed (lowafter x n)) (curve-code c)) m st
+  listed-lexed i (a-capafter {k = n} c m) st e = timed-lexed CAPAFTER (bytes "capafter(") c i refl (lit< tt) (lit< tt) refl refl refl (ap (λ (x : Curve). listed (capafter x n)) (curve-code c)) m st
+  listed-lexed i (a-peaks c) st e = curved-lexed PEAKS (bytes "peaks(") c i refl (lit< tt) (lit< tt) refl refl refl (ap (λ (x : Curve). listed (peaks x)) (curve-code c)) st
+  listed-lexed i (a-dips c) st e = curved-lexed DIPS (bytes "dips(") c i refl (lit< tt) (lit< tt) refl refl refl (ap (λ (x : Curve). listed (dips x)) (curve-code c)) st
   listed-lexed i a-cross st e = bare-lexed CROSS (bytes "cross") i refl (lit< tt) (lit< tt) refl refl st e
   listed-lexed i a-crossup st e = bare-lexed CROSSUP (bytes "crossup") i refl (lit< tt) (lit< tt) refl refl st e
-  listed-lexed i (an-ampl c) st e = curved-lexed AMPL (bytes "ampl(") c i refl (lit< tt) (lit< tt) refl refl (ap (λ (x : Curve). listed (ampl x)) (curve-code c)) st
-  listed-lexed i (a-gaps c) st e = curved-lexed GAPS (bytes "gaps(") c i refl (lit< tt) (lit< tt) refl refl (ap (λ (x : Curve). listed (gaps x)) (curve-code c)) st
-  listed-lexed i (a-steps c) st e = curved-lexed STEPS (bytes "steps(") c i refl (lit< tt) (lit< tt) refl refl (ap (λ (x : Curve). listed (steps x)) (curve-code c)) st
+  listed-lexed i (a-dose p) st e = labelled-closed-lexed DOSE (bytes "dose(") i refl (lit< tt) (lit< tt) refl refl refl refl (labelled p) st
+  listed-lexed i (an-ampl c) st e = curved-lexed AMPL (bytes "ampl(") c i refl (lit< tt) (lit< tt) refl refl refl (ap (λ (x : Curve). listed (ampl x)) (curve-code c)) st
+  listed-lexed i (a-gaps c) st e = curved-lexed GAPS (bytes "gaps(") c i refl (lit< tt) (lit< tt) refl refl refl (ap (λ (x : Curve). listed (gaps x)) (curve-code c)) st
+  listed-lexed i (a-steps c) st e = curved-lexed STEPS (bytes "steps(") c i refl (lit< tt) (lit< tt) refl refl refl (ap (λ (x : Curve). listed (steps x)) (curve-code c)) st
   listed-lexed i a-lag st e = bare-lexed LAG (bytes "lag") i refl (lit< tt) (lit< tt) refl refl st e
 
   -- `crossup` IS NEVER READ AS `cross`, wherever it stands and whatever follows
@@ -526,12 +611,23 @@ module _ (s : List ℕ) where
       cond-low (eqb (byte s j) 44) _ Nothing
       (λ e. when-low (numberAt s (j + 1)) (λ n m. closedBy s 41 (row k c 0 n) m) (λ n m. closed-low (row k c 0 n) m h)) (λ e. tt)
 
+  arguments-low : (k j : ℕ) → k < unaryFrom → Low (argumentsAt s k j)
+  unfolding argumentsAt
+  arguments-low k j h =
+      when-low (firstOf curves s j) (λ c m. cond (isTimed k) (timedAt s k c m) (closedBy s 41 (row k c 0 0) m))
+      (λ c m. cond-low (isTimed k) (timedAt s k c m) (closedBy s 41 (row k c 0 0) m) (λ q. timed-low k c m h) (λ q. closed-low (row k c 0 0) m h))
+
+  pigment-low : (k j : ℕ) → k < unaryFrom → Low (pigmentLeafAt s k j)
+  unfolding pigmentLeafAt
+  pigment-low k j h =
+      when-low (pigmentAt s j) (λ n m. cond (eqb k DOSE) (closedBy s 41 (row k 0 0 n) m) (Node (row k 0 0 n) m))
+      (λ n m. cond-low (eqb k DOSE) (closedBy s 41 (row k 0 0 n) m) (Node (row k 0 0 n) m) (λ q. closed-low (row k 0 0 n) m h) (λ q. h))
+
   named-low : (k j : ℕ) → k < unaryFrom → Low (namedAt s k j)
-  unfolding namedAt argumentsAt
+  unfolding namedAt
   named-low k j h =
       cond-low (isBare k) (Node (row k 0 0 0) j) _ (λ e. h)
-      (λ e. when-low (firstOf curves s j) (λ c m. cond (isTimed k) (timedAt s k c m) (closedBy s 41 (row k c 0 0) m))
-      (λ c m. cond-low (isTimed k) (timedAt s k c m) (closedBy s 41 (row k c 0 0) m) (λ q. timed-low k c m h) (λ q. closed-low (row k c 0 0) m h)))
+      (λ e. cond-low (takesPigment k) (pigmentLeafAt s k j) (argumentsAt s k j) (λ q. pigment-low k j h) (λ q. arguments-low k j h))
 
   headed-low : (k j : ℕ) → Low (headedAt s k j)
   unfolding headedAt comparisonAt

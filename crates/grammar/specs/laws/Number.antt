@@ -10,12 +10,13 @@ use lib.ListN.{length, getD, drop, drop-of-length-le, length-drop}
 use lib.Seq.{drop-cons}
 use borrow.Author.Tests.{eq-eqb, ne-eqb, eqb-true, eqb-false, ltb-true, ltb-false, leb-true, le-leb}
 use Rattle.number.specs.Axis.{origin}
+use Rattle.recording.specs.Recording.{mostPigments}
 use Rattle.grammar.specs.declared.Found.{Found}
 use Rattle.grammar.specs.declared.Found.the-variants.{At, Missing}
 use Rattle.grammar.specs.Bytes.{bytes}
 use Rattle.grammar.specs.Classes.{isDigit}
-use Rattle.grammar.specs.Grammar.{decimal, decimalFrom, AllDigits, Positive, Numeral, zero-itself, plain, minus}
-use Rattle.grammar.specs.inner.Lexer.{byte, digitRun, bounded, unsignedAt, negated, shifted, numberAt}
+use Rattle.grammar.specs.Grammar.{decimal, decimalFrom, AllDigits, Positive, Numeral, zero-itself, plain, minus, PigmentNumber}
+use Rattle.grammar.specs.inner.Lexer.{byte, digitRun, bounded, unsignedAt, negated, shifted, numberAt, ofPigment, pigmentAt}
 use Rattle.grammar.specs.laws.Word.{Stands, Spelt, inside, bound, and-left, and-right, one-byte}
 
 pub digit-low : (b : ℕ) → isDigit b ≡ true → 48 ≤ b
@@ -68,7 +69,7 @@ module _ (s : List ℕ) where
   -- what `unsignedAt` finds
   pub data Unsigned (i : ℕ) : ℕ → ℕ → Type 0 where
     naught : byte s i ≡ 48 → Unsigned i 0 (i + 1)
-    counted : (d : ℕ) (w : List ℕ) → Positive d w → Stands s i (d ∷ w) → Unsigned i (decimal (d ∷ w)) (i + length (d ∷ w))
+    counted : (d : ℕ) (w : List ℕ) → Positive origin d w → Stands s i (d ∷ w) → Unsigned i (decimal (d ∷ w)) (i + length (d ∷ w))
 
 module _ (s : List ℕ) (i : ℕ) where
   bounded-is : (w : List ℕ) (n j m e : ℕ) → bounded m e ≡ At n j → (m ≡ n) × (e ≡ j) × (m ≤ origin)
@@ -88,7 +89,7 @@ module _ (s : List ℕ) (i : ℕ) where
       let w : List ℕ = digitRun (drop (i + 1) s) in
       let x : Unsigned s i (decimal (byte s i ∷ w)) (i + length (byte s i ∷ w)) =
       counted (byte s i) w
-      (record { first = omega arith; digits = rw r at (st .1); onAxis = rw r at (b .2) })
+      (record { first = omega arith; digits = rw r at (st .1); within = rw r at (b .2) })
       (rw r at (st .0)) in
       subst (λ (m : ℕ). Unsigned s i m j) (rw r at (b .0)) (subst (λ (k : ℕ). Unsigned s i (decimal (byte s i ∷ w)) k) (rw r at (b .1)) x)
 
@@ -104,17 +105,17 @@ module _ (s : List ℕ) (i : ℕ) where
       go false true p q g = digits-sound n j q (eqb-false (byte s i) 48 p) g
       go false false p q g = let z : _≡_ {A = ℕ} 0 1 = cc in absurd (omega arith)
 
-  pub unsigned-counted : (d : ℕ) (w : List ℕ) → Positive d w → Stands s i (d ∷ w) → isDigit (byte s (i + length (d ∷ w))) ≡ false → unsignedAt s i ≡ At (decimal (d ∷ w)) (i + length (d ∷ w))
+  pub unsigned-counted : (d : ℕ) (w : List ℕ) → Positive origin d w → Stands s i (d ∷ w) → isDigit (byte s (i + length (d ∷ w))) ≡ false → unsignedAt s i ≡ At (decimal (d ∷ w)) (i + length (d ∷ w))
   unfolding unsignedAt
   unsigned-counted d w p st e =
       let f = p .first in
       let r = run-is s (d ∷ w) i (p .digits) st e in
       let n : eqb (byte s i) 48 ≡ false = ne-eqb (byte s i) 48 (λ q. omega (arith, st .0)) in
       let y : isDigit (byte s i) ≡ true = rw (st .0) (p .digits .0) in
-      rw (n, y, r, le-leb (decimal (d ∷ w)) origin (p .onAxis))
+      rw (n, y, r, le-leb (decimal (d ∷ w)) origin (p .within))
 
 -- the first byte of a positive numeral, which is neither `0` nor `-`
-positive-first : (d : ℕ) (w : List ℕ) → Positive d w → (49 ≤ d) × (d ≤ 57)
+positive-first : (d : ℕ) (w : List ℕ) → Positive origin d w → (49 ≤ d) × (d ≤ 57)
 positive-first d w p = (p .first, digit-high d (p .digits .0))
 
 module _ (s : List ℕ) where
@@ -171,3 +172,49 @@ module _ (s : List ℕ) (i : ℕ) where
   numeral-first zero-itself st = omega (arith, st .0)
   numeral-first (plain {d} {w} p) st = let f = positive-first d w p in omega (arith, st .0)
   numeral-first (minus p) st = omega (arith, st .0)
+
+-- THE NUMBER OF A PIGMENT
+pub data PigmentWord : List ℕ → ℕ → Type 0 where
+  labelled : {d : ℕ} {w : List ℕ} → PigmentNumber d w → PigmentWord (d ∷ w) (decimal (d ∷ w))
+
+-- IT IS 1 TO 16
+pub pigment-range : {w : List ℕ} {n : ℕ} → PigmentWord w n → (1 ≤ n) × (n ≤ mostPigments)
+pigment-range (labelled {d} {w} p) = let f = p .first in let g = decimal-grows w (10 * 0 + (d - 48)) in (omega arith, p .within)
+
+of-pigment-is : (m j n e : ℕ) → ofPigment (At m j) ≡ At n e → (m ≡ n) × (j ≡ e) × (0 < m) × (m ≤ mostPigments)
+of-pigment-is zero j n e h = let z : _≡_ {A = ℕ} 0 1 = cc in absurd (omega arith)
+of-pigment-is (suc m) j n e h = go (leb (suc m) mostPigments) refl h
+  where
+    go : (b : Bool) → leb (suc m) mostPigments ≡ b → cond b (At (suc m) j) Missing ≡ At n e → (suc m ≡ n) × (j ≡ e) × (0 < suc m) × (suc m ≤ mostPigments)
+    go true q g = (cc, cc, omega arith, leb-true (suc m) mostPigments q)
+    go false q g = let z : _≡_ {A = ℕ} 0 1 = cc in absurd (omega arith)
+
+of-pigment-at : (m j : ℕ) → 0 < m → m ≤ mostPigments → ofPigment (At m j) ≡ At m j
+of-pigment-at zero j l h = absurd (omega arith)
+of-pigment-at (suc m) j l h = rw (le-leb (suc m) mostPigments h)
+
+module _ (s : List ℕ) (i : ℕ) where
+  pub pigment-sound : (n j : ℕ) → pigmentAt s i ≡ At n j → Spelt s (λ m w. PigmentWord w m) i n j
+  unfolding pigmentAt
+  pigment-sound n j h = go (unsignedAt s i) refl h
+    where
+      made : (m k : ℕ) → Unsigned s i m k → 0 < m → m ≤ mostPigments → m ≡ n → k ≡ j → Spelt s (λ m w. PigmentWord w m) i n j
+      made m k (naught b) l g x y = absurd (omega arith)
+      made m k (counted d w p st) l g x y =
+          record {
+            spelling = d ∷ w;
+            holds = subst (PigmentWord (d ∷ w)) x (labelled (record { first = p .first; digits = p .digits; within = g }));
+            here = st;
+            upto = sym y;
+          }
+
+      go : (f : Found) → unsignedAt s i ≡ f → ofPigment f ≡ At n j → Spelt s (λ m w. PigmentWord w m) i n j
+      go (At m k) e g = let x = of-pigment-is m k n j g in made m k (unsigned-sound s i m k e) (x .2) (x .3) (x .0) (x .1)
+      go Missing e g = let z : _≡_ {A = ℕ} 0 1 = cc in absurd (omega arith)
+
+  pub pigment-complete : {w : List ℕ} {n : ℕ} → PigmentWord w n → Stands s i w → isDigit (byte s (i + length w)) ≡ false → pigmentAt s i ≡ At n (i + length w)
+  unfolding pigmentAt
+  pigment-complete (labelled {d} {w} p) st e =
+      let r = pigment-range (labelled p) in
+      ap ofPigment (unsigned-counted s i d w (record { first = p .first; digits = p .digits; within = omega arith }) st e)
+      ∙ of-pigment-at (decimal (d ∷ w)) (i + length (d ∷ w)) (r .0) (r .1)

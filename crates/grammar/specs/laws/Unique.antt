@@ -15,7 +15,7 @@ use Rattle.grammar.specs.declared.Leaf.the-variants.{Node, Open, Nothing
 use Rattle.grammar.specs.Bytes.{bytes}
 use Rattle.grammar.specs.Syntax.{of, T, Atom, Listed, Text, atom, listed}
 use Rattle.grammar.specs.Size.{mixed}
-use Rattle.grammar.specs.Grammar.{AtomWord, compared, curves as A-with-B, falling, rising, ListedWord, a-high, a-low, a-lowafter, a-capafter, a-peaks, a-dips, a-cross, a-crossup, an-ampl, a-gaps, a-steps, a-lag, Level, alternation, conjunction, negation, primary, Reads, one-conjunction, bar, one-negation, ampersand, one-primary, bang, bracketed, an-F, a-G, an-X, a-U, a-W, an-atom, a-listed, ReadsWhole}
+use Rattle.grammar.specs.Grammar.{AtomWord, compared, curves as A-with-B, falling, rising, pigment-is, ListedWord, a-high, a-low, a-lowafter, a-capafter, a-peaks, a-dips, a-cross, a-crossup, a-dose, an-ampl, a-gaps, a-steps, a-lag, Level, alternation, conjunction, negation, primary, Reads, one-conjunction, bar, one-negation, ampersand, one-primary, bang, bracketed, an-F, a-G, an-X, a-U, a-W, an-atom, a-listed, ReadsWhole}
 use Rattle.grammar.specs.inner.Kinds.{NOT, NEXT, FINALLY, GLOBALLY, UNTIL, WEAK-UNTIL, BRACKET}
 use Rattle.grammar.specs.inner.Table.{binaryFrom, kinds}
 use Rattle.grammar.specs.inner.Lexer.{byte, leafAt}
@@ -196,6 +196,7 @@ longer (an-atom a) = atom-longer a
     atom-longer (A-with-B r) = omega arith
     atom-longer (falling c) = omega arith
     atom-longer (rising c) = omega arith
+    atom-longer (pigment-is p) = omega arith
 longer (a-listed q) = listed-longer q
   where
     listed-longer : {w : List ℕ} {q : Listed} → ListedWord w q → 0 < length w
@@ -207,6 +208,7 @@ longer (a-listed q) = listed-longer q
     listed-longer (a-dips c) = omega arith
     listed-longer a-cross = omega arith
     listed-longer a-crossup = omega arith
+    listed-longer (a-dose p) = omega arith
     listed-longer (an-ampl c) = omega arith
     listed-longer (a-gaps c) = omega arith
     listed-longer (a-steps c) = omega arith
@@ -299,6 +301,7 @@ module _ (s : List ℕ) where
       go (A-with-B r) st = omega (arith, st .0)
       go (falling c) st = omega (arith, st .0)
       go (rising c) st = omega (arith, st .0)
+      go (pigment-is p) st = omega (arith, st .0)
   no-bang i (a-listed q) st e = go q st
     where
       go : {w : List ℕ} {q : Listed} → ListedWord w q → Stands s i w → ⊥
@@ -310,6 +313,7 @@ module _ (s : List ℕ) where
       go (a-dips c) st = omega (arith, st .0)
       go a-cross st = omega (arith, st .0)
       go a-crossup st = omega (arith, st .0)
+      go (a-dose p) st = omega (arith, st .0)
       go (an-ampl c) st = omega (arith, st .0)
       go (a-gaps c) st = omega (arith, st .0)
       go (a-steps c) st = omega (arith, st .0)

@@ -1,4 +1,4 @@
--- One run by its ends, else the times of events or the differences between tops.
+-- One run by its ends, else the times of events or additions, or the differences between tops.
 use Prim.Native.Nat.{ℕ}
 use mathlib.Core.Bool.{Bool}
 use mathlib.Core.List.{List}
@@ -39,29 +39,38 @@ same-length-2 c = search needs
 returns-2 : tie.Need-returns-2
 returns-2 c = search needs
 
+added-requires : tie.Need-added-requires
+added-requires c κs = search needs
+
+same-length-3 : tie.Need-same-length-3
+same-length-3 c = search needs
+
+returns-3 : tie.Need-returns-3
+returns-3 c = search needs
+
 amplitude-requires : tie.Need-amplitude-requires
 amplitude-requires c κs = search needs
 
 span-requires-2 : tie.Need-span-requires-2
 span-requires-2 c κs = search needs
 
-same-length-3 : tie.Need-same-length-3
-same-length-3 c = search needs
+same-length-4 : tie.Need-same-length-4
+same-length-4 c = search needs
 
-returns-3 : tie.Need-returns-3
-returns-3 c =
-    let s = c .before .before .before .before .before .before .before .before .before .before in
+returns-4 : tie.Need-returns-4
+returns-4 c =
+    let s = c .before .before .before .before .before .before .before .before .before .before .before in
     let r = c .before .before .before .before .amplitude in
     spans-make (members (s .args .rec .now) (s .args .i) (s .args .row)) (r .result) _ (r .ensures) (c .before .before .span2 .ensures)
 
 apart-requires : tie.Need-apart-requires
 apart-requires c κs = search needs
 
-same-length-4 : tie.Need-same-length-4
-same-length-4 c = search needs
+same-length-5 : tie.Need-same-length-5
+same-length-5 c = search needs
 
-returns-4 : tie.Need-returns-4
-returns-4 c = search needs
+returns-5 : tie.Need-returns-5
+returns-5 c = search needs
 
 pub leaf-spec : {M : Type 1} → statement M
 leaf-spec =
@@ -74,10 +83,13 @@ leaf-spec =
     happening-requires
     same-length-2
     returns-2
-    amplitude-requires
-    span-requires-2
+    added-requires
     same-length-3
     returns-3
-    apart-requires
+    amplitude-requires
+    span-requires-2
     same-length-4
-    returns-4)
+    returns-4
+    apart-requires
+    same-length-5
+    returns-5)

@@ -12,17 +12,18 @@ use lib.Seq.{take-all, ext-getD, getD-take, length-take-le, getD-set-same, getD-
 use Rattle.number.specs.Axis.{axis}
 use Rattle.number.specs.laws.Order.{less-or-not}
 use Rattle.recording.specs.Condition.{pick}
-use Rattle.recording.specs.Reading.{Event, event, edge}
+use Rattle.recording.specs.Reading.{Event, event, edge, added}
 use Rattle.recording.specs.Recording.{readings, mostRecords, Accepted}
 use Rattle.recording.specs.laws.Acceptance.{accepted-sound}
 use Rattle.tops.specs.Tops as raw
 use Rattle.tops.specs.inner.Scan.{Scanned}
 use Rattle.tops.specs.laws.Scan.{scanned-at}
 use Rattle.tops.specs.laws.Event.{events-half}
-use Rattle.meaning.specs.inner.Coded.{codedSign, codedTimes}
+use Rattle.tops.specs.laws.Addition.{additions-few}
+use Rattle.meaning.specs.inner.Coded.{codedSign, codedAdds, codedTimes, codedAdditions}
 use Rattle.meaning.specs.laws.Recorded.{accepted-recorded}
 use Rattle.meaning.specs.laws.Pick.{map-map}
-use Rattle.meaning.specs.laws.Listed.{all-settled, event-code}
+use Rattle.meaning.specs.laws.Listed.{all-settled, event-code, additions-code}
 use Rattle.differences.specs.inner.Times.{Times}
 use Rattle.differences.specs.laws.Times.{picked-times}
 use Rattle.meaning.specs.inner.Coded.{coded}
@@ -112,3 +113,19 @@ module _ (rec : List ℕ) (a : Accepted rec) where
   events-few e =
       let s = ap length (event-stamps e) ∙ length-map (raw.eventTimes e (readings rec)) indexOf in
       omega (arith, events-half e (readings rec), few)
+
+  -- ---- additions
+
+  pub addition-stamps : (k : ℕ) → codedAdditions k (coded rec) ≡ map indexOf (raw.additionTimes k (readings rec))
+  unfolding raw.additionTimes
+  addition-stamps k =
+      additions-code k (readings rec) (all-settled (readings rec) (accepted-recorded rec a .in-range))
+      ∙ sym (map-map raw.recordedTime indexOf (pick (added k) (readings rec)))
+
+  pub addition-times : (k : ℕ) → Times (codedAdditions k (coded rec))
+  addition-times k = picked-times (readings rec) (accepted-recorded rec a) (λ before x after. codedAdds k x)
+
+  pub additions-room : (k : ℕ) → length (codedAdditions k (coded rec)) ≤ mostRecords
+  additions-room k =
+      let s = ap length (addition-stamps k) ∙ length-map (raw.additionTimes k (readings rec)) indexOf in
+      omega (arith, additions-few k (readings rec), few)

@@ -1,6 +1,6 @@
 -- Readings as code holds them: the time and the values as indices of the axis.
-use Prim.Native.Nat.{ℕ, suc, _+_, _-_}
-use mathlib.Core.Bool.{Bool, not}
+use Prim.Native.Nat.{ℕ, zero, suc, _+_, _-_}
+use mathlib.Core.Bool.{Bool, false, not}
 use mathlib.Core.List.{List, map}
 use lib.Dec.{leb, ltb, eqb}
 use lib.IntN.{ℤ, pos, negsuc}
@@ -20,6 +20,7 @@ pub record Coded : Type 0 where
   pub b : ℕ
   pub slope-a : ℕ
   pub slope-b : ℕ
+  pub pigment : ℕ
 
 abbrev pub code : Reading → Coded
 code x = record {
@@ -28,6 +29,7 @@ code x = record {
   b = index (x .b);
   slope-a = x .slope-a;
   slope-b = x .slope-b;
+  pigment = x .pigment;
 }
 
 -- a recording
@@ -56,6 +58,11 @@ codedRises c x = eqb (codedSlope c x) 2
 abbrev pub codedCrossed : Coded → Bool
 codedCrossed x = leb (x .a) (x .b)
 
+-- the pigment with the number k is added
+abbrev pub codedAdds : ℕ → Coded → Bool
+codedAdds zero x = false
+codedAdds (suc k) x = eqb (x .pigment) (suc k)
+
 -- T > k
 abbrev pub codedAfter : ℕ → Coded → Bool
 codedAfter k x = ltb k (x .time)
@@ -73,3 +80,7 @@ timesOf ρ r = map (λ (x : Coded). x .time) (pick ρ r)
 
 abbrev pub codedTimes : Event → List Coded → List ℕ
 codedTimes e r = timesOf (edge (codedSign e)) r
+
+-- the times of the additions of pigment k
+abbrev pub codedAdditions : ℕ → List Coded → List ℕ
+codedAdditions k r = timesOf (λ before x after. codedAdds k x) r

@@ -9,8 +9,8 @@ use Rattle.number.specs.Axis.{origin}
 use Rattle.runset.specs.Runs.{runCount, mostRuns}
 use Rattle.recording.specs.Condition.{someOf}
 use Rattle.recording.specs.Reading.{Curve, A, B, a-top, a-dip, a-crossing, an-upcrossing}
-use Rattle.grammar.specs.Syntax.{Field, of, T, Relation, ge, le, gt, lt, eq, Operand, v, number, Atom, compare, A-to-B, fall, rise, Listed, high, low, lowafter, capafter, peaks, dips, cross, crossup, ampl, gaps, steps, lag, Text, atom, listed, or, and, neg, finally, globally, next, until, weakUntil}
-use Rattle.meaning.specs.inner.Coded.{Coded, blank, codedValue, codedFalls, codedRises, codedAfter, codedTimes}
+use Rattle.grammar.specs.Syntax.{Field, of, T, Relation, ge, le, gt, lt, eq, Operand, v, number, Atom, compare, A-to-B, fall, rise, pigment, Listed, high, low, lowafter, capafter, peaks, dips, cross, crossup, dose, ampl, gaps, steps, lag, Text, atom, listed, or, and, neg, finally, globally, next, until, weakUntil}
+use Rattle.meaning.specs.inner.Coded.{Coded, blank, codedValue, codedFalls, codedRises, codedAdds, codedAfter, codedTimes, codedAdditions}
 use Rattle.grammar.specs.Size.{temporal}
 use Rattle.tops.specs.Tops.{mostTops}
 
@@ -50,6 +50,7 @@ truth (peaks c) r n = among n (codedTimes (a-top c) r)
 truth (dips c) r n = among n (codedTimes (a-dip c) r)
 truth cross r n = among n (codedTimes a-crossing r)
 truth crossup r n = among n (codedTimes an-upcrossing r)
+truth (dose k) r n = among n (codedAdditions k r)
 truth (ampl c) r n = someOf (λ x. someOf (λ y. leb (codedValue c x + n) (codedValue c y + origin)) r) r
 truth (gaps c) r n = somePair (apart n) (codedTimes (a-top c) r)
 truth (steps c) r n = someStep (apart n) (codedTimes (a-top c) r)
@@ -77,6 +78,7 @@ atomVal (compare f ρ o) x n = relate ρ (codedField f x) (codedOperand o n)
 atomVal (A-to-B ρ) x n = relate ρ (x .a) (x .b)
 atomVal (fall c) x n = codedFalls c x
 atomVal (rise c) x n = codedRises c x
+atomVal (pigment k) x n = codedAdds k x
 
 -- ---- texts
 
@@ -163,6 +165,7 @@ asksTooMany r (peaks c) = false
 asksTooMany r (dips c) = false
 asksTooMany r cross = false
 asksTooMany r crossup = false
+asksTooMany r (dose k) = false
 asksTooMany r (ampl c) = false
 asksTooMany r (gaps c) = manyTops c r
 asksTooMany r (steps c) = manyTops c r

@@ -12,8 +12,8 @@ use lib.Signed.{leZ, ltZ, _≤ℤ_, _<ℤ_, ltZ-no, clashℤ}
 use borrow.Author.Tests.{ltb-true, lt-ltb}
 use Rattle.number.specs.Axis.{origin, whole}
 use Rattle.recording.specs.Condition.{Condition, pick, someOf}
-use Rattle.recording.specs.Reading.{Reading, Curve, A, B, value, top, Event, a-top, a-dip, a-crossing, an-upcrossing, event, nothing}
-use Rattle.grammar.specs.Syntax.{Listed, high, low, lowafter, capafter, peaks, dips, cross, crossup, ampl, gaps, steps, lag, Text, atom, listed, or, and, neg, finally, globally, next, until, weakUntil}
+use Rattle.recording.specs.Reading.{Reading, Curve, A, B, value, top, Event, a-top, a-dip, a-crossing, an-upcrossing, event, added, nothing}
+use Rattle.grammar.specs.Syntax.{Listed, high, low, lowafter, capafter, peaks, dips, cross, crossup, dose, ampl, gaps, steps, lag, Text, atom, listed, or, and, neg, finally, globally, next, until, weakUntil}
 use Rattle.meaning.specs.Listed.{recordAt, SomeRecord, EachRecord, TimeOf, timeOf, After, between, Says}
 use Rattle.meaning.specs.Meaning.{readingAt, AtomSays, Holds}
 use Rattle.meaning.specs.Overfull.{children, Node, itself, below, Overfull, TooManyTops}
@@ -97,9 +97,11 @@ module _ {marks : List ℕ} {r s : List Reading} (l : Alike marks r s) where
   capped k c z r s found cap i h a = ltZ-no (not-T (ltZ z (value c (recordAt s i))) (λ t.
       let f = found (i, h, (a, record { lt = t })) in clashℤ (f .2 .1) (cap (f .0) (f .1) (f .2 .0))))
 
+  times-alike : (ρ : Condition Reading) → times ρ r ≡ times ρ s → (z : ℤ) → TimeOf ρ r z ↔ TimeOf ρ s z
+  times-alike ρ e z = through (someOf (is-time z) (times ρ r)) (someOf (is-time z) (times ρ s)) (ap (someOf (is-time z)) e) (of-times r z ρ) (of-times s z ρ)
+
   event-alike : (e : Event) (z : ℤ) → TimeOf (event e) r z ↔ TimeOf (event e) s z
-  event-alike e z = through (someOf (is-time z) (times (event e) r)) (someOf (is-time z) (times (event e) s))
-      (ap (someOf (is-time z)) (l .events e)) (of-times r z (event e)) (of-times s z (event e))
+  event-alike e = times-alike (event e) (l .events e)
 
   says-alike : (q : Listed) → ((k : ℕ) → List·Memᴰ k (afterTime q) → List·Memᴰ k (map markIndex marks)) → (z : ℤ) → Says q r z ↔ Says q s z
   unfolding Says
@@ -113,6 +115,7 @@ module _ {marks : List ℕ} {r s : List Reading} (l : Alike marks r s) where
   says-alike (dips c) m z = event-alike (a-dip c) z
   says-alike cross m z = event-alike a-crossing z
   says-alike crossup m z = event-alike an-upcrossing z
+  says-alike (dose k) m z = times-alike (added k) (l .additions k) z
   says-alike (ampl c) m z = (
     λ h. (h .0, l .down c (h .0) .0 (h .1), l .up c (h .0 +ℤ z) .0 (h .2)),
     λ h. (h .0, l .down c (h .0) .1 (h .1), l .up c (h .0 +ℤ z) .1 (h .2)),
@@ -199,6 +202,7 @@ flipped l = record {
   up-after = λ k m c z. back (l .up-after k m c z);
   down-after = λ k m c z. back (l .down-after k m c z);
   events = λ e. sym (l .events e);
+  additions = λ k. sym (l .additions k);
 }
 
 overfull-alike : {marks : List ℕ} {r s : List Reading} → Alike marks r s → (p : Text) → Plain marks p → 0 < length s → Overfull r p → Overfull s p
@@ -274,6 +278,7 @@ pub record Tested (marks : List ℕ) (r s : List Reading) : Type 0 where
   pub down-after : (m : ℕ) → List·Memᴰ m marks → (c : Curve) (z : ℤ)
       → someOf (λ x. ltb m (x .time) && leZ (value c x) z) r ≡ someOf (λ x. ltb m (x .time) && leZ (value c x) z) s
   pub events : (e : Event) → pick (event e) r ≡ pick (event e) s
+  pub additions : (k : ℕ) → pick (added k) r ≡ pick (added k) s
 
 pub tested-alike : {marks : List ℕ} {r s : List Reading} → Tested marks r s → Alike marks r s
 tested-alike {marks} {r} {s} t = record {
@@ -283,6 +288,7 @@ tested-alike {marks} {r} {s} t = record {
   up-after = λ k e c z. up k (mark-of marks k e) c z;
   down-after = λ k e c z. down k (mark-of marks k e) c z;
   events = λ e. ap (map (λ (x : Reading). x .time)) (t .events e);
+  additions = λ k. ap (map (λ (x : Reading). x .time)) (t .additions k);
 }
   where
     up : (k : ℕ) → ((m : ℕ) × List·Memᴰ m marks × (markIndex m ≡ k)) → (c : Curve) (z : ℤ)

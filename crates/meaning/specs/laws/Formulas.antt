@@ -1,4 +1,4 @@
--- Asked alone, each of the eight questions that have a formula equals it, asked alone, in set and in refusal 8.
+-- Asked alone, each of the nine questions that have a formula equals it, asked alone, in set and in refusal 8.
 -- The set: F and G along the records are some and all of the list. Refusal 8: the nodes below F and G have at most one run, and F has at a later record no more runs
 -- than at the first, for one more reading in front puts in a number below all others.
 use Prim.Native.Nat.{ℕ, zero, suc, _-_, _≤_, _<_, min}
@@ -6,24 +6,24 @@ use native.Mathlib.Omega.{arith}
 use native.Mathlib.Nat.{le-refl}
 use mathlib.Core.Path.{_≡_, refl, sym, ap, _∙_}
 use mathlib.Core.Bool.{Bool, true, false, _&&_, _||_, not, true≢false}
-use mathlib.Core.Logic.{_↔_}
+use mathlib.Core.Logic.{_↔_, _⊎_, inl, inr}
 use mathlib.Core.List.{List, [], _∷_, map}
 use lib.Dec.{ltb, leb, eqb}
-use lib.ListN.{length, getD}
+use lib.ListN.{length, getD, drop}
 use borrow.Author.Tests.{ltb-true, lt-ltb, le-ltb, leb-true, leb-false, eqb-true}
 use Rattle.number.specs.Axis.{axis, whole}
 use Rattle.runset.specs.Runs.{runCount, mostRuns}
 use Rattle.recording.specs.Condition.{pick, pickFrom, when, someOf}
 use Rattle.recording.specs.Reading.{Reading, Curve, edge}
-use Rattle.grammar.specs.Syntax.{of, T, ge, le, gt, eq, v, number, Atom, compare, A-to-B, fall, rise, Listed, Text, atom, listed, or, and, neg, finally, globally, next}
+use Rattle.grammar.specs.Syntax.{of, T, ge, le, gt, eq, v, number, Atom, compare, A-to-B, fall, rise, pigment, Listed, dose, Text, atom, listed, or, and, neg, finally, globally, next}
 use Rattle.meaning.specs.Meaning.{Holds}
 use Rattle.meaning.specs.Overfull.{Overfull}
 use Rattle.grammar.specs.Size.{temporal}
 use Rattle.meaning.specs.inner.Recorded.{Increasing, Recorded}
-use Rattle.meaning.specs.Formulas.{Formula, of-high, of-low, of-lowafter, of-capafter, of-peaks, of-cross, of-dips, of-crossup}
-use Rattle.meaning.specs.inner.Coded.{Coded, code, blank, codedValue, codedFalls, codedRises, codedCrossed, codedAfter}
+use Rattle.meaning.specs.Formulas.{Formula, of-high, of-low, of-lowafter, of-capafter, of-peaks, of-cross, of-dips, of-crossup, of-dose}
+use Rattle.meaning.specs.inner.Coded.{Coded, code, blank, codedValue, codedFalls, codedRises, codedCrossed, codedAdds, codedAfter, codedAdditions}
 use Rattle.meaning.specs.inner.Truth.{allOf, among, truth, lastCoded, codedAt, atomVal, finallyFrom, globallyFrom, val, runsAt, largeAt, someNode, overAt, someBelow, refused8}
-use Rattle.number.specs.laws.Boolean.{same, then, back, or-cases, or-none, none-left}
+use Rattle.number.specs.laws.Boolean.{same, then, back, or-cases, or-none, none-left, and-right}
 use Rattle.meaning.specs.laws.Run.{starts, run-count, starts-ext, runs-ext, Convex, Up, Down, up-convex, down-convex, const-convex, const-up, and-convex, point-convex, or-up, and-up, or-down, ray-up, ray-down, convex-few, more-starts}
 use Rattle.meaning.specs.laws.Truth.{val-holds}
 use Rattle.meaning.specs.laws.Overfull.{eight-overfull, below-find, below-at}
@@ -230,6 +230,20 @@ above = record {
   quiet-is = λ r i. quiet-const r i (A-to-B gt) (ltb (codedAt r i .b) (codedAt r i .a)) (λ n. refl);
 }
 
+-- ---- additions
+
+additions-some : (k n : ℕ) (r : List Coded) → among n (codedAdditions k r) ≡ someOf (λ x. codedAdds k x && eqb n (x .time)) r
+additions-some k n r = go [] r
+  where
+    one : (e : Bool) (x : Coded) (l : List Coded) (f : Bool) → among n (map (λ (x : Coded). x .time) l) ≡ f
+        → among n (map (λ (x : Coded). x .time) (when e x l)) ≡ ((e && eqb n (x .time)) || f)
+    one true x l f h = ap (λ (b : Bool). eqb n (x .time) || b) h
+    one false x l f h = h
+
+    go : (b r : List Coded) → among n (map (λ (x : Coded). x .time) (pickFrom (λ b x a. codedAdds k x) b r)) ≡ someOf (λ x. codedAdds k x && eqb n (x .time)) r
+    go b [] = refl
+    go b (x ∷ r) = one (codedAdds k x) x (pickFrom (λ b x a. codedAdds k x) (x ∷ b) r) (someOf (λ x. codedAdds k x && eqb n (x .time)) r) (go (x ∷ b) r)
+
 -- from the first record, the formula and the listed question say the same
 pub formula-set : {q : Listed} {p : Text} → Formula q p → (x : Coded) (r : List Coded) (n : ℕ) → val (x ∷ r) n p 0 ≡ truth q (x ∷ r) n
 unfolding val truth
@@ -246,6 +260,10 @@ formula-set (of-capafter {c = c} {k = k}) x r n =
 formula-set (of-peaks {c = c}) x r n = edge-set (codedFalls c) (edge-text (neg (atom (fall c))) (atom (fall c))) (edge-body (a-fall c)) x r n
 formula-set of-cross x r n = edge-set codedCrossed (edge-text (atom (A-to-B gt)) (atom (A-to-B le))) (edge-body below) x r n
 formula-set (of-dips {c = c}) x r n = edge-set (codedRises c) (edge-text (neg (atom (rise c))) (atom (rise c))) (edge-body (a-rise c)) x r n
+formula-set (of-dose {k = k}) x r n =
+    ap (λ (d : ℕ). finallyFrom (λ i. codedAdds k (codedAt (x ∷ r) i) && eqb n (codedAt (x ∷ r) i .time)) d 0) (last-of x r)
+    ∙ some-list (λ y. codedAdds k y && eqb n (y .time)) x r
+    ∙ sym (additions-some k n (x ∷ r))
 formula-set of-crossup x r n = edge-set (λ x. not (codedCrossed x)) (edge-text (atom (A-to-B le)) (atom (A-to-B gt))) (edge-body above) x r n
 
 -- ---- REFUSAL 8
@@ -343,6 +361,27 @@ rising-code [] h = tt
 rising-code (x ∷ []) h = tt
 rising-code (x ∷ (y ∷ r)) h = (omega (arith, h 0 (omega arith)), rising-code (y ∷ r) (λ i l. h (suc i) (omega arith)))
 
+-- ---- sets that grow at their low end: one reading more in front puts in at most one number, below all others
+
+abbrev Grown : (ℕ → Bool) → (ℕ → Bool) → Type 0
+Grown f g = ((n : ℕ) → g n ≡ f n) ⊎ ((t : ℕ) × ((n : ℕ) → f n ≡ true → t < n) × ((n : ℕ) → g n ≡ (eqb n t || f n)))
+
+abbrev Growing : (List Coded → ℕ → Bool) → Type 0
+Growing S = (x y : Coded) (r : List Coded) → Rising (x ∷ y ∷ r) → Grown (S (y ∷ r)) (S (x ∷ y ∷ r))
+
+-- it takes no run away
+grow : (f g : ℕ → Bool) → Grown f g → (n : ℕ) → starts f n ≤ starts g n
+grow f g (inl e) n = let s = starts-ext g f n (λ m h. e m) in omega (arith, s)
+grow f g (inr (t, above, e)) n = let s = starts-ext g (λ w. eqb w t || f w) n (λ m h. e m) in omega (arith, s, more-starts f t above n)
+
+-- SO AT A LATER RECORD THERE ARE NOT MORE RUNS THAN AT THE FIRST
+fewer-later : (S : List Coded → ℕ → Bool) → Growing S → (n : ℕ) (x : Coded) (r : List Coded) → Rising (x ∷ r) → (i : ℕ) → i < length (x ∷ r)
+    → starts (S (drop i (x ∷ r))) n ≤ starts (S (x ∷ r)) n
+fewer-later S g n x r inc zero h = le-refl (starts (S (x ∷ r)) n)
+fewer-later S g n x [] inc (suc i) h = absurd (omega arith)
+fewer-later S g n x (y ∷ r) inc (suc i) h =
+    omega (arith, fewer-later S g n y r (inc .1) i (omega arith), grow (S (y ∷ r)) (S (x ∷ y ∷ r)) (g x y r inc) n)
+
 -- the set of F at record i
 abbrev from : (Coded → Bool) → List Coded → ℕ → ℕ → Bool
 from P r i n = finallyFrom (step-at P n r) (lastCoded r - i) i
@@ -368,28 +407,57 @@ module _ (P : Coded → Bool) where
       go true i k = or-cases (eqb n (y .time)) _ k (λ q. omega (arith, eqb-true n (y .time) q, inc .0)) (λ q. omega (arith, i q, inc .0))
       go false i k = omega (arith, i k, inc .0)
 
-  -- one reading more in front takes no run away
-  grow : (x y : Coded) (r : List Coded) → Rising (x ∷ y ∷ r) → (n : ℕ) → starts (from P (y ∷ r) 0) n ≤ starts (from P (x ∷ y ∷ r) 0) n
-  grow x y r inc n =
-      let a : starts (from P (y ∷ r) 0) n ≡ starts (λ w. hits P (y ∷ x ∷ []) r w) n =
-      starts-ext (from P (y ∷ r) 0) (λ w. hits P (y ∷ x ∷ []) r w) n (λ w h. from-zero (x ∷ []) y r w) in
-      let b : starts (from P (x ∷ y ∷ r) 0) n ≡ starts (λ w. hits P (x ∷ []) (y ∷ r) w) n =
-      starts-ext (from P (x ∷ y ∷ r) 0) (λ w. hits P (x ∷ []) (y ∷ r) w) n (λ w h. from-zero [] x (y ∷ r) w) in
-      let g : starts (λ w. hits P (y ∷ x ∷ []) r w) n ≤ starts (λ w. hits P (x ∷ []) (y ∷ r) w) n = go (P y && not (P x)) in
-      rw (a, b) g
-    where
-      go : (e : Bool) → starts (λ w. hits P (y ∷ x ∷ []) r w) n ≤ starts (λ w. someOf (λ x. eqb w (x .time)) (when e y (pickFrom (edge P) (y ∷ x ∷ []) r))) n
-      go true = more-starts (λ w. hits P (y ∷ x ∷ []) r w) (y .time) (later-hits (x ∷ []) y r (inc .1)) n
-      go false = le-refl (starts (λ w. hits P (y ∷ x ∷ []) r w) n)
+  -- the set of F from the first record of a recording on
+  abbrev edges : List Coded → ℕ → Bool
+  edges r n = from P r 0 n
 
-  -- AT A LATER RECORD THERE ARE NOT MORE RUNS THAN AT THE FIRST
-  fewer-later : (n : ℕ) (x : Coded) (r : List Coded) → Rising (x ∷ r) → (i : ℕ) → i < length (x ∷ r) → starts (from P (x ∷ r) i) n ≤ starts (from P (x ∷ r) 0) n
-  fewer-later n x r inc zero h = le-refl (starts (from P (x ∷ r) 0) n)
-  fewer-later n x [] inc (suc i) h = absurd (omega arith)
-  fewer-later n x (y ∷ r) inc (suc i) h =
-      let a : starts (from P (x ∷ y ∷ r) (suc i)) n ≡ starts (from P (y ∷ r) i) n =
-      starts-ext (from P (x ∷ y ∷ r) (suc i)) (from P (y ∷ r) i) n (λ w k. from-suc x y r i w) in
-      omega (arith, a, fewer-later n y r (inc .1) i (omega arith), grow x y r inc n)
+  from-drop : (x : Coded) (r : List Coded) (i : ℕ) → i < length (x ∷ r) → (n : ℕ) → from P (x ∷ r) i n ≡ edges (drop i (x ∷ r)) n
+  from-drop x r zero h n = refl
+  from-drop x [] (suc i) h n = absurd (omega arith)
+  from-drop x (y ∷ r) (suc i) h n = from-suc x y r i n ∙ from-drop y r i (omega arith) n
+
+  edges-grow : Growing edges
+  edges-grow x y r inc = go (P y && not (P x)) refl
+    where
+      before : (n : ℕ) → edges (y ∷ r) n ≡ hits P (y ∷ x ∷ []) r n
+      before n = from-zero (x ∷ []) y r n
+
+      now : (e : Bool) → (P y && not (P x)) ≡ e → (n : ℕ) → edges (x ∷ y ∷ r) n ≡ someOf (λ x. eqb n (x .time)) (when e y (pickFrom (edge P) (y ∷ x ∷ []) r))
+      now e h n = from-zero [] x (y ∷ r) n ∙ ap (λ (e : Bool). someOf (λ x. eqb n (x .time)) (when e y (pickFrom (edge P) (y ∷ x ∷ []) r))) h
+
+      go : (e : Bool) → (P y && not (P x)) ≡ e → Grown (edges (y ∷ r)) (edges (x ∷ y ∷ r))
+      go true h = inr (y .time, (λ n k. later-hits (x ∷ []) y r (inc .1) n (sym (before n) ∙ k)), λ n. now true h n ∙ ap (λ (b : Bool). eqb n (y .time) || b) (sym (before n)))
+      go false h = inl (λ n. now false h n ∙ sym (before n))
+
+-- the times of the records of which Q holds
+module _ (Q : Coded → Bool) where
+  abbrev found : List Coded → ℕ → Bool
+  found r n = someOf (λ x. Q x && eqb n (x .time)) r
+
+  found-later : (x y : Coded) (r : List Coded) → Rising (x ∷ y ∷ r) → (n : ℕ) → found (y ∷ r) n ≡ true → x .time < n
+  found-later x y [] inc n h = or-cases (Q y && eqb n (y .time)) _ h (λ k. omega (arith, eqb-true n (y .time) (and-right (Q y) _ k), inc .0)) (λ k. absurd (true≢false (sym k)))
+  found-later x y (z ∷ r) inc n h =
+      or-cases (Q y && eqb n (y .time)) _ h (λ k. omega (arith, eqb-true n (y .time) (and-right (Q y) _ k), inc .0)) (λ k. omega (arith, found-later y z r (inc .1) n k, inc .0))
+
+  found-grow : Growing found
+  found-grow x y r inc = go (Q x) refl
+    where
+      go : (e : Bool) → Q x ≡ e → Grown (found (y ∷ r)) (found (x ∷ y ∷ r))
+      go true h = inr (x .time, found-later x y r inc, λ n. ap (λ (e : Bool). (e && eqb n (x .time)) || found (y ∷ r) n) h)
+      go false h = inl (λ n. ap (λ (e : Bool). (e && eqb n (x .time)) || found (y ∷ r) n) h)
+
+  found-drop : (x : Coded) (r : List Coded) (i : ℕ) → i < length (x ∷ r) → (n : ℕ)
+      → finallyFrom (λ j. Q (codedAt (x ∷ r) j) && eqb n (codedAt (x ∷ r) j .time)) (lastCoded (x ∷ r) - i) i ≡ found (drop i (x ∷ r)) n
+  found-drop x r zero h n =
+      ap (λ (d : ℕ). finallyFrom (λ j. Q (codedAt (x ∷ r) j) && eqb n (codedAt (x ∷ r) j .time)) d 0) (last-of x r) ∙ some-list (λ y. Q y && eqb n (y .time)) x r
+  found-drop x [] (suc i) h n = absurd (omega arith)
+  found-drop x (y ∷ r) (suc i) h n =
+      let e : lastCoded (x ∷ y ∷ r) - suc i ≡ lastCoded (y ∷ r) - i = omega arith in
+      ap (λ (d : ℕ). finallyFrom (λ j. Q (codedAt (x ∷ y ∷ r) j) && eqb n (codedAt (x ∷ y ∷ r) j .time)) d (suc i)) e
+      ∙ some-shift (λ j. Q (codedAt (x ∷ y ∷ r) j) && eqb n (codedAt (x ∷ y ∷ r) j .time)) (lastCoded (y ∷ r) - i) i
+      ∙ some-same (λ j. Q (codedAt (x ∷ y ∷ r) (suc j)) && eqb n (codedAt (x ∷ y ∷ r) (suc j) .time)) (λ j. Q (codedAt (y ∷ r) j) && eqb n (codedAt (y ∷ r) j .time))
+      (λ j. ap (λ (z : Coded). Q z && eqb n (z .time)) (at-suc x y r j)) (lastCoded (y ∷ r) - i) i
+      ∙ found-drop y r i (omega arith) n
 
 -- ---- the refusal, from the record where it is met to the first
 
@@ -419,13 +487,11 @@ or-off : (e f : Bool) → f ≡ false → (e || f) ≡ e
 or-off true f h = refl
 or-off false f h = h
 
--- a formula F(p) where p is over nowhere, and F(p) at a later record has not more runs
-module _ {q : Listed} (p : Text) (f : Formula q (finally p)) (P : Coded → Bool) (x : Coded) (r : List Coded) (inc : Rising (x ∷ r))
-    (body : (n i : ℕ) → val (x ∷ r) n p i ≡ step-at P n (x ∷ r) i) (inner : (i : ℕ) → overAt (x ∷ r) p i ≡ false) where
-  by-from : (i : ℕ) → runsAt (x ∷ r) (finally p) i ≡ starts (from P (x ∷ r) i) axis
-  unfolding val
-  by-from i = run-count (λ n. val (x ∷ r) n (finally p) i) ∙ starts-ext (λ n. val (x ∷ r) n (finally p) i) (from P (x ∷ r) i) axis
-      (λ n h. some-same (val (x ∷ r) n p) (step-at P n (x ∷ r)) (body n) (lastCoded (x ∷ r) - i) i)
+-- a formula F(p) where p is over nowhere, and the set of F(p) grows at its low end
+module _ {q : Listed} (p : Text) (f : Formula q (finally p)) (S : List Coded → ℕ → Bool) (g : Growing S) (x : Coded) (r : List Coded) (inc : Rising (x ∷ r))
+    (set : (i : ℕ) → i < length (x ∷ r) → (n : ℕ) → val (x ∷ r) n (finally p) i ≡ S (drop i (x ∷ r)) n) (inner : (i : ℕ) → overAt (x ∷ r) p i ≡ false) where
+  by-set : (i : ℕ) → i < length (x ∷ r) → runsAt (x ∷ r) (finally p) i ≡ starts (S (drop i (x ∷ r))) axis
+  by-set i h = run-count (λ n. val (x ∷ r) n (finally p) i) ∙ starts-ext (λ n. val (x ∷ r) n (finally p) i) (S (drop i (x ∷ r))) axis (λ n l. set i h n)
 
   is-large : (i : ℕ) → overAt (x ∷ r) (finally p) i ≡ largeAt (x ∷ r) (finally p) i
   unfolding someNode
@@ -435,7 +501,7 @@ module _ {q : Listed} (p : Text) (f : Formula q (finally p)) (P : Coded → Bool
   to-first i h e =
       is-large 0
       ∙ over-up (runsAt (x ∷ r) (finally p) i) (runsAt (x ∷ r) (finally p) 0)
-      (omega (arith, by-from i, by-from 0, fewer-later P axis x r inc i h)) (sym (is-large i) ∙ e)
+      (omega (arith, by-set i h, by-set 0 (omega arith), fewer-later S g axis x r inc i h)) (sym (is-large i) ∙ e)
 
   at-first : someBelow (overAt (x ∷ r) (finally p)) (length (x ∷ r)) ≡ overAt (x ∷ r) (listed q) 0
   unfolding someNode
@@ -447,7 +513,27 @@ module _ {q : Listed} (p : Text) (f : Formula q (finally p)) (P : Coded → Bool
 -- an edge, so
 at-edge : {P : Coded → Bool} {was is : Text} → Edging P was is → {q : Listed} → Formula q (finally (edge-text was is))
     → (x : Coded) (r : List Coded) → Rising (x ∷ r) → someBelow (overAt (x ∷ r) (finally (edge-text was is))) (length (x ∷ r)) ≡ overAt (x ∷ r) (listed q) 0
-at-edge {P} {was} {is} e f x r inc = at-first (edge-text was is) f P x r inc (edge-body e (x ∷ r)) (inner-edge e (x ∷ r))
+unfolding val
+at-edge {P} {was} {is} e f x r inc =
+    at-first (edge-text was is) f (edges P) (edges-grow P) x r inc
+    (λ i h n. some-same (val (x ∷ r) n (edge-text was is)) (step-at P n (x ∷ r)) (edge-body e (x ∷ r) n) (lastCoded (x ∷ r) - i) i ∙ from-drop P x r i h n)
+    (inner-edge e (x ∷ r))
+
+-- and additions
+abbrev dose-text : ℕ → Text
+dose-text k = and (atom (pigment k)) (atom (compare T eq v))
+
+inner-dose : (k : ℕ) (r : List Coded) (i : ℕ) → overAt r (dose-text k) i ≡ false
+unfolding someNode val
+inner-dose k r i =
+    or-none (few (λ n. codedAdds k (codedAt r i) && eqb n (codedAt r i .time)) (point (codedAdds k (codedAt r i)) (codedAt r i .time)))
+    (or-none (few-const (codedAdds k (codedAt r i))) (few (λ n. eqb n (codedAt r i .time)) (point-convex (codedAt r i .time))))
+
+at-dose : (k : ℕ) (x : Coded) (r : List Coded) → Rising (x ∷ r)
+    → someBelow (overAt (x ∷ r) (finally (dose-text k))) (length (x ∷ r)) ≡ overAt (x ∷ r) (listed (dose k)) 0
+unfolding val
+at-dose k x r inc =
+    at-first (dose-text k) of-dose (found (codedAdds k)) (found-grow (codedAdds k)) x r inc (λ i h n. found-drop (codedAdds k) x r i h n) (inner-dose k (x ∷ r))
 
 -- the root is one of the nodes
 root-few : (G : Text → Bool) (p : Text) → someNode G (finally p) ≡ false → G (finally p) ≡ false
@@ -473,6 +559,7 @@ formula-eight (of-peaks {c = c}) x r inc = at-edge (a-fall c) of-peaks x r inc
 formula-eight of-cross x r inc = at-edge below of-cross x r inc
 formula-eight (of-dips {c = c}) x r inc = at-edge (a-rise c) of-dips x r inc
 formula-eight of-crossup x r inc = at-edge above of-crossup x r inc
+formula-eight (of-dose {k = k}) x r inc = at-dose k x r inc
 
 -- ---- in the words of the meaning
 

@@ -12,12 +12,12 @@ use lib.Signed.{_≤ℤ_}
 use borrow.Author.Tests.{leb-true}
 use Rattle.number.specs.Axis.{origin, whole}
 use Rattle.recording.specs.Condition.{Condition, pickFrom, someOf}
-use Rattle.recording.specs.Reading.{Reading, Curve, A, B, value, falls, rises, crossed, top, dip, crossing, upcrossing, edge, Event, a-top, a-dip, a-crossing, an-upcrossing, event, nothing}
+use Rattle.recording.specs.Reading.{Reading, Curve, A, B, value, falls, rises, crossed, top, dip, crossing, upcrossing, edge, Event, a-top, a-dip, a-crossing, an-upcrossing, event, adds, added, nothing}
 use Rattle.recording.specs.Recording.{inRange}
-use Rattle.grammar.specs.Syntax.{Listed, high, low, lowafter, capafter, peaks, dips, cross, crossup, ampl, gaps, steps, lag}
+use Rattle.grammar.specs.Syntax.{Listed, high, low, lowafter, capafter, peaks, dips, cross, crossup, dose, ampl, gaps, steps, lag}
 use Rattle.meaning.specs.Listed.{recordAt, SomeRecord, EachRecord, TimeOf, timeOf, After, between, Says}
 use Rattle.meaning.specs.inner.Recorded.{InRange}
-use Rattle.meaning.specs.inner.Coded.{Coded, code, index, codedValue, codedFalls, codedRises, codedCrossed, codedAfter, codedSign, timesOf, codedTimes}
+use Rattle.meaning.specs.inner.Coded.{Coded, code, index, codedValue, codedFalls, codedRises, codedCrossed, codedAfter, codedSign, codedAdds, timesOf, codedTimes, codedAdditions}
 use Rattle.meaning.specs.inner.Truth.{allOf, somePair, someStep, among, apart, truth}
 use Rattle.number.specs.laws.Boolean.{same, then, both, so-and, and-left, imp-or, or-imp}
 use Rattle.meaning.specs.laws.Whole.{Stands, stands-whole, le-test, le-index, lt-index, eq-index, apart-index, wide-index}
@@ -83,6 +83,13 @@ event-code a-crossing r s = times-code crossing (edge (codedSign a-crossing)) r 
 event-code an-upcrossing r s =
     times-code upcrossing (edge (codedSign an-upcrossing)) r s
     (edge-map Settled code (λ x. not (crossed x)) (λ x. not (codedCrossed x)) (λ x h. ap not (crossed-code x h)))
+
+pub adds-code : (k : ℕ) (x : Reading) → codedAdds k (code x) ≡ adds k x
+adds-code zero x = refl
+adds-code (suc k) x = refl
+
+pub additions-code : (k : ℕ) (r : List Reading) → AllSettled r → codedAdditions k (map code r) ≡ keysOf stamp (added k) [] r
+additions-code k r s = times-code (added k) (λ b x a. codedAdds k x) r s (λ b x a u h. adds-code k x)
 
 -- ---- some record, each record
 
@@ -206,6 +213,7 @@ module _ (r : List Reading) (s : AllSettled r) (z : ℤ) (n : ℕ) (is : Stands 
   says-at (dips c) = of-event (a-dip c)
   says-at cross = of-event a-crossing
   says-at crossup = of-event an-upcrossing
+  says-at (dose k) = of-times (added k) (codedAdditions k (map code r)) (additions-code k r s)
   says-at (ampl c) = of-ampl c
   says-at (gaps c) = of-gaps c
   says-at (steps c) = of-steps c

@@ -11,7 +11,7 @@ use borrow.Author.Tests.{ltb-true, lt-ltb}
 use Rattle.runset.specs.Runs.{runCount, mostRuns}
 use Rattle.recording.specs.Condition.{pick}
 use Rattle.recording.specs.Reading.{Reading, Curve, A, B, top, a-top}
-use Rattle.grammar.specs.Syntax.{Listed, high, low, lowafter, capafter, peaks, dips, cross, crossup, ampl, gaps, steps, lag, Text, atom, listed, or, and, neg, finally, globally, next, until, weakUntil}
+use Rattle.grammar.specs.Syntax.{Listed, high, low, lowafter, capafter, peaks, dips, cross, crossup, dose, ampl, gaps, steps, lag, Text, atom, listed, or, and, neg, finally, globally, next, until, weakUntil}
 use Rattle.meaning.specs.Overfull.{children, Node, itself, below, IsSet, Overfull, Differences, of-gaps, of-steps, of-lag, TooManyTops}
 use Rattle.grammar.specs.Size.{temporal}
 use Rattle.tops.specs.Tops.{mostTops}
@@ -173,6 +173,7 @@ module _ (r : List Reading) (h : InRange r) where
   asks-find (dips c) e = absurd (false≢true e)
   asks-find cross e = absurd (false≢true e)
   asks-find crossup e = absurd (false≢true e)
+  asks-find (dose k) e = absurd (false≢true e)
   asks-find (ampl c) e = absurd (false≢true e)
   asks-find (gaps c) e = (c, of-gaps, many-tops c .0 e)
   asks-find (steps c) e = (c, of-steps, many-tops c .0 e)

@@ -25,7 +25,7 @@ use Rattle.meaning.specs.laws.Lines.{Example, _is_, at, Holding, within,
 
 -- a reading of R1: T, A and the slope of A; B is 50 and flat
 abbrev pub r1 : ℕ → ℕ → ℕ → Reading
-r1 t x s = record { time = t; a = pos x; b = pos 50; slope-a = s; slope-b = 1 }
+r1 t x s = record { time = t; a = pos x; b = pos 50; slope-a = s; slope-b = 1; pigment = 0 }
 
 abbrev pub R1 : List Reading
 R1 = r1 0 40 2 ∷ r1 10 60 2 ∷ r1 20 80 2 ∷ r1 30 70 0 ∷ r1 40 30 0 ∷ r1 50 55 2 ∷ r1 60 90 2 ∷ r1 70 45 0 ∷ []

@@ -18,7 +18,7 @@ use Rattle.meaning.specs.laws.Lines.{Example, _is_, Holding, within, one
 
 -- a reading of R2: T, A and the slope of A; B is 0 and flat
 abbrev pub r2 : ℕ → ℕ → ℕ → Reading
-r2 t x s = record { time = t; a = pos x; b = pos 0; slope-a = s; slope-b = 1 }
+r2 t x s = record { time = t; a = pos x; b = pos 0; slope-a = s; slope-b = 1; pigment = 0 }
 
 abbrev pub R2 : List Reading
 R2 = r2 0 10 2 ∷ r2 10 9 2 ∷ r2 20 8 1 ∷ r2 30 7 1 ∷ r2 40 6 0 ∷ r2 50 5 1 ∷ r2 60 4 0 ∷ r2 70 3 1 ∷ r2 80 2 1 ∷ []

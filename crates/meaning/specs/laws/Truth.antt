@@ -10,7 +10,7 @@ use lib.ListN.{getD, length-map, List·getD-map}
 use lib.IntN.{ℤ}
 use Rattle.number.specs.Axis.{origin, whole}
 use Rattle.recording.specs.Reading.{Reading, Curve, A, B, value, nothing}
-use Rattle.grammar.specs.Syntax.{Field, of, T, Relation, ge, le, gt, lt, eq, Operand, v, number, Atom, compare, A-to-B, fall, rise, Text, atom, listed, or, and, neg, finally, globally, next, until, weakUntil}
+use Rattle.grammar.specs.Syntax.{Field, of, T, Relation, ge, le, gt, lt, eq, Operand, v, number, Atom, compare, A-to-B, fall, rise, pigment, Text, atom, listed, or, and, neg, finally, globally, next, until, weakUntil}
 use Rattle.meaning.specs.Listed.{recordAt}
 use Rattle.meaning.specs.Meaning.{lastOf, readingAt, field, operand, Relates, AtomSays, Finally, Globally, Until, WeakUntil, Holds}
 use Rattle.meaning.specs.inner.Recorded.{InRange}
@@ -81,6 +81,8 @@ so-atom (fall A) x s n = (λ h. h, λ h. h)
 so-atom (fall B) x s n = (λ h. h, λ h. h)
 so-atom (rise A) x s n = (λ h. h, λ h. h)
 so-atom (rise B) x s n = (λ h. h, λ h. h)
+so-atom (pigment zero) x s n = (λ h. h, λ h. h)
+so-atom (pigment (suc k)) x s n = (λ h. h, λ h. h)
 
 -- ---- readings by index
 

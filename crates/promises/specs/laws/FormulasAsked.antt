@@ -14,7 +14,7 @@ use Rattle.recording.specs.Output.{outputLine}
 use Rattle.recording.specs.laws.Outcome.{judged-pass, none-append}
 use Rattle.runset.specs.Runs.{setBytes}
 use Rattle.grammar.specs.Bytes.{bytes}
-use Rattle.grammar.specs.inner.Lexer.{unsignedAt, numberAt, operandAt, comparisonAt, timedAt, argumentsAt, namedAt, headedAt, leafAt}
+use Rattle.grammar.specs.inner.Lexer.{unsignedAt, numberAt, pigmentAt, pigmentLeafAt, operandAt, comparisonAt, timedAt, argumentsAt, namedAt, headedAt, leafAt}
 use Rattle.grammar.specs.inner.Parse.{one, parse, parsed}
 use Rattle.grammar.specs.Size.{tooDeep}
 use Rattle.grammar.specs.Syntax.{Listed, Text, listed}
@@ -22,7 +22,7 @@ use Rattle.text.specs.Told.{textLines}
 use Rattle.grammar.specs.laws.Unique.{reading-is}
 use Rattle.number.specs.laws.Boolean.{back}
 use Rattle.meaning.specs.inner.Coded.{Coded, coded, index}
-use Rattle.meaning.specs.Formulas.{Formula, of-high, of-low, of-lowafter, of-capafter, of-peaks, of-cross, of-dips, of-crossup}
+use Rattle.meaning.specs.Formulas.{Formula, of-high, of-low, of-lowafter, of-capafter, of-peaks, of-cross, of-dips, of-crossup, of-dose}
 use Rattle.meaning.specs.laws.Formulas.{formula-holds, formula-overfull}
 use Rattle.meaning.specs.laws.Overfull.{eight-overfull}
 use Rattle.meaning.specs.inner.Recorded.{Recorded}
@@ -45,6 +45,7 @@ name-nine of-peaks r = refl
 name-nine of-cross r = refl
 name-nine of-dips r = refl
 name-nine of-crossup r = refl
+name-nine of-dose r = refl
 
 formula-nine : {q : Listed} {p : Text} → Formula q p → (r : List Coded) → refused9 r p ≡ false
 unfolding refused9 someNode
@@ -56,6 +57,7 @@ formula-nine of-peaks r = refl
 formula-nine of-cross r = refl
 formula-nine of-dips r = refl
 formula-nine of-crossup r = refl
+formula-nine of-dose r = refl
 
 -- ---- on an accepted recording with a record
 
@@ -133,7 +135,7 @@ module _ {q : Listed} {p : Text} (f : Formula q p) (s t : List ℕ) (rs : ReadsA
 pub formulas-asked : FormulasAsked
 formulas-asked q p f s t rs rt = record { question = same-question f s t rs rt; degree = same-degree f s t rs rt }
 
--- ---- the eight as the documents write them
+-- ---- the nine as the documents write them
 
 met : {q : Listed} {p : Text} → Formula q p → (w : NamedFormula) → parsed (bytes (w .name)) ≡ one (listed q) → NoneMeets (textLines (bytes (w .name)))
     → parsed (bytes (w .formula)) ≡ one p → NoneMeets (textLines (bytes (w .formula))) → BothRead w
@@ -152,7 +154,7 @@ _also_ : {w x : NamedFormula} {r : List NamedFormula} → BothRead x → (List·
 
 -- the names and the formulas of the document read as such
 pub formulas-met : (w : NamedFormula) → List·Memᴰ w writtenFormulas → BothRead w
-unfolding tooDeep least parsed parse unsignedAt numberAt operandAt comparisonAt timedAt argumentsAt namedAt headedAt leafAt
+unfolding tooDeep least parsed parse unsignedAt numberAt pigmentAt pigmentLeafAt operandAt comparisonAt timedAt argumentsAt namedAt headedAt leafAt
 formulas-met w =
     met of-high _ refl (refl, (refl, (refl, tt))) refl (refl, (refl, (refl, tt)))
     also met of-low _ refl (refl, (refl, (refl, tt))) refl (refl, (refl, (refl, tt)))
@@ -162,8 +164,9 @@ formulas-met w =
     also met of-cross _ refl (refl, (refl, (refl, tt))) refl (refl, (refl, (refl, tt)))
     also met of-dips _ refl (refl, (refl, (refl, tt))) refl (refl, (refl, (refl, tt)))
     also met of-crossup _ refl (refl, (refl, (refl, tt))) refl (refl, (refl, (refl, tt)))
+    also met of-dose _ refl (refl, (refl, (refl, tt))) refl (refl, (refl, (refl, tt)))
     also (λ m. absurd (List·Memᴰ·not-nil m))
 
--- SO EACH OF THE EIGHT, AS WRITTEN, HAS THE OUTCOME OF ITS FORMULA, AS WRITTEN
+-- SO EACH OF THE NINE, AS WRITTEN, HAS THE OUTCOME OF ITS FORMULA, AS WRITTEN
 pub formulas-written : (w : NamedFormula) → List·Memᴰ w writtenFormulas → SameOutcome (bytes (w .name)) (bytes (w .formula))
 formulas-written w m = let k = formulas-met w m in formulas-asked (k .question) (k .tree) (k .its-formula) (bytes (w .name)) (bytes (w .formula)) (k .name-reads) (k .formula-reads)

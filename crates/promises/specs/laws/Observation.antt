@@ -23,7 +23,7 @@ use Rattle.kept.specs.Kept.{firstGreatest, less, more, extremes, anyTime, after
 use Rattle.kept.specs.Selection.{flags, select, Includes}
 use Rattle.kept.specs.laws.Stability.{_⊑_, left, right, pick-flags, select-blind}
 use Rattle.kept.specs.laws.Rule.{some-blind}
-use Rattle.kept.specs.laws.Kept.{kept-piecewise, on-curve, extremes-kept, extremes-after-kept, same-events}
+use Rattle.kept.specs.laws.Kept.{kept-piecewise, on-curve, extremes-kept, extremes-after-kept, same-events, same-additions}
 
 -- ---- which records the rule keeps for their value
 
@@ -95,6 +95,7 @@ module _ (marks : List ℕ) (r : List Reading) (mask : List Bool) (w : Includes 
         (λ x y h k q. ltZ-between z (value c x) (value c y) (not-le (value c y) z (and-off (ltb m (y .time)) (leZ (value c y) z) k q)) (le-above (value c x) z (and-right (ltb m (x .time)) (leZ (value c x) z) h)))
         (λ x y h. ltZ-asym (value c y) (value c x) h);
     events = same-events marks r mask w;
+    additions = same-additions marks r mask w;
   }
 
   -- A SELECTION THAT INCLUDES THE KEPT READINGS HAS THE SAME OBSERVATION

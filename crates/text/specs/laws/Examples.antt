@@ -4,13 +4,14 @@ use mathlib.Core.List.{List, [], _∷_, _++_, map}
 use Prim.Native.Nat.{ℕ, zero, suc}
 use Prim.Native.String.{String}
 use Rattle.recording.specs.Reading.{A, B}
+use Rattle.recording.specs.Recording.{mostPigments}
 use Rattle.number.specs.Least.{least}
 use Rattle.refusal.specs.Outcome.{Outcome, result, refused, judged}
 use Rattle.grammar.specs.Bytes.{bytes}
-use Rattle.grammar.specs.Syntax.{of, T, Relation, ge, le, gt, lt, eq, v, number, compare, A-to-B, fall, rise, high, low, lowafter, capafter, peaks, dips, cross, crossup, ampl, gaps, steps, lag, Text, atom, listed, or, and, neg, finally, globally, next, until, weakUntil}
+use Rattle.grammar.specs.Syntax.{of, T, Relation, ge, le, gt, lt, eq, v, number, compare, A-to-B, fall, rise, pigment, high, low, lowafter, capafter, peaks, dips, cross, crossup, dose, ampl, gaps, steps, lag, Text, atom, listed, or, and, neg, finally, globally, next, until, weakUntil}
 use Rattle.grammar.specs.Size.{tooDeep}
 use Rattle.text.specs.Told.{textLines, nodesOf}
-use Rattle.grammar.specs.inner.Lexer.{unsignedAt, numberAt, operandAt, comparisonAt, timedAt, argumentsAt, namedAt, headedAt, leafAt}
+use Rattle.grammar.specs.inner.Lexer.{unsignedAt, numberAt, pigmentAt, operandAt, comparisonAt, timedAt, argumentsAt, pigmentLeafAt, namedAt, headedAt, leafAt}
 use Rattle.grammar.specs.inner.Parse.{Parsed, one, none, parse, parsed}
 
 -- a text and its reading
@@ -104,6 +105,51 @@ examples =
     ∷ has-none "crossdown"
     ∷ has-none "cross1"
     ∷ has-none "up"
+    -- the number of a pigment: 1 to 16, no leading zero, no sign; `P=k` is no listed name, `dose(k)` is one
+    ∷ is "P=1" (atom (pigment 1))
+    ∷ is "P=16" (atom (pigment 16))
+    ∷ is "!P=16&dose(9)" (and (neg (atom (pigment 16))) (listed (dose 9)))
+    ∷ is "dose(10)|dose(1)" (or (listed (dose 10)) (listed (dose 1)))
+    ∷ is "(dose(16))" (listed (dose 16))
+    ∷ is "F(P=1&T=v)" (finally (and (atom (pigment 1)) (atom (compare T eq v))))
+    ∷ has-none "F(dose(1))"
+    ∷ has-none "dose(2)|X(P=2)"
+    ∷ has-none "P=0"
+    ∷ has-none "P=17"
+    ∷ has-none "P=01"
+    ∷ has-none "P=016"
+    ∷ has-none "P=160"
+    ∷ has-none "P=1600"
+    ∷ has-none "P=4294967297"
+    ∷ has-none "P=-1"
+    ∷ has-none "P=+1"
+    ∷ has-none "P=v"
+    ∷ has-none "P=A"
+    ∷ has-none "P="
+    ∷ has-none "P"
+    ∷ has-none "P=1A"
+    ∷ has-none "P==1"
+    ∷ has-none "P>=1"
+    ∷ has-none "P<2"
+    ∷ has-none "P=(1)"
+    ∷ has-none "p=1"
+    ∷ has-none "1=P"
+    ∷ has-none "A=P"
+    ∷ has-none "dose(0)"
+    ∷ has-none "dose(017)"
+    ∷ has-none "dose(17)"
+    ∷ has-none "dose(116)"
+    ∷ has-none "dose(-1)"
+    ∷ has-none "dose(v)"
+    ∷ has-none "dose(A)"
+    ∷ has-none "dose(A,1)"
+    ∷ has-none "dose(1,2)"
+    ∷ has-none "dose(P=1)"
+    ∷ has-none "dose"
+    ∷ has-none "dose()"
+    ∷ has-none "dose(1"
+    ∷ has-none "dose1"
+    ∷ has-none "doses(1)"
     -- a listed name beside F, G, X, U or W; blanks; bytes left over
     ∷ has-none "high(A)|F(A>v)"
     ∷ has-none "X(lag)"
@@ -117,8 +163,22 @@ examples =
     ∷ []
 
 pub examples-hold : map (λ e. parsed (bytes (e .text))) examples ≡ map (λ e. e .reads) examples
-unfolding parsed parse unsignedAt numberAt operandAt comparisonAt timedAt argumentsAt namedAt headedAt leafAt
+unfolding parsed parse unsignedAt numberAt pigmentAt operandAt comparisonAt timedAt argumentsAt pigmentLeafAt namedAt headedAt leafAt
 examples-hold = refl
+
+-- each of the sixteen pigments has its word, in `P=k` and in `dose(k)`
+abbrev sixteen : List String
+sixteen = "1" ∷ "2" ∷ "3" ∷ "4" ∷ "5" ∷ "6" ∷ "7" ∷ "8" ∷ "9" ∷ "10" ∷ "11" ∷ "12" ∷ "13" ∷ "14" ∷ "15" ∷ "16" ∷ []
+
+-- the numbers from 1 up to n
+abbrev countUp : ℕ → List ℕ
+countUp zero = []
+countUp (suc n) = countUp n ++ (suc n ∷ [])
+
+pub sixteen-hold : (map (λ w. parsed (bytes "P=" ++ bytes w)) sixteen ≡ map (λ k. one (atom (pigment k))) (countUp mostPigments))
+    × (map (λ w. parsed (bytes "dose(" ++ bytes w ++ bytes ")")) sixteen ≡ map (λ k. one (listed (dose k))) (countUp mostPigments))
+unfolding parsed parse unsignedAt numberAt pigmentAt operandAt comparisonAt timedAt argumentsAt pigmentLeafAt namedAt headedAt leafAt
+sixteen-hold = (refl, refl)
 
 -- a text and its outcome: the nodes, or the refusal
 pub record Judged : Type 0 where
@@ -151,6 +211,9 @@ outcomes =
     ∷ refusal-is (nested 17 (bytes "A>=v")) 7
     ∷ nodes-are (nested 15 (bytes "fall(A)")) 1
     ∷ refusal-is (nested 16 (bytes "fall(A)")) 7
+    ∷ nodes-are (nested 16 (bytes "P=1")) 1
+    ∷ nodes-are (nested 15 (bytes "dose(1)")) 1
+    ∷ refusal-is (nested 16 (bytes "dose(1)")) 7
     -- 32 nodes, and 33
     ∷ nodes-are (times 31 (bytes "!") ++ bytes "A>v") 32
     ∷ refusal-is (times 32 (bytes "!") ++ bytes "A>v") 7
@@ -166,5 +229,5 @@ outcomes =
     ∷ []
 
 pub outcomes-hold : map (λ e. judged (textLines (e .text)) (nodesOf (parsed (e .text)))) outcomes ≡ map (λ e. e .outcome) outcomes
-unfolding judged tooDeep least parsed parse unsignedAt numberAt operandAt comparisonAt timedAt argumentsAt namedAt headedAt leafAt
+unfolding judged tooDeep least parsed parse unsignedAt numberAt pigmentAt operandAt comparisonAt timedAt argumentsAt pigmentLeafAt namedAt headedAt leafAt
 outcomes-hold = refl

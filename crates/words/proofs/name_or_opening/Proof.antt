@@ -1,7 +1,7 @@
 -- A table in parts is gone through part by part.
 use borrow.Author.Needs.{needs}
 use mathlib.Core.List.{_++_}
-use Rattle.grammar.specs.inner.Lexer.{levelNames, topNames, differenceNames, openings}
+use Rattle.grammar.specs.inner.Lexer.{levelNames, topNames, differenceNames, pigmentNames, openings}
 use Rattle.words.proofs.WordLaws.{in-first, in-rest}
 use Rattle.words.proofs.name_or_opening.Statement.{statement}
 use Rattle.words.proofs.name_or_opening.Tie as tie
@@ -28,13 +28,13 @@ difference-or-opening-requires : tie.Need-difference-or-opening-requires
 difference-or-opening-requires c κs = search needs
 
 returns : tie.Need-returns
-returns c = in-first levelNames (topNames ++ (differenceNames ++ openings)) (c .before .before .before .before .before .args .text .now) (c .before .before .before .before .before .args .at) (c .before .before .before .level-name .ensures) (c .before .k .given .1)
+returns c = in-first levelNames (topNames ++ (differenceNames ++ (pigmentNames ++ openings))) (c .before .before .before .before .before .args .text .now) (c .before .before .before .before .before .args .at) (c .before .before .before .level-name .ensures) (c .before .k .given .1)
 
 returns-2 : tie.Need-returns-2
-returns-2 c = in-rest levelNames (topNames ++ (differenceNames ++ openings)) (c .before .before .before .before .before .before .before .before .args .text .now) (c .before .before .before .before .before .before .before .before .args .at) (c .before .before .before .before .before .before .level-name .ensures) (c .before .before .before .before .enum-told .given .1) (in-first topNames (differenceNames ++ openings) (c .before .before .before .before .before .before .before .before .args .text .now) (c .before .before .before .before .before .before .before .before .args .at) (c .before .before .before .top-name .ensures) (c .before .k2 .given .1))
+returns-2 c = in-rest levelNames (topNames ++ (differenceNames ++ (pigmentNames ++ openings))) (c .before .before .before .before .before .before .before .before .args .text .now) (c .before .before .before .before .before .before .before .before .args .at) (c .before .before .before .before .before .before .level-name .ensures) (c .before .before .before .before .enum-told .given .1) (in-first topNames (differenceNames ++ (pigmentNames ++ openings)) (c .before .before .before .before .before .before .before .before .args .text .now) (c .before .before .before .before .before .before .before .before .args .at) (c .before .before .before .top-name .ensures) (c .before .k2 .given .1))
 
 returns-3 : tie.Need-returns-3
-returns-3 c = in-rest levelNames (topNames ++ (differenceNames ++ openings)) (c .before .before .before .before .before .before .before .before .args .text .now) (c .before .before .before .before .before .before .before .before .args .at) (c .before .before .before .before .before .before .level-name .ensures) (c .before .before .before .before .enum-told .given .1) (in-rest topNames (differenceNames ++ openings) (c .before .before .before .before .before .before .before .before .args .text .now) (c .before .before .before .before .before .before .before .before .args .at) (c .before .before .before .top-name .ensures) (c .before .enum-told2 .given .1) (c .difference-or-opening .ensures))
+returns-3 c = in-rest levelNames (topNames ++ (differenceNames ++ (pigmentNames ++ openings))) (c .before .before .before .before .before .before .before .before .args .text .now) (c .before .before .before .before .before .before .before .before .args .at) (c .before .before .before .before .before .before .level-name .ensures) (c .before .before .before .before .enum-told .given .1) (in-rest topNames (differenceNames ++ (pigmentNames ++ openings)) (c .before .before .before .before .before .before .before .before .args .text .now) (c .before .before .before .before .before .before .before .before .args .at) (c .before .before .before .top-name .ensures) (c .before .enum-told2 .given .1) (c .difference-or-opening .ensures))
 
 pub name-or-opening-spec : {M : Type 1} → statement M
 name-or-opening-spec =
