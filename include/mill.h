@@ -1,7 +1,7 @@
 /*
 ** mill.h: questions about recordings of bead mills, and their thinning.
 **
-** Four calls on plain bytes. Each answers with its result or with one numbered
+** Five calls on plain bytes. Each answers with its result or with one numbered
 ** refusal, for every input that can be handed in; a caller needs to test
 ** nothing first. A call reads only the bytes that it is given, keeps nothing
 ** from one call to the next, takes no memory from the heap, and may run in any
@@ -60,18 +60,18 @@
 **
 ** MEMORY. A call writes its result and nothing else. With a refusal, with
 ** MILL_MET, MILL_NO_VALUE and MILL_NO_PAIR, all of the caller's memory stays as
-** it was. On success the output bytes behind the result stay as they were.
+** it was, and so do the two ends of a set that mill_band finds empty. On success the output bytes behind the result stay as they were.
 **
 ** A pointer must point to as many bytes as the length that follows it says.
-** Bytes need no alignment; uint32_t and double are aligned as C has them.
-** Inputs (recording, text, marks) may overlap each other in any way. An output
-** (out, distance, degree, earlier, later) must not overlap an input nor another
-** output; where one does, nothing is promised. While a call runs, no other
+** Bytes need no alignment; uint32_t, int32_t and double are aligned as C has
+** them. Inputs (recording, text, marks) may overlap each other in any way. An
+** output (out, distance, degree, earlier, later, the ends of mill_band) must not
+** overlap an input nor another output; where one does, nothing is promised. While a call runs, no other
 ** thread may write an input or touch an output.
 **
 ** A null pointer with length 0 serves as an empty input or an empty output.
 ** This is tested, and it is not part of what is proved. distance, degree,
-** earlier and later are never null.
+** earlier, later and the ends of mill_band are never null.
 **
 ** When a degree is asked for, round to nearest must be in force (FE_TONEAREST of
 ** <fenv.h>), as it is when a program starts.
@@ -113,16 +113,19 @@ extern "C" {
 #define MILL_MAX_TOPS 256            /* tops of a curve, for gaps, steps, lag and mill_pair */
 #define MILL_MAX_MARKS 8             /* marks of a thinning */
 #define MILL_MAX_MARK 2000000000     /* a mark */
+#define MILL_MAX_BAND 1000000        /* e of mill_band */
 
 /*
 ** Bytes of stack with which each call does. Measured on x86-64 with the deepest
 ** inputs known, and rounded up: 176,119 for questions and degrees (31 times !
-** before lag), 1,191 for pairs, 8,311 for thinning. No proof bounds the stack.
+** before lag), 1,191 for pairs, 8,311 for thinning, 103,039 for bands (256 times
+** an open bracket). No proof bounds the stack.
 */
 #define MILL_STACK_QUESTION 196608
 #define MILL_STACK_DEGREE 196608
 #define MILL_STACK_PAIR 4096
 #define MILL_STACK_THIN 16384
+#define MILL_STACK_BAND 131072
 
 /* Slopes of a record. */
 #define MILL_FALLING 0
@@ -153,6 +156,8 @@ extern "C" {
 #define MILL_SHORT_OUTPUT 10    /* the output is shorter than the result */
 #define MILL_BAD_MARKS 11       /* the marks are not 4 bytes each, over MILL_MAX_MARKS, or over MILL_MAX_MARK */
 #define MILL_BAD_TARGET 12      /* the target is off the axis, or the curve number is not 0 or 1 */
+#define MILL_BAD_BAND 16        /* e is not 0 to MILL_MAX_BAND */
+#define MILL_NOT_BAND_QUESTION 17 /* the text is not one of high, low, lowafter, capafter and ampl alone */
 
 /*
 ** The set of all numbers that make the text true of the recording.
@@ -240,7 +245,7 @@ uint64_t mill_pair(const uint8_t *recording, size_t recording_len, uint32_t curv
 ** Kept readings answer as the recording does: every question that writes none
 ** of F, G, X, U and W and whose after-times (the k of lowafter and capafter)
 ** are among the marks gets the same bytes or the same refusal, in mill_degree
-** too; mill_pair gives the same two times. Other questions may be asked of kept
+** and mill_band too; mill_pair gives the same two times. Other questions may be asked of kept
 ** readings and are answered of those alone.
 **
 ** A recording may be thinned piece by piece, cut between readings: hand in the
@@ -274,6 +279,47 @@ uint64_t mill_pair(const uint8_t *recording, size_t recording_len, uint32_t curv
 */
 uint64_t mill_thin(const uint8_t *recording, size_t recording_len, const uint8_t *marks, size_t marks_len, uint8_t *out,
                    size_t out_len);
+
+/*
+** What a question says of readings that are good to plus or minus e units.
+**
+** A curve within the band has at each record any whole number within e of each
+** value, beyond MILL_MIN_VALUE and MILL_MAX_VALUE too, each moved by itself; times
+** and slopes stand. The text is high(c), low(c), lowafter(c,k), capafter(c,k) or
+** ampl(c) alone, brackets round it allowed. Certain are the numbers of the axis
+** with which it is true of every such curve, possible those with which it is true
+** of at least one; with e = 0 both are the set of mill_question. Each is empty or
+** one run, of which low and high are written, both included. With max and min for
+** the greatest and the least value, certain comes to, then possible:
+**
+**   high      up to max - e; up to max + e
+**   low       from min + e on; from min - e on
+**   lowafter  the same, of the records with T > k
+**   capafter  from max + e on; from max - e on, of the records with T > k
+**   ampl      up to max - min - 2e; up to max - min + 2e
+**
+** Where no record has T > k, both sets of lowafter are empty and both of capafter
+** the whole axis. ampl is certain up to 0 at least, possible up to the end of the
+** axis at most, and of a single record, which spreads by nothing, both up to 0.
+**
+** How high the batch surely came, and may have come, if its head is good to 5:
+**
+**     int32_t certain_low, certain_high, possible_low, possible_high;
+**     uint64_t r = mill_band(recording, recording_len, (const uint8_t *)"high(A)", 7, 5, &certain_low,
+**                            &certain_high, &possible_low, &possible_high);
+**     if (MILL_NUMBER(r) != 0)
+**         return report(MILL_NUMBER(r), MILL_PLACE(r));
+**     if ((r & MILL_CERTAIN) != 0)
+**         printf("surely %ld to %ld\n", (long)certain_low, (long)certain_high);
+**     if ((r & MILL_POSSIBLE) != 0)
+**         printf("perhaps %ld to %ld\n", (long)possible_low, (long)possible_high);
+**
+** Refusals, in order: 1, 2, 3, 4, 5, 6, 7, 16, 17.
+*/
+#define MILL_CERTAIN 1  /* this bit: some number is certain; certain_low and certain_high are written */
+#define MILL_POSSIBLE 2 /* this bit: some number is possible; possible_low and possible_high are written */
+uint64_t mill_band(const uint8_t *recording, size_t recording_len, const uint8_t *text, size_t text_len, int64_t e,
+                   int32_t *certain_low, int32_t *certain_high, int32_t *possible_low, int32_t *possible_high);
 
 #ifdef __cplusplus
 }

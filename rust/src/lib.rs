@@ -88,6 +88,15 @@ pub struct Pair {
     pub later: u32,
 }
 
+/// What a question says of readings that are good to plus or minus some units. An empty set is none.
+#[derive(Clone, Copy, PartialEq, Eq, Debug)]
+pub struct Band {
+    /// The numbers with which it is true of every curve within the band.
+    pub certain: Option<Run>,
+    /// The numbers with which it is true of at least one.
+    pub possible: Option<Run>,
+}
+
 /// Why a call gives no result.
 #[derive(Clone, Copy, PartialEq, Eq, Debug)]
 pub enum Refusal {
@@ -115,6 +124,10 @@ pub enum Refusal {
     BadMarks,
     /// 12: the target is off the axis.
     BadTarget,
+    /// 16: the band is not 0 to 1,000,000 units.
+    BadBand,
+    /// 17: the text is not one of `high`, `low`, `lowafter`, `capafter` and `ampl` alone.
+    NotBandQuestion,
 }
 
 impl Refusal {
@@ -133,6 +146,8 @@ impl Refusal {
             Refusal::ShortOutput => sys::MILL_SHORT_OUTPUT,
             Refusal::BadMarks => sys::MILL_BAD_MARKS,
             Refusal::BadTarget => sys::MILL_BAD_TARGET,
+            Refusal::BadBand => sys::MILL_BAD_BAND,
+            Refusal::NotBandQuestion => sys::MILL_NOT_BAND_QUESTION,
         }
     }
 
@@ -160,6 +175,8 @@ impl Refusal {
             sys::MILL_SHORT_OUTPUT => Refusal::ShortOutput,
             sys::MILL_BAD_MARKS => Refusal::BadMarks,
             sys::MILL_BAD_TARGET => Refusal::BadTarget,
+            sys::MILL_BAD_BAND => Refusal::BadBand,
+            sys::MILL_NOT_BAND_QUESTION => Refusal::NotBandQuestion,
             number => unreachable!("the library gives no refusal {number}"),
         };
         Some(refusal)
@@ -176,7 +193,7 @@ impl std::error::Error for Refusal {}
 
 #[cfg(feature = "library")]
 mod calls {
-    use super::{sys, Curve, Degree, Pair, Refusal, Run};
+    use super::{sys, Band, Curve, Degree, Pair, Refusal, Run};
 
     /// The set of all numbers that make the text true of the recording, as ascending maximal runs.
     pub fn question(recording: &[u8], text: &[u8]) -> Result<Vec<Run>, Refusal> {
@@ -246,6 +263,21 @@ mod calls {
         bytes_written(returned)
     }
 
+    /// What the text, one question on extremes alone, says of every curve within `e` units of the recording, and of at least one.
+    pub fn band(recording: &[u8], text: &[u8], e: i64) -> Result<Band, Refusal> {
+        let [mut low, mut high, mut lowest, mut highest] = [0; 4];
+        // SAFETY: each pointer is a live slice's with its own length, or a live number's.
+        let returned = unsafe {
+            let (recording_at, text_at) = (recording.as_ptr(), text.as_ptr());
+            sys::mill_band(recording_at, recording.len(), text_at, text.len(), e, &mut low, &mut high, &mut lowest, &mut highest)
+        };
+        if let Some(refusal) = Refusal::of_returned(returned) {
+            return Err(refusal);
+        }
+        let run = |bit: u64, low, high| (returned & bit != 0).then_some(Run { low, high });
+        Ok(Band { certain: run(sys::MILL_CERTAIN, low, high), possible: run(sys::MILL_POSSIBLE, lowest, highest) })
+    }
+
     fn bytes_written(returned: u64) -> Result<usize, Refusal> {
         match Refusal::of_returned(returned) {
             Some(refusal) => Err(refusal),
@@ -255,4 +287,4 @@ mod calls {
 }
 
 #[cfg(feature = "library")]
-pub use calls::{degree, pair, question, question_into, thin, thin_into};
+pub use calls::{band, degree, pair, question, question_into, thin, thin_into};

@@ -69,6 +69,39 @@ pub fn pair(recording: &[u8], curve: u32, target: i64) -> Result<Option<(u32, u3
     Ok(None)
 }
 
+/// The certain and the possible set of a question on extremes within e, each by its ends, none where it is empty.
+pub fn band(recording: &[u8], text: &[u8], e: i64) -> Result<[Option<(i32, i32)>; 2], Refused> {
+    let records = some_records(recording)?;
+    let nodes = nodes(text)?;
+    if !(0..=1_000_000).contains(&e) {
+        return Err((16, 0));
+    }
+    let e = e as i32;
+    let ends = |curve: usize, after: i32| {
+        let later = &records[records.partition_point(|record| record.time <= after)..];
+        let ends = later.iter().fold((HIGH, LOW), |(least, greatest), record| {
+            let value = record.value[curve];
+            (value.min(least), value.max(greatest))
+        });
+        (!later.is_empty()).then_some(ends)
+    };
+    match nodes[nodes.len() - 1] {
+        Op::High(curve) => Ok(ends(curve, -1).map_or([None; 2], |(_, most)| [most - e, most + e].map(|end| Some((LOW, end))))),
+        Op::Low(curve) => Ok(ends(curve, -1).map_or([None; 2], |(least, _)| [least + e, least - e].map(|end| Some((end, HIGH))))),
+        Op::LowAfter(curve, k) => {
+            Ok(ends(curve, k).map_or([None; 2], |(least, _)| [least + e, least - e].map(|end| Some((end, HIGH)))))
+        }
+        Op::CapAfter(curve, k) => {
+            Ok(ends(curve, k).map_or([Some((LOW, HIGH)); 2], |(_, most)| [most + e, most - e].map(|end| Some((end, HIGH)))))
+        }
+        Op::Ampl(curve) => Ok(ends(curve, -1).map_or([None; 2], |(least, most)| {
+            let moved = if records.len() == 1 { 0 } else { 2 * e };
+            [(most - least - moved).max(0), (most - least).saturating_add(moved).min(HIGH)].map(|end| Some((LOW, end)))
+        })),
+        _ => Err((17, 0)),
+    }
+}
+
 /// Writes the kept readings into `out`; the bytes written.
 pub fn thin(recording: &[u8], marks: &[u8], out: &mut [u8]) -> Result<usize, Refused> {
     let records = decode(recording)?;

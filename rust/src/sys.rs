@@ -24,12 +24,14 @@ pub const MILL_MAX_RUNS: usize = 256;
 pub const MILL_MAX_TOPS: usize = 256;
 pub const MILL_MAX_MARKS: usize = 8;
 pub const MILL_MAX_MARK: u32 = 2_000_000_000;
+pub const MILL_MAX_BAND: i64 = 1_000_000;
 
 /// Bytes of stack with which each call does.
 pub const MILL_STACK_QUESTION: usize = 196_608;
 pub const MILL_STACK_DEGREE: usize = 196_608;
 pub const MILL_STACK_PAIR: usize = 4_096;
 pub const MILL_STACK_THIN: usize = 16_384;
+pub const MILL_STACK_BAND: usize = 131_072;
 
 pub const MILL_FALLING: u8 = 0;
 pub const MILL_FLAT: u8 = 1;
@@ -45,6 +47,9 @@ pub const MILL_NO_VALUE: u64 = 2;
 pub const MILL_NO_PAIR: u64 = 0;
 pub const MILL_PAIR: u64 = 1;
 
+pub const MILL_CERTAIN: u64 = 1;
+pub const MILL_POSSIBLE: u64 = 2;
+
 pub const MILL_PARTIAL_RECORD: u32 = 1;
 pub const MILL_TOO_MANY_RECORDS: u32 = 2;
 pub const MILL_BAD_RECORD: u32 = 3;
@@ -57,6 +62,8 @@ pub const MILL_TOO_MANY_TOPS: u32 = 9;
 pub const MILL_SHORT_OUTPUT: u32 = 10;
 pub const MILL_BAD_MARKS: u32 = 11;
 pub const MILL_BAD_TARGET: u32 = 12;
+pub const MILL_BAD_BAND: u32 = 16;
+pub const MILL_NOT_BAND_QUESTION: u32 = 17;
 
 /// The number of the refusal in a return value, 0 for a result.
 pub const fn mill_number(returned: u64) -> u32 {
@@ -105,5 +112,17 @@ extern "C" {
         marks_len: usize,
         out: *mut u8,
         out_len: usize,
+    ) -> u64;
+
+    pub fn mill_band(
+        recording: *const u8,
+        recording_len: usize,
+        text: *const u8,
+        text_len: usize,
+        e: i64,
+        certain_low: *mut i32,
+        certain_high: *mut i32,
+        possible_low: *mut i32,
+        possible_high: *mut i32,
     ) -> u64;
 }

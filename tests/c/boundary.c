@@ -176,6 +176,35 @@ static void pairs(void)
     EXPECT(earlier == 30 && later == 70);
 }
 
+/* The two sets of a text on R1 within e: the returned number, and the four ends, each 7 where nothing is written. */
+static int within(const char *text, int64_t e, uint64_t returned, int32_t low, int32_t high, int32_t lowest, int32_t highest)
+{
+    int32_t ends[4] = {7, 7, 7, 7};
+    uint64_t r = mill_band(r1, R1_BYTES, (const uint8_t *)text, strlen(text), e, &ends[0], &ends[1], &ends[2], &ends[3]);
+    return r == returned && ends[0] == low && ends[1] == high && ends[2] == lowest && ends[3] == highest;
+}
+
+static void bands(void)
+{
+    const int32_t low = MILL_AXIS_LOW, high = MILL_AXIS_HIGH;
+    const uint64_t both = MILL_CERTAIN | MILL_POSSIBLE, bad = (uint64_t)MILL_BAD_BAND << 32;
+    const uint64_t other = (uint64_t)MILL_NOT_BAND_QUESTION << 32;
+    EXPECT(within("high(A)", 5, both, low, 85, low, 95));
+    EXPECT(within("(high(A))", 0, both, low, 90, low, 90));
+    EXPECT(within("low(A)", 5, both, 35, high, 25, high));
+    EXPECT(within("lowafter(A,40)", 10, both, 55, high, 35, high));
+    EXPECT(within("capafter(A,40)", 10, both, 100, high, 80, high));
+    EXPECT(within("lowafter(A,70)", 10, 0, 7, 7, 7, 7));
+    EXPECT(within("capafter(A,70)", 10, both, low, high, low, high));
+    EXPECT(within("ampl(A)", 10, both, low, 40, low, 80));
+    EXPECT(within("ampl(A)", MILL_MAX_BAND, both, low, 0, low, 60 + 2 * MILL_MAX_BAND));
+    EXPECT(within("high(A)", MILL_MAX_BAND + 1, bad, 7, 7, 7, 7));
+    EXPECT(within("peaks(A)", -1, bad, 7, 7, 7, 7));
+    EXPECT(within("high(A)", INT64_MIN, bad, 7, 7, 7, 7));
+    EXPECT(within("peaks(A)", 0, other, 7, 7, 7, 7));
+    EXPECT(within("!high(A)", 0, other, 7, 7, 7, 7));
+}
+
 /* Tops of A at 10, 20, 40 and 50: (10, 40) and (20, 50) lie 30 apart. The second record is the one that is not kept. */
 static void first_of_several_pairs(void)
 {
@@ -452,6 +481,7 @@ int main(void)
     refused_additions();
     pairs();
     first_of_several_pairs();
+    bands();
     refusals();
     nothing_at_all();
     thinning_of_r1();

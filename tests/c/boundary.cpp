@@ -100,6 +100,17 @@ void pairs()
     EXPECT(MILL_NUMBER(mill_pair(r1, length, 2, 40, &earlier, &later)) == MILL_BAD_TARGET);
 }
 
+void bands()
+{
+    const uint8_t text[] = {'a', 'm', 'p', 'l', '(', 'A', ')'};
+    int32_t low = 7, high = 7, lowest = 7, highest = 7;
+    EXPECT(MILL_NUMBER(mill_band(r1, length, text, sizeof text, -1, &low, &high, &lowest, &highest)) == MILL_BAD_BAND);
+    EXPECT(low == 7 && high == 7 && lowest == 7 && highest == 7);
+    const uint64_t both = MILL_CERTAIN | MILL_POSSIBLE;
+    EXPECT(mill_band(r1, length, text, sizeof text, 10, &low, &high, &lowest, &highest) == both);
+    EXPECT(low == MILL_AXIS_LOW && high == 40 && lowest == MILL_AXIS_LOW && highest == 80);
+}
+
 void thinning()
 {
     uint8_t mark[MILL_MARK_BYTES], whole[length], held[length], out[length];
@@ -127,6 +138,7 @@ int main()
     questions();
     degrees();
     pairs();
+    bands();
     thinning();
     std::printf("boundary.cpp: %d failures\n", failures);
     return failures == 0 ? 0 : 1;

@@ -1,8 +1,8 @@
 // The set of a leaf at one record: of an atom, or of a listed question.
 mod atoms;
-mod extremes;
+pub mod extremes;
 mod fields;
-mod span;
+pub mod span;
 mod times;
 
 ghost use mathlib.Core.Path.{_≡_};

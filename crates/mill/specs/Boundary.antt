@@ -1,12 +1,16 @@
 -- The C boundary, by "Four lines on promises" of document 01: what each call of the library returns, and what it leaves in the caller's memory.
-use Prim.Native.Nat.{ℕ}
+use Prim.Native.Nat.{ℕ, _+_, _*_}
 use mathlib.Core.Path.{_≡_}
 use mathlib.Core.List.{List}
 use lib.IntN.{ℤ}
 use lib.ListN.{length}
 use lib.Ieee.{binary64, toBits}
+use Rattle.number.specs.Axis.{whole}
+use Rattle.number.specs.Words.{bits}
 use Rattle.refusal.specs.Outcome.{Outcome, result, refused}
 use Rattle.recording.specs.Output.{counted, outputAfter}
+use Rattle.band.specs.Call.{bandOf}
+use Rattle.band.specs.Ends.{Part, empty, run, Bands}
 use Rattle.pair.specs.Pair.{Given, times, none, pairOf}
 use Rattle.degree.specs.Degree.{Value, met, short, noValue, nearnessOf}
 use Rattle.question.specs.Question.{questionOf}
@@ -74,6 +78,44 @@ pub record Pairs (outcome : Outcome Given) (earlier later r first second : ℕ) 
   pub first-place : first ≡ earlierAfter outcome earlier
   pub second-place : second ≡ laterAfter outcome later
 
+-- ---- the band
+
+-- 1 for a set that is not empty
+abbrev pub filled : Part → ℕ
+filled empty = 0
+filled (run l h) = 1
+
+-- bit 0: certain is not empty; bit 1: possible is not
+abbrev pub bandTold : Outcome Bands → Outcome ℕ
+bandTold (result b) = result (filled (b .certain) + 2 * filled (b .possible))
+bandTold (refused n p) = refused n p
+
+-- the ends of a run are written, each by its 32 bits; of the empty set both places stay
+abbrev pub lowAfter : Part → ℕ → ℕ
+lowAfter empty old = old
+lowAfter (run l h) old = bits (whole l)
+
+abbrev pub highAfter : Part → ℕ → ℕ
+highAfter empty old = old
+highAfter (run l h) old = bits (whole h)
+
+-- the certain set and the possible one; after a refusal nothing is written, as for the empty set
+abbrev pub certainIn : Outcome Bands → Part
+certainIn (result b) = b .certain
+certainIn (refused n p) = empty
+
+abbrev pub possibleIn : Outcome Bands → Part
+possibleIn (result b) = b .possible
+possibleIn (refused n p) = empty
+
+-- THE COMPLETE OUTCOME of the band call: what it returns, and the four places, `certain` and `possible`, low and high, before and after
+pub record InBands (outcome : Outcome Bands) (certain-low certain-high possible-low possible-high r first second third fourth : ℕ) : Type 0 where
+  pub returned : r ≡ packed (bandTold outcome)
+  pub first-place : first ≡ lowAfter (certainIn outcome) certain-low
+  pub second-place : second ≡ highAfter (certainIn outcome) certain-high
+  pub third-place : third ≡ lowAfter (possibleIn outcome) possible-low
+  pub fourth-place : fourth ≡ highAfter (possibleIn outcome) possible-high
+
 -- ---- THE CONTRACT OF EACH CALL: what it is handed, what it returns (r), and the caller's memory after it
 
 abbrev pub QuestionCall : (recording text out : List ℕ) (r : ℕ) (after : List ℕ) → Type 0
@@ -87,3 +129,7 @@ PairCall recording curve target earlier later r first second = Pairs (pairOf rec
 
 abbrev pub ThinCall : (recording marks out : List ℕ) (r : ℕ) (after : List ℕ) → Type 0
 ThinCall recording marks out r after = Writes (thinOf recording marks (length out)) out r after
+
+abbrev pub BandCall : (recording text : List ℕ) (e : ℤ) (certain-low certain-high possible-low possible-high r first second third fourth : ℕ) → Type 0
+BandCall recording text e certain-low certain-high possible-low possible-high r first second third fourth =
+    InBands (bandOf recording text e) certain-low certain-high possible-low possible-high r first second third fourth

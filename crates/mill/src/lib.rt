@@ -1,9 +1,12 @@
 // The C boundary of the library.
 ghost use mathlib.Core.Path.{_≡_};
 ghost use mathlib.Core.Bool.{not};
+ghost use Prim.Native.Nat.{_<_};
 ghost use lib.Dec.{T};
 ghost use lib.Ieee.{binary64, toBits, isNan};
-ghost use Rattle.mill.specs.Boundary.{QuestionCall, DegreeCall, PairCall, ThinCall};
+ghost use Rattle.band.specs.Call.{partOf};
+ghost use Rattle.band.specs.inner.OnAxis.{EndsOnAxis};
+ghost use Rattle.mill.specs.Boundary.{QuestionCall, DegreeCall, PairCall, ThinCall, BandCall, filled, lowAfter, highAfter};
 
 // THE QUESTION CALL. Returns how many bytes of the output the answered set takes, or the refusal.
 #[no_mangle]
@@ -76,5 +79,47 @@ pub extern "C" fn mill_pair(
         }
         pair::TopPair::Nothing => 0,
         pair::TopPair::Refused(x) => reply::refused(x),
+    }
+}
+
+// Writes the ends of a set that is not empty, each by its 32 bits. Returns 1 where it is not empty, else 0.
+fn put_ends(part: band::Part, low: &mut u32, high: &mut u32) -> u64
+    requires { ⌜ EndsOnAxis (partOf part) ⌝ }
+    ensures { λ r. ⌜ (r ≡ filled (partOf part)) × (now (low .exit) ≡ lowAfter (partOf part) (now (low .entry))) × (now (high .exit) ≡ highAfter (partOf part) (now (high .entry))) ⌝ }
+{
+    match part {
+        band::Part::Empty => 0,
+        band::Part::Run(l, h) => {
+            *low = number::bits_at(l);
+            *high = number::bits_at(h);
+            1
+        }
+    }
+}
+
+// THE BAND CALL. Bit 0 of what it returns tells that some number is true of every curve within e, and that the ends of these are written; bit 1 the same
+// of the numbers that are true of at least one; or it returns the refusal. Each end is handed over by its bits: to C it is an int32_t.
+#[no_mangle]
+pub extern "C" fn mill_band(
+    rec: &[u8],
+    text: &[u8],
+    e: i64,
+    certain_low: &mut u32,
+    certain_high: &mut u32,
+    possible_low: &mut u32,
+    possible_high: &mut u32,
+) -> u64
+    ensures { λ r. ⌜ BandCall (now (rec .entry)) (now (text .entry)) e (now («certain_low» .entry)) (now («certain_high» .entry)) (now («possible_low» .entry)) (now («possible_high» .entry)) r (now («certain_low» .exit)) (now («certain_high» .exit)) (now («possible_low» .exit)) (now («possible_high» .exit)) ⌝ }
+{
+    let answer = band::band(rec, text, e);
+    match answer {
+        band::InBand::Sets(b) => {
+            let certain = b.certain;
+            let possible = b.possible;
+            let first = put_ends(certain, certain_low, certain_high);
+            let second = put_ends(possible, possible_low, possible_high);
+            first + 2 * second
+        }
+        band::InBand::Refused(x) => reply::refused(x),
     }
 }

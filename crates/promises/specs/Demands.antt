@@ -1,14 +1,16 @@
 -- THE THREE DEMANDS, sentence by sentence, of the calls of the C boundary: of the 64-bit number that a call returns and of the memory that it leaves,
--- for every call that meets its contract (mill/specs/Boundary: QuestionCall, DegreeCall, PairCall, ThinCall). Each call of the library is proved to
+-- for every call that meets its contract (mill/specs/Boundary: QuestionCall, DegreeCall, PairCall, ThinCall, BandCall). Each call of the library is proved to
 -- meet it, for every input, with no condition. That `Demands` holds is `demands` (laws/Demands).
-use Prim.Native.Nat.{ℕ, _*_, _<_}
+use Prim.Native.Nat.{ℕ, _*_, _/_, _%_, _<_}
 use mathlib.Core.Path.{_≡_}
 use mathlib.Core.Bool.{Bool, true}
 use mathlib.Core.Logic.{_↔_}
 use mathlib.Core.List.{List, [], _∷_, map, List·Memᴰ}
-use lib.IntN.{ℤ}
+use lib.IntN.{ℤ, pos}
 use lib.ListN.{length, take, drop}
 use Rattle.number.specs.Axis.{whole, OfAxis}
+use lib.Signed.{_≤ℤ_}
+use Rattle.number.specs.Words.{signed}
 use Rattle.refusal.specs.Outcome.{result}
 use Rattle.refusal.specs.Numbers.{numberOf, placeOf}
 use Rattle.refusal.specs.declared.Refusal.{Refusal}
@@ -16,7 +18,7 @@ use Rattle.recording.specs.Recording.{readings, Accepted}
 use Rattle.runset.specs.Runs.{setBytes}
 use Rattle.runset.specs.Written.{inBytes}
 use Rattle.grammar.specs.Bytes.{bytes}
-use Rattle.grammar.specs.Syntax.{Text}
+use Rattle.grammar.specs.Syntax.{Listed, Text, listed}
 use Rattle.grammar.specs.Grammar.{ReadsWhole}
 use Rattle.grammar.specs.Size.{afterTimes}
 use Rattle.meaning.specs.Meaning.{Holds}
@@ -24,14 +26,15 @@ use Rattle.meaning.specs.Overfull.{IsSet}
 use Rattle.meaning.specs.Alike.{markIndex}
 use Rattle.degree.specs.Degree.{Value}
 use Rattle.degree.specs.Nearest.{Near}
+use Rattle.band.specs.Band.{OfExtremes, Certain, Possible}
 use Rattle.marks.specs.Marks.{marksOf, marksLine, AcceptedMarks}
 use Rattle.thin.specs.Thin.{keptBytes}
 use Rattle.thin.specs.Book.{Call, book}
 use Rattle.thin.specs.Cut.{wholeFrom, CutBetween, LongEnough, allWritten}
 use Rattle.reply.specs.Reply.{half, numberIn, lowIn}
-use Rattle.mill.specs.Boundary.{QuestionCall, DegreeCall, PairCall, ThinCall, Degrees}
+use Rattle.mill.specs.Boundary.{QuestionCall, DegreeCall, PairCall, ThinCall, BandCall, Degrees}
 use Rattle.promises.specs.CallsMade.{Returned, readOff, CallsMade, heldAt, takenFrom}
-use Rattle.promises.specs.Table.{Request, question, degree, pair, thin, order, acceptedOrder, NoneMet, FirstMet}
+use Rattle.promises.specs.Table.{Request, question, degree, pair, thin, order, acceptedOrder, NoneMet, FirstMet, band}
 
 -- ---- DEMAND 1
 
@@ -60,6 +63,9 @@ pub record Demand1 : Type 0 where
       → OneAnswer (pair recording curve target) r (earlier ∷ later ∷ []) (earlier-after ∷ later-after ∷ [])
   pub of-thin : {recording marks out : List ℕ} {r : ℕ} {after : List ℕ} → ThinCall recording marks out r after
       → OneAnswer (thin recording marks (length out)) r out after
+  pub of-band : {recording text : List ℕ} {e : ℤ} {low high lowest highest r low-after high-after lowest-after highest-after : ℕ}
+      → BandCall recording text e low high lowest highest r low-after high-after lowest-after highest-after
+      → OneAnswer (band recording text e) r (low ∷ high ∷ lowest ∷ highest ∷ []) (low-after ∷ high-after ∷ lowest-after ∷ highest-after ∷ [])
 
 -- ---- DEMAND 2
 
@@ -78,13 +84,31 @@ pub record SetWritten (recording text out : List ℕ) (r : ℕ) (after : List �
   pub set : Fixed recording text (take (lowIn r) after)
   pub behind : drop (lowIn r) after ≡ drop (lowIn r) out
 
+-- z lies in the run that a bit and two places tell of: the bit is set, and z is from the one to the other, each a signed number of 32 bits
+abbrev pub InRun : (bit low high : ℕ) → ℤ → Type 0
+InRun bit low high z = (bit ≡ 1) × (signed low ≤ℤ z) × (z ≤ℤ signed high)
+
+-- document 02, Paper 9, of the two runs that the band call tells of: the text's one reading is a question on extremes alone, and a whole number of
+-- the axis lies in the first if and only if the question is true with it of every curve within e, in the second if and only if of at least one
+pub record BandTold (recording text : List ℕ) (e r low high lowest highest : ℕ) : Type 0 where
+  pub asked : Listed
+  pub extreme : OfExtremes asked
+  pub reads : ReadsWhole text (listed asked)
+  pub only : (t : Text) → ReadsWhole text t → t ≡ listed asked
+  pub certain : (z : ℤ) → OfAxis z → InRun (lowIn r % 2) low high z ↔ Certain asked e (readings recording) z
+  pub possible : (z : ℤ) → OfAxis z → InRun (lowIn r / 2) lowest highest z ↔ Possible asked e (readings recording) z
+
 -- DEMAND 2, of what the question call wrote, and of what the degree call told (`Near`: by the same reading, of the target as the number at index v of the axis)
+-- and the band call (`BandTold`)
 pub record Demand2 : Type 0 where
   pub set-written : {recording text out : List ℕ} {r : ℕ} {after : List ℕ} → QuestionCall recording text out r after → numberIn r ≡ 0
       → SetWritten recording text out r after
   pub degree-told : {recording text : List ℕ} (target : ℤ) {distance value r distance-after value-after : ℕ}
       → DegreeCall recording text target distance value r distance-after value-after → numberIn r ≡ 0
       → (v : ℕ) × (x : Value) × (whole v ≡ target) × Near recording text v x × Degrees (result x) distance value r distance-after value-after
+  pub band-told : {recording text : List ℕ} (e : ℕ) {low high lowest highest r low-after high-after lowest-after highest-after : ℕ}
+      → BandCall recording text (pos e) low high lowest highest r low-after high-after lowest-after highest-after → numberIn r ≡ 0
+      → BandTold recording text e r low-after high-after lowest-after highest-after
 
 -- ---- DEMAND 3
 
@@ -121,7 +145,8 @@ pub record KeptLikeFull (recording text out : List ℕ) (r r′ : ℕ) (after af
   pub same-bytes : numberIn r ≡ 0 → take (lowIn r) after ≡ take (lowIn r) after′
   pub right : RightOf recording text out (1 ∷ 2 ∷ 3 ∷ acceptedOrder) r after
 
--- DEMAND 3, its three sentences; and beyond it: after any list of calls, however long the join, what is held answers what the text means of the join,
+-- DEMAND 3, its three sentences; what the band call returns and leaves on the kept readings is what it does on the full recording (document 02,
+-- Paper 9); and beyond it: after any list of calls, however long the join, what is held answers what the text means of the join,
 -- of which only 4 to 10 are asked; with marks that 11 refuses every call is refused and nothing is ever held
 pub record Demand3 (marks : List ℕ) : Type 0 where
   pub every-list : AcceptedMarks marks → (cs : List Call) (xs : List Returned) → CallsMade marks [] cs xs → EveryList marks cs xs
@@ -130,6 +155,10 @@ pub record Demand3 (marks : List ℕ) : Type 0 where
   pub kept-as-full : AcceptedMarks marks → {recording text : List ℕ} → Accepted recording → AskedOfKept marks text
       → {out out′ : List ℕ} → length out ≡ length out′ → {r r′ : ℕ} {after after′ : List ℕ} → QuestionCall (keptBytes (marksOf marks) recording) text out r after
       → QuestionCall recording text out′ r′ after′ → KeptLikeFull recording text out r r′ after after′
+  pub band-as-full : AcceptedMarks marks → (recording text : List ℕ) → Accepted recording → AskedOfKept marks text
+      → (e : ℤ) {low high lowest highest r low-after high-after lowest-after highest-after : ℕ}
+      → BandCall (keptBytes (marksOf marks) recording) text e low high lowest highest r low-after high-after lowest-after highest-after
+      → BandCall recording text e low high lowest highest r low-after high-after lowest-after highest-after
   pub beyond : AcceptedMarks marks → (cs : List Call) (xs : List Returned) → CallsMade marks [] cs xs → {text : List ℕ} → AskedOfKept marks text
       → {out : List ℕ} {r : ℕ} {after : List ℕ} → QuestionCall (heldAt [] xs) text out r after → RightOf (takenFrom [] cs xs) text out acceptedOrder r after
   pub bad-marks : marksLine marks .meets ≡ true → (cs : List Call) (xs : List Returned) → CallsMade marks [] cs xs

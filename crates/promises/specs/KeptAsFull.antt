@@ -8,6 +8,7 @@ use Rattle.text.specs.Told.{textLines}
 use Rattle.meaning.specs.Alike.{Plain}
 use Rattle.question.specs.Question.{read, questionOf}
 use Rattle.degree.specs.Degree.{nearnessOf}
+use Rattle.band.specs.Call.{bandOf}
 use Rattle.marks.specs.Marks.{marksOf}
 use Rattle.pair.specs.Pair.{pairOf}
 
@@ -24,3 +25,5 @@ pub record SameAnswers (marks held full : List ℕ) : Type 0 where
   pub degree : (text : List ℕ) → Askable marks text → (target : ℤ) → nearnessOf held text target ≡ nearnessOf full text target
   -- the same two times, none, or the same refusal
   pub pair : (curve : ℕ) (target : ℤ) → pairOf held curve target ≡ pairOf full curve target
+  -- the same two sets, or the same refusal
+  pub band : (text : List ℕ) → Askable marks text → (e : ℤ) → bandOf held text e ≡ bandOf full text e

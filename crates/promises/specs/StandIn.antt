@@ -7,8 +7,9 @@ use lib.ListN.{length}
 use Rattle.recording.specs.Recording.{records, readings, Accepted}
 use Rattle.meaning.specs.Alike.{Alike}
 
--- `held` is accepted, as empty as `full`, and has the same observation under these marks
+-- `held` is accepted, as empty as `full`, a single record where `full` is one, and has the same observation under these marks
 pub record StandIn (marks full held : List ℕ) : Type 0 where
   pub accepted : Accepted held
   pub empty : (length (records held) ≡ 0) ↔ (length (records full) ≡ 0)
+  pub single : (length (records held) ≡ 1) ↔ (length (records full) ≡ 1)
   pub alike : Alike marks (readings held) (readings full)

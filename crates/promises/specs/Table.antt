@@ -1,24 +1,26 @@
--- Document 01, "When no result is given": the table of refusals, each condition by its meaning, and the order of each call.
+-- Document 01, "When no result is given": the table of refusals, to which document 02 adds, each condition by its meaning, and the order of each call.
 use Prim.Native.Nat.{ℕ, _*_, _/_, _%_, _<_}
 use mathlib.Core.Path.{_≡_}
 use mathlib.Core.Bool.{Bool, true, false}
 use mathlib.Core.Logic.{_⊎_}
 use mathlib.Core.List.{List, [], _∷_, List·Memᴰ}
-use lib.IntN.{ℤ}
+use lib.IntN.{ℤ, pos}
 use lib.ListN.{length}
+use lib.Signed.{_≤ℤ_}
 use Rattle.number.specs.Axis.{OfAxis}
 use Rattle.refusal.specs.Numbers.{numberOf, placeOf}
 use Rattle.refusal.specs.declared.Refusal.{Refusal}
-use Rattle.refusal.specs.declared.Refusal.the-variants.{PartialRecord, TooManyRecords, BadRecord, NoRecord, TextLength, NoReading, TextTooLarge, TooManyRuns, TooManyTops, ShortOutput, BadMarks, BadTarget}
+use Rattle.refusal.specs.declared.Refusal.the-variants.{PartialRecord, TooManyRecords, BadRecord, NoRecord, TextLength, NoReading, TextTooLarge, TooManyRuns, TooManyTops, ShortOutput, BadMarks, BadTarget, BadBand, NotBandQuestion}
 use Rattle.recording.specs.Condition.{pick}
 use Rattle.recording.specs.Reading.{top, curveOf}
 use Rattle.recording.specs.Recording.{Raw, records, readings, lawful, mostRecords}
 use Rattle.runset.specs.Runs.{runCount}
 use Rattle.tops.specs.Tops.{mostTops}
-use Rattle.grammar.specs.Syntax.{Text}
+use Rattle.grammar.specs.Syntax.{Text, Listed, listed}
 use Rattle.grammar.specs.Grammar.{ReadsWhole}
 use Rattle.grammar.specs.Size.{nodes, openAt, mostBytes, mostNodes, mostOpen}
 use Rattle.meaning.specs.Overfull.{IsSet, Overfull, TooManyTops as OverTops}
+use Rattle.band.specs.Band.{widest, OfExtremes}
 use Rattle.thin.specs.Thin.{keptBytes}
 use Rattle.marks.specs.Marks.{marksOf, mostMarks, latestMark}
 
@@ -28,12 +30,14 @@ pub data Request : Type 0 where
   degree : (recording text : List ℕ) (target : ℤ) → Request
   pair : (recording : List ℕ) (curve : ℕ) (target : ℤ) → Request
   thin : (recording marks : List ℕ) (room : ℕ) → Request
+  band : (recording text : List ℕ) (e : ℤ) → Request
 
 abbrev pub recordingIn : Request → List ℕ
 recordingIn (question r t n) = r
 recordingIn (degree r t g) = r
 recordingIn (pair r c g) = r
 recordingIn (thin r m n) = r
+recordingIn (band r t e) = r
 
 -- the text; a call that takes none has no line about it
 abbrev pub textIn : Request → List ℕ
@@ -41,6 +45,7 @@ textIn (question r t n) = t
 textIn (degree r t g) = t
 textIn (pair r c g) = []
 textIn (thin r m n) = []
+textIn (band r t e) = t
 
 -- record i is the first out of its rules
 pub record FirstBroken (xs : List Raw) (i : ℕ) : Type 0 where
@@ -66,6 +71,7 @@ TopsOver (question r t n) = ReadWith t (OverTops (readings r))
 TopsOver (degree r t g) = ReadWith t (OverTops (readings r))
 TopsOver (pair r c g) = mostTops < length (pick (top (curveOf c)) (readings r))
 TopsOver (thin r m n) = ⊥
+TopsOver (band r t e) = ⊥
 
 -- 10: the output is shorter than the result
 abbrev pub OutputShort : Request → Type 0
@@ -73,6 +79,7 @@ OutputShort (question r t n) = ReadWith t (SetLonger r n)
 OutputShort (degree r t g) = ⊥
 OutputShort (pair r c g) = ⊥
 OutputShort (thin r m n) = n < length (keptBytes (marksOf m) r)
+OutputShort (band r t e) = ⊥
 
 -- 11: the marks are not 4 bytes each, over 8, or too large
 abbrev pub MarksBad : Request → Type 0
@@ -80,6 +87,7 @@ MarksBad (question r t n) = ⊥
 MarksBad (degree r t g) = ⊥
 MarksBad (pair r c g) = ⊥
 MarksBad (thin r m n) = ¬ (length m % 4 ≡ 0) ⊎ ((mostMarks < length m / 4) ⊎ ((k : ℕ) × List·Memᴰ k (marksOf m) × (latestMark < k)))
+MarksBad (band r t e) = ⊥
 
 -- 12: the target is off the axis, or the curve number is not 0 or 1
 abbrev pub TargetBad : Request → Type 0
@@ -87,6 +95,27 @@ TargetBad (question r t n) = ⊥
 TargetBad (degree r t g) = ¬ OfAxis g
 TargetBad (pair r c g) = (1 < c) ⊎ ¬ OfAxis g
 TargetBad (thin r m n) = ⊥
+TargetBad (band r t e) = ⊥
+
+-- 16: the band is not 0 to 1,000,000 units
+abbrev pub BandBad : Request → Type 0
+BandBad (question r t n) = ⊥
+BandBad (degree r t g) = ⊥
+BandBad (pair r c g) = ⊥
+BandBad (thin r m n) = ⊥
+BandBad (band r t e) = ¬ ((pos 0 ≤ℤ e) × (e ≤ℤ pos widest))
+
+-- the text is one question on extremes alone; brackets are no node of it
+abbrev pub OneExtreme : Text → Type 0
+OneExtreme t = (q : Listed) × (t ≡ listed q) × OfExtremes q
+
+-- 17: the text is not one such question alone
+abbrev pub NotOneExtreme : Request → Type 0
+NotOneExtreme (question r t n) = ⊥
+NotOneExtreme (degree r t g) = ⊥
+NotOneExtreme (pair r c g) = ⊥
+NotOneExtreme (thin r m n) = ⊥
+NotOneExtreme (band r t e) = ReadWith t (λ p. ¬ OneExtreme p)
 
 -- THE TABLE: the condition of each line is met by the request
 abbrev pub Met : Request → Refusal → Type 0
@@ -102,6 +131,8 @@ Met q TooManyTops = TopsOver q
 Met q ShortOutput = OutputShort q
 Met q BadMarks = MarksBad q
 Met q BadTarget = TargetBad q
+Met q BadBand = BandBad q
+Met q NotBandQuestion = NotOneExtreme q
 
 -- 4 to 10 in the question call's order: the lines for an accepted recording
 abbrev pub acceptedOrder : List ℕ
@@ -113,6 +144,7 @@ order (question r t n) = 1 ∷ 2 ∷ 3 ∷ acceptedOrder
 order (degree r t g) = 1 ∷ 2 ∷ 3 ∷ 4 ∷ 5 ∷ 6 ∷ 7 ∷ 12 ∷ 9 ∷ 8 ∷ []
 order (pair r c g) = 1 ∷ 2 ∷ 3 ∷ 4 ∷ 12 ∷ 9 ∷ []
 order (thin r m n) = 1 ∷ 2 ∷ 3 ∷ 11 ∷ 10 ∷ []
+order (band r t e) = 1 ∷ 2 ∷ 3 ∷ 4 ∷ 5 ∷ 6 ∷ 7 ∷ 16 ∷ 17 ∷ []
 
 -- no line of these numbers is met
 abbrev pub NoneMet : Request → List ℕ → Type 0

@@ -10,3 +10,4 @@ pub mod FormulasAsked
 pub mod Operator
 pub mod Demands
 pub mod AskedOfKept
+pub mod BandToday

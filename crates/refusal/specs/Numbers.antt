@@ -1,7 +1,7 @@
--- Document 01, the table of refusals: the number and the place of each.
+-- Document 01, the table of refusals, and document 02, which adds to it: the number and the place of each.
 use Prim.Native.Nat.{ℕ}
 use Rattle.refusal.specs.declared.Refusal.{Refusal}
-use Rattle.refusal.specs.declared.Refusal.the-variants.{PartialRecord, TooManyRecords, BadRecord, NoRecord, TextLength, NoReading, TextTooLarge, TooManyRuns, TooManyTops, ShortOutput, BadMarks, BadTarget}
+use Rattle.refusal.specs.declared.Refusal.the-variants.{PartialRecord, TooManyRecords, BadRecord, NoRecord, TextLength, NoReading, TextTooLarge, TooManyRuns, TooManyTops, ShortOutput, BadMarks, BadTarget, BadBand, NotBandQuestion}
 
 abbrev pub numberOf : Refusal → ℕ
 numberOf PartialRecord = 1
@@ -16,6 +16,8 @@ numberOf TooManyTops = 9
 numberOf ShortOutput = 10
 numberOf BadMarks = 11
 numberOf BadTarget = 12
+numberOf BadBand = 16
+numberOf NotBandQuestion = 17
 
 -- the index of the record for number 3, else 0
 abbrev pub placeOf : Refusal → ℕ
@@ -31,3 +33,5 @@ placeOf TooManyTops = 0
 placeOf ShortOutput = 0
 placeOf BadMarks = 0
 placeOf BadTarget = 0
+placeOf BadBand = 0
+placeOf NotBandQuestion = 0

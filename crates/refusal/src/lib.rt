@@ -27,6 +27,10 @@ pub enum Refusal {
     BadMarks,
     // The target is off the axis, or the curve number is not 0 or 1.
     BadTarget,
+    // The band is not 0 to 1,000,000 units.
+    BadBand,
+    // The text is not one question that is answered within a band, alone.
+    NotBandQuestion,
 }
 
 // The refusal's number in the table.
@@ -46,6 +50,8 @@ pub fn number(r: Refusal) -> u32
         Refusal::ShortOutput => 10,
         Refusal::BadMarks => 11,
         Refusal::BadTarget => 12,
+        Refusal::BadBand => 16,
+        Refusal::NotBandQuestion => 17,
     }
 }
 
@@ -66,5 +72,7 @@ pub fn place(r: Refusal) -> usize
         Refusal::ShortOutput => 0,
         Refusal::BadMarks => 0,
         Refusal::BadTarget => 0,
+        Refusal::BadBand => 0,
+        Refusal::NotBandQuestion => 0,
     }
 }

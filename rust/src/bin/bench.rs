@@ -18,6 +18,7 @@ fn main() {
     temporal();
     degrees();
     pairs();
+    bands();
 }
 
 fn thinning() {
@@ -140,6 +141,19 @@ fn pairs() {
         let outcome =
             library().map_or_else(|refusal| refusal.to_string(), |pair| pair.map_or("none".into(), |pair| format!("{pair:?}")));
         row(&format!("pair, 256 tops, {name}"), &outcome, best(&library, &plain), Some(1.2));
+    }
+}
+
+fn bands() {
+    let recording = bytes(&with_tops(&evenly(64, RECORDS), &[]));
+    for text in ["high(A)", "lowafter(A,2000)", "capafter(A,2000)", "ampl(A)"] {
+        let library = || {
+            let ends = |run: Option<mill::Run>| run.map(|run| (run.low, run.high));
+            mill::band(&recording, text.as_bytes(), 500).map(|band| [ends(band.certain), ends(band.possible)])
+        };
+        let plain = || plain::band(&recording, text.as_bytes(), 500);
+        assert_eq!(library().map_err(|refusal| (refusal.number(), refusal.place())), plain(), "{text}");
+        row(&format!("band of {text}"), "two sets", best(&library, &plain), Some(1.2));
     }
 }
 

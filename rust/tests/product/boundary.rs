@@ -5,7 +5,7 @@ use crate::support::r1::r1_bytes;
 use crate::support::r2::r2_bytes;
 use crate::support::recordings::flat;
 use mill::reference::recording::bytes;
-use mill::sys::{mill_degree, mill_pair, mill_question, mill_thin};
+use mill::sys::{mill_band, mill_degree, mill_pair, mill_question, mill_thin};
 use std::ptr::{null, null_mut};
 
 fn refusal(number: u64) -> u64 {
@@ -35,8 +35,12 @@ fn null_with_length_0_in_questions() {
     let r1 = r1_bytes();
     let (recording, length) = (r1.as_ptr(), r1.len());
     let (mut distance, mut degree, mut out) = (77.0, 7.5, [9u8; 64]);
+    let [mut low, mut high, mut lowest, mut highest] = [7i32; 4];
     // SAFETY: each pointer lies before as many bytes as its length says; null goes with 0.
     unsafe {
+        assert_eq!(mill_band(null(), 0, null(), 0, 1, &mut low, &mut high, &mut lowest, &mut highest), refusal(4));
+        assert_eq!(mill_band(recording, length, null(), 0, 1, &mut low, &mut high, &mut lowest, &mut highest), refusal(5));
+        assert_eq!([low, high, lowest, highest], [7; 4]);
         assert_eq!(mill_question(null(), 0, b"high(A)".as_ptr(), 7, out.as_mut_ptr(), 64), refusal(4));
         assert_eq!(mill_question(null(), 0, null(), 0, null_mut(), 0), refusal(4));
         assert_eq!(mill_question(recording, length, null(), 0, out.as_mut_ptr(), 64), refusal(5));

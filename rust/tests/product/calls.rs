@@ -14,7 +14,7 @@ struct Desk {
     recording: Guarded,
     second: Guarded,
     out: Guarded,
-    numbers: [Guarded; 2],
+    numbers: [Guarded; 4],
     /// What outputs hold before a call, from a place that changes with the turn.
     filling: Vec<u8>,
     turn: u64,
@@ -29,7 +29,7 @@ thread_local! {
         recording: Guarded::input(MOST_LENGTH),
         second: Guarded::input(1 << 16),
         out: Guarded::output(MOST_LENGTH),
-        numbers: [Guarded::output(8), Guarded::output(8)],
+        numbers: [(); 4].map(|()| Guarded::output(8)),
         filling: (0..MOST_LENGTH + 256).map(|at| (at % 251) as u8).collect(),
         turn: 0,
     });
@@ -77,19 +77,19 @@ impl Desk {
         (returned, result)
     }
 
-    /// Places for two numbers of so many bytes, filled.
-    fn number_places(&mut self, against: Against, size: usize) -> (*mut u8, *mut u8) {
+    /// Places for four numbers of so many bytes, filled.
+    fn number_places(&mut self, against: Against, size: usize) -> [*mut u8; 4] {
         let turn = self.turn;
         let against = aligned(against);
         for number in &mut self.numbers {
             let at = number.offset(16, against);
             number.bytes()[at..at + 16].fill(filler(turn));
         }
-        (self.numbers[0].place(size, against), self.numbers[1].place(size, against))
+        [0, 1, 2, 3].map(|which| self.numbers[which].place(size, against))
     }
 
     /// The bytes at the number places, and that the bytes beside them are untouched.
-    fn numbers_after(&mut self, against: Against, size: usize) -> (Vec<u8>, Vec<u8>) {
+    fn numbers_after(&mut self, against: Against, size: usize) -> [Vec<u8>; 4] {
         let turn = self.turn;
         let against = aligned(against);
         let mut read = |which: usize, size: usize| {
@@ -103,7 +103,7 @@ impl Desk {
             assert!(beside.iter().all(|byte| *byte == filler(turn)), "bytes beside a number were touched; {}", place());
             own.to_vec()
         };
-        (read(0, size), read(1, size))
+        [0, 1, 2, 3].map(|which| read(which, size))
     }
 }
 
@@ -204,12 +204,12 @@ pub fn degree(recording: &[u8], text: &[u8], target: i64) -> u32 {
         let [first, other, output] = desk.turn();
         let recording_at = desk.recording.put(recording, first);
         let text_at = desk.second.put(text, other);
-        let (distance, degree) = desk.number_places(output, 8);
+        let [distance, degree, ..] = desk.number_places(output, 8);
         // SAFETY: each pointer lies before as many bytes as its length says, or before its number.
         let returned = unsafe {
             sys::mill_degree(recording_at, recording.len(), text_at, text.len(), target, distance.cast(), degree.cast())
         };
-        let (distance, degree) = desk.numbers_after(output, 8);
+        let [distance, degree, ..] = desk.numbers_after(output, 8);
         (returned, distance, degree, filler(desk.turn))
     });
     let untouched = (vec![filler; 8], vec![filler; 8]);
@@ -244,10 +244,10 @@ pub fn pair(recording: &[u8], curve: u32, target: i64) -> u32 {
     let (returned, earlier, later, filler) = DESK.with_borrow_mut(|desk| {
         let [first, _, output] = desk.turn();
         let recording_at = desk.recording.put(recording, first);
-        let (earlier, later) = desk.number_places(output, 4);
+        let [earlier, later, ..] = desk.number_places(output, 4);
         // SAFETY: the pointer lies before as many bytes as its length says, the others before their numbers.
         let returned = unsafe { sys::mill_pair(recording_at, recording.len(), curve, target, earlier.cast(), later.cast()) };
-        let (earlier, later) = desk.numbers_after(output, 4);
+        let [earlier, later, ..] = desk.numbers_after(output, 4);
         (returned, earlier, later, filler(desk.turn))
     });
     let untouched = earlier == [filler; 4] && later == [filler; 4];
@@ -264,6 +264,47 @@ pub fn pair(recording: &[u8], curve: u32, target: i64) -> u32 {
             outcome(returned),
             hex(&earlier),
             hex(&later),
+            hex(recording)
+        );
+    }
+    number_of(&expected)
+}
+
+/// Asks within a band and compares the two sets; the outcome's number.
+#[track_caller]
+pub fn band(recording: &[u8], text: &[u8], e: i64) -> u32 {
+    count();
+    let expected = reference::band(recording, text, e);
+    let (returned, ends, filler) = DESK.with_borrow_mut(|desk| {
+        let [first, other, output] = desk.turn();
+        let recording_at = desk.recording.put(recording, first);
+        let text_at = desk.second.put(text, other);
+        let [low, high, lowest, highest] = desk.number_places(output, 4).map(|place| place.cast());
+        // SAFETY: each pointer lies before as many bytes as its length says, or before its number.
+        let returned =
+            unsafe { sys::mill_band(recording_at, recording.len(), text_at, text.len(), e, low, high, lowest, highest) };
+        (returned, desk.numbers_after(output, 4), filler(desk.turn))
+    });
+    let (mut expected_return, mut expected_ends) = (0, [(); 4].map(|()| vec![filler; 4]));
+    match &expected {
+        Err(refused) => expected_return = refused.returned(),
+        Ok(sets) => {
+            for (which, set) in sets.iter().enumerate() {
+                if let Some((low, high)) = set {
+                    expected_return |= 1 << which;
+                    expected_ends[2 * which] = (*low as i32).to_le_bytes().to_vec();
+                    expected_ends[2 * which + 1] = (*high as i32).to_le_bytes().to_vec();
+                }
+            }
+        }
+    }
+    if (returned, &ends) != (expected_return, &expected_ends) {
+        panic!(
+            "{}\nexpected {} {expected_ends:?}\nfound    {} {ends:?}\nin mill_band of e {e}\n{}\n{}",
+            place(),
+            outcome(expected_return),
+            outcome(returned),
+            shown(text),
             hex(recording)
         );
     }

@@ -29,7 +29,8 @@ const IN_RUST: [(&str, &str); 11] = [
     ("double *", "*mut f64"),
 ];
 
-/// A type of Rattle, and what it may be in C. A slice is a pointer with a length behind it; 64 bits may stand for a double.
+/// A type of Rattle, and what it may be in C. A slice is a pointer with a length behind it; 64 bits may stand for a double, and
+/// 32 bits for a signed number.
 const IN_C: [(&str, &[&str]); 10] = [
     ("u32", &["uint32_t"]),
     ("u64", &["uint64_t"]),
@@ -37,7 +38,7 @@ const IN_C: [(&str, &[&str]); 10] = [
     ("&[u8]", &["const uint8_t *"]),
     ("&mut [u8]", &["uint8_t *"]),
     ("&mut [u32]", &["uint32_t *"]),
-    ("&mut u32", &["uint32_t *"]),
+    ("&mut u32", &["uint32_t *", "int32_t *"]),
     ("&mut u64", &["uint64_t *", "double *"]),
     ("&mut i32", &["int32_t *"]),
     ("&mut i64", &["int64_t *"]),
@@ -201,7 +202,7 @@ fn the_declarations_are_the_same() {
     let found = differences(header::TEXT, RUST, RATTLE);
     assert!(found.is_empty(), "{}", found.join("\n"));
     let calls: Vec<String> = in_c(header::TEXT).into_iter().map(|call| call.name).collect();
-    assert_eq!(calls, ["mill_question", "mill_degree", "mill_pair", "mill_thin"]);
+    assert_eq!(calls, ["mill_question", "mill_degree", "mill_pair", "mill_thin", "mill_band"]);
 }
 
 /// The libraries that open a layer to the tests are declared in Rust alone.

@@ -3,6 +3,7 @@
 #[path = "../support/mod.rs"]
 mod support;
 
+mod band;
 mod boundary;
 mod calls;
 mod damaged;

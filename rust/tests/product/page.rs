@@ -4,7 +4,8 @@
 //! An answer is `empty`; or runs in ascending order, parted by `, `, each a number or `low..high`, with `Lo` and `Hi` for the
 //! axis ends; or `refused` with number and place. ```` ```mill kept ```` asks R1's kept readings without marks,
 //! ```` ```mill kept 40 50 ```` those with these marks. ```` ```mill degree 51 ```` asks for degrees of this target: `met`,
-//! `distance d, degree g` or `no value`. ```` ```mill R2 ```` and ```` ```mill R3 ````, with any of these behind it, ask R2 and R3.
+//! `distance d, degree g` or `no value`. ```` ```mill band 5 ```` asks within this band: `certain` and a set, `; possible` and a
+//! set. ```` ```mill R2 ```` and ```` ```mill R3 ````, with any of these behind it, ask R2 and R3.
 //! Blank lines, and lines that begin with `#`, say nothing. A block ```` ```ask ```` holds lines `$ echo 'text' | ask`, each with
 //! what the program prints below it. Other fenced blocks are not looked at.
 
@@ -27,6 +28,7 @@ enum Asked {
     OfFull,
     OfKept(Vec<u32>),
     Degree(i64),
+    Band(i64),
     AtThePrompt,
 }
 
@@ -102,6 +104,7 @@ fn block_of(name: &str) -> Result<Block, String> {
             Asked::OfKept(marks.map_err(unread)?)
         }
         ["degree", target] => Asked::Degree(target.parse().map_err(unread)?),
+        ["band", e] => Asked::Band(e.parse().map_err(unread)?),
         _ => return Err(format!("unknown block '{name}'")),
     };
     Ok(Block::Examples(recording, asked))
@@ -125,6 +128,10 @@ fn answer(example: &Example) -> String {
             Degree::Met => "met".into(),
             Degree::Short { distance, degree } => format!("distance {distance}, degree {degree}"),
             Degree::NoValue => "no value".into(),
+        }),
+        Asked::Band(e) => mill::band(&recording, text, *e).map(|band| {
+            let set = |run: Option<Run>| on_the_page(&run.into_iter().collect::<Vec<_>>());
+            format!("certain {}; possible {}", set(band.certain), set(band.possible))
         }),
         Asked::AtThePrompt => return at_the_prompt(mill::question(&recording, text)),
     };
@@ -266,6 +273,10 @@ X(A=v) => 8
 dose(16) => 70
 dose(3) => 20, 60
 ```
+```mill band 5
+high(A) => certain Lo..85; possible Lo..95
+high(A) => certain Lo..85; possible Lo..94
+```
 ```ask
 $ echo 'peaks(A)' | ask
 runs 2
@@ -280,15 +291,16 @@ refused 6 0
 ```
 ";
     let found = examples(page).unwrap();
-    assert_eq!(found.len(), 21);
+    assert_eq!(found.len(), 23);
     let wrong = wrong(&found);
-    assert_eq!(wrong.len(), 6, "{wrong:?}");
+    assert_eq!(wrong.len(), 7, "{wrong:?}");
     assert_eq!(wrong[0], "line 7: A=v|A>90 => 40, and not refused 9 9");
     assert_eq!(wrong[1], "line 22: F(T=v&A=55) => 50, and not empty");
     assert_eq!(wrong[2], "line 26: peaks(A) => distance 19, degree 0.05, and not distance 19, degree 0.06");
     assert_eq!(wrong[3], "line 32: peaks(A) => 40, 60, and not 30, 70");
     assert_eq!(wrong[4], "line 39: dose(3) => 0, 20, 60, and not 20, 60");
-    assert_eq!(wrong[5], "line 48: lag => runs 0\n, and not runs 1\n");
+    assert_eq!(wrong[5], "line 43: high(A) => certain Lo..85; possible Lo..95, and not certain Lo..85; possible Lo..94");
+    assert_eq!(wrong[6], "line 52: lag => runs 0\n, and not runs 1\n");
     assert!(examples("```mill\nlag\n```\n").is_err());
     assert!(examples("```mill\nlag => empty\n").is_err());
     assert!(examples("```mill keep\n```\n").is_err());
@@ -296,5 +308,6 @@ refused 6 0
     assert!(examples("```mill kept R2\n```\n").is_err());
     assert!(examples("```mill kept x\n```\n").is_err());
     assert!(examples("```mill degree\n```\n").is_err());
+    assert!(examples("```mill band x\n```\n").is_err());
     assert!(examples("```ask\nruns 0\n```\n").is_err());
 }

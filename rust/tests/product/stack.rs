@@ -6,7 +6,7 @@ use crate::support::recordings::{flat, put_top, with_tops};
 use crate::support::small_stack::on_stack_of;
 use crate::support::{header, painted};
 use mill::reference::recording::bytes;
-use mill::sys::{mill_degree, mill_pair, mill_question, mill_thin};
+use mill::sys::{mill_band, mill_degree, mill_pair, mill_question, mill_thin};
 use std::collections::BTreeMap;
 
 /// A recording of 4,096 readings under which sets grow to 250 runs, with additions.
@@ -87,6 +87,7 @@ enum Job {
     Degree(Vec<u8>, String),
     Pair(Vec<u8>, i64),
     Thin(Vec<u8>),
+    Band(Vec<u8>, String),
 }
 
 impl Job {
@@ -97,6 +98,7 @@ impl Job {
             Job::Degree(..) => ("mill_degree", header::stack("DEGREE")),
             Job::Pair(..) => ("mill_pair", header::stack("PAIR")),
             Job::Thin(_) => ("mill_thin", header::stack("THIN")),
+            Job::Band(..) => ("mill_band", header::stack("BAND")),
         }
     }
 }
@@ -106,7 +108,11 @@ fn jobs() -> Vec<Job> {
     for recording in recordings() {
         for text in texts() {
             jobs.push(Job::Question(recording.clone(), text.clone()));
-            jobs.push(Job::Degree(recording.clone(), text));
+            jobs.push(Job::Degree(recording.clone(), text.clone()));
+            jobs.push(Job::Band(recording.clone(), text));
+        }
+        for question in ["high(A)", "low(B)", "lowafter(A,100)", "capafter(B,100)", "ampl(A)"] {
+            jobs.push(Job::Band(recording.clone(), format!("{}{question}{}", "(".repeat(15), ")".repeat(15))));
         }
         jobs.push(Job::Pair(recording.clone(), 16));
         jobs.push(Job::Pair(recording.clone(), 5));
@@ -131,6 +137,11 @@ fn run(job: &Job, out: &mut [u8]) -> u64 {
             Job::Pair(recording, target) => mill_pair(recording.as_ptr(), recording.len(), 0, *target, &mut one, &mut two),
             Job::Thin(recording) => {
                 mill_thin(recording.as_ptr(), recording.len(), MARKS.as_ptr(), MARKS.len(), out.as_mut_ptr(), out.len())
+            }
+            Job::Band(recording, text) => {
+                let [mut low, mut high, mut lowest, mut highest] = [0; 4];
+                let (at, length) = (recording.as_ptr(), recording.len());
+                mill_band(at, length, text.as_ptr(), text.len(), 9, &mut low, &mut high, &mut lowest, &mut highest)
             }
         }
     }
@@ -184,7 +195,8 @@ fn a_stack_that_is_too_small_is_seen() {
         (Job::Question(recording.clone(), "(".repeat(256)), 65_536),
         (Job::Degree(recording.clone(), "(".repeat(256)), 65_536),
         (Job::Pair(recording.clone(), 16), 512),
-        (Job::Thin(recording), 4_096),
+        (Job::Thin(recording.clone()), 4_096),
+        (Job::Band(recording, "(".repeat(256)), 65_536),
     ];
     if let Ok(which) = std::env::var(LESS) {
         let which: usize = which.parse().unwrap();

@@ -38,6 +38,10 @@ fn plain_rust_answers_alike() {
         let plain = mill::plain::thin(&recording, &marks, &mut out).map(|length| out[..length].to_vec());
         assert_eq!(plain, reference::thin(&recording, &marks, recording.len()).map_err(pair));
 
+        let e = random.pick(&[0, 1, 7, 1_000_000, 1_000_001, -1]);
+        let ends = |sets: [Option<(i64, i64)>; 2]| sets.map(|set| set.map(|(low, high)| (low as i32, high as i32)));
+        assert_eq!(mill::plain::band(&recording, &text, e), reference::band(&recording, &text, e).map(ends).map_err(pair));
+
         let curve = random.below(3) as u32;
         let gap = random.between(0, 30);
         assert_eq!(mill::plain::pair(&recording, curve, gap), reference::pair(&recording, curve, gap).map_err(pair));

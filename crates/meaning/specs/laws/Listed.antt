@@ -203,7 +203,7 @@ module _ (r : List Reading) (s : AllSettled r) (z : ℤ) (n : ℕ) (is : Stands 
       )
 
   -- THE BOOL IS TRUE EXACTLY WHERE THE WORDING HOLDS
-  says-at : (q : Listed) → So (truth q (map code r) n) ↔ Says q r z
+  pub says-at : (q : Listed) → So (truth q (map code r) n) ↔ Says q r z
   unfolding truth Says
   says-at (high c) = of-high c
   says-at (low c) = of-low c

@@ -30,7 +30,7 @@ move : (z : ℤ) (p q p′ q′ : ℕ) → Stands z p q → p + q′ ≡ p′ + 
 move (pos n) p q p′ q′ h e = omega arith
 move (negsuc n) p q p′ q′ h e = omega arith
 
-stands-le : (z z′ : ℤ) (p q p′ q′ : ℕ) → Stands z p q → Stands z′ p′ q′ → leZ z z′ ≡ leb (p + q′) (p′ + q)
+pub stands-le : (z z′ : ℤ) (p q p′ q′ : ℕ) → Stands z p q → Stands z′ p′ q′ → leZ z z′ ≡ leb (p + q′) (p′ + q)
 stands-le (pos n) (pos n′) p q p′ q′ h k = same _ _
     (λ e. le-leb (p + q′) (p′ + q) (omega (arith, leb-true n n′ e))) (λ e. le-leb n n′ (omega (arith, leb-true (p + q′) (p′ + q) e)))
 stands-le (pos n) (negsuc n′) p q p′ q′ h k = sym (lt-leb (p + q′) (p′ + q) (omega arith))
@@ -56,7 +56,7 @@ stands-one (pos n) (negsuc n′) p q p′ q′ h k e = absurd (omega arith)
 stands-one (negsuc n) (pos n′) p q p′ q′ h k e = absurd (omega arith)
 stands-one (negsuc n) (negsuc n′) p q p′ q′ h k e = let t : n ≡ n′ = omega arith in ap negsuc t
 
-stands-add : (z z′ : ℤ) (p q p′ q′ : ℕ) → Stands z p q → Stands z′ p′ q′ → Stands (z +ℤ z′) (p + p′) (q + q′)
+pub stands-add : (z z′ : ℤ) (p q p′ q′ : ℕ) → Stands z p q → Stands z′ p′ q′ → Stands (z +ℤ z′) (p + p′) (q + q′)
 stands-add (pos n) (pos n′) p q p′ q′ h k = omega arith
 stands-add (pos n) (negsuc n′) p q p′ q′ h k = move (subℕ n (suc n′)) n (suc n′) (p + p′) (q + q′) (stands-sub n (suc n′)) (omega arith)
 stands-add (negsuc n) (pos n′) p q p′ q′ h k = move (subℕ n′ (suc n)) n′ (suc n) (p + p′) (q + q′) (stands-sub n′ (suc n)) (omega arith)

@@ -24,13 +24,15 @@ use Rattle.marks.specs.Marks.{marksOf, marksLine}
 use Rattle.thin.specs.laws.Book.{kept-sixteens}
 use Rattle.runset.specs.Runs.{setBytes}
 use Rattle.text.specs.Told.{textLines}
-use Rattle.meaning.specs.inner.Coded.{index}
+use Rattle.meaning.specs.inner.Coded.{coded, index}
 use Rattle.question.specs.Question.{answer, read, setLines, questionOf}
 use Rattle.question.specs.laws.Size.{answered-few}
 use Rattle.degree.specs.Degree.{Value, valueOf, targetLine, nearnessOf, outcomeOf}
 use Rattle.degree.specs.laws.Call.{Numbers, short-numbers}
 use Rattle.degree.specs.declared.Nearness.{Nearness}
 use Rattle.degree.specs.declared.Nearness.the-variants as nearness
+use Rattle.band.specs.Call.{widthOf, theQuestion, widthLine, extremeLine, bandOf}
+use Rattle.band.specs.Ends.{bandsOf}
 use Rattle.pair.specs.Pair.{firstPair, acceptedLines, pairOf}
 use Rattle.reply.specs.Reply.{half, packed, InHalf}
 use Rattle.reply.specs.laws.Place.{place-below}
@@ -137,3 +139,9 @@ pub pair-place : (bytes : List ℕ) (curve : ℕ) (g : ℤ) (n p : ℕ) → pair
 unfolding pairOf
 pair-place bytes curve g n p e =
     place-below bytes (acceptedLines bytes curve g) (firstPair (readings bytes) (curveOf curve) g) n p (refl, (refl, (refl, tt))) e
+
+pub band-place : (bytes text : List ℕ) (e : ℤ) (n p : ℕ) → bandOf bytes text e ≡ refused n p → p < half
+unfolding bandOf
+band-place bytes text e n p h =
+    place-below bytes (noRecord bytes ∷ textLines text ++ (widthLine e ∷ extremeLine (read text) ∷ [])) (bandsOf (theQuestion (read text)) (widthOf e) (coded bytes)) n p
+    (refl, (refl, (refl, (refl, (refl, (refl, tt)))))) h

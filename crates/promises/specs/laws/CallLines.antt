@@ -41,10 +41,13 @@ use Rattle.question.specs.Question.{read, answer, askingLines, setLines}
 use Rattle.question.specs.inner.Lines.{LinesMean}
 use Rattle.question.specs.laws.Lines.{read-reads, reads-read, lines-mean}
 use Rattle.degree.specs.Degree.{targetLine}
+use Rattle.band.specs.Band.{widest}
+use Rattle.band.specs.Call.{badBand, oneExtreme, widthLine, extremeLine}
+use Rattle.band.specs.laws.Meant.{test-extreme, one-alone}
 use Rattle.pair.specs.Pair.{pairLines, acceptedLines}
 use Rattle.thin.specs.Thin.{keptBytes}
 use Rattle.marks.specs.Marks.{marksOf, mostMarks, latestMark, marksLine}
-use Rattle.promises.specs.Table.{Request, question, degree, pair, thin, recordingIn, textIn, OpenTooDeep, acceptedOrder, order}
+use Rattle.promises.specs.Table.{Request, question, degree, pair, thin, recordingIn, textIn, OpenTooDeep, acceptedOrder, order, band, OneExtreme}
 use Rattle.promises.specs.laws.Table.{Agrees, Agree, agree-recording}
 
 -- ---- tests
@@ -352,3 +355,43 @@ agree-thin bytes marks room =
         λ ten. tt,
       ),
     ))
+
+-- ---- the band call
+
+-- 16
+in-band : (e : ℤ) → (badBand e ≡ false) ↔ ((pos 0 ≤ℤ e) × (e ≤ℤ pos widest))
+in-band (pos n) = (λ h. (leZ-yes (le→leb 0 n (omega arith)), leZ-yes (le→leb n widest (ltb-false widest n h))), λ h. le-ltb widest n (leb→le n widest (h .1 .le)))
+in-band (negsuc n) = (λ h. absurd (true≢false h), λ h. absurd (h .0 .le))
+
+-- 17
+one-extreme : (p : Text) → (oneExtreme p ≡ true) ↔ OneExtreme p
+one-extreme p = (
+  λ h. let o = one-alone p h in (_, o .is, o .extreme),
+  λ o. ap oneExtreme (o .1) ∙ test-extreme (o .0) (o .2),
+)
+
+pub agree-band : (bytes text : List ℕ) (e : ℤ)
+    → Agree (band bytes text e) (askingLines bytes text ++ (widthLine e ∷ extremeLine (read text) ∷ [])) (order (band bytes text e))
+agree-band bytes text e =
+    agree-recording (band bytes text e) (noRecord bytes ∷ textLines text ++ (widthLine e ∷ extremeLine (read text) ∷ [])) (4 ∷ 5 ∷ 6 ∷ 7 ∷ 16 ∷ 17 ∷ [])
+    (λ a. agree-four bytes bytes text (in-its-place bytes text a) (band bytes text e) refl (textLines text ++ (widthLine e ∷ extremeLine (read text) ∷ [])) (5 ∷ 6 ∷ 7 ∷ 16 ∷ 17 ∷ [])
+    (λ some. agree-text (band bytes text e) bytes (lines-mean bytes text a some) (widthLine e ∷ extremeLine (read text) ∷ []) (16 ∷ 17 ∷ [])
+    (λ sized. (
+      record {
+        number = refl;
+        named = refl;
+        placed = refl;
+        met = λ h k. clash h (in-band e .1 k);
+        unmet = λ h p m. m (in-band e .0 h);
+      },
+      λ sixteen. (
+        record {
+          number = refl;
+          named = refl;
+          placed = refl;
+          met = λ h. (read text, read-reads text (sized .1 .0), λ o. clash (one-extreme (read text) .1 o) (not-true _ h));
+          unmet = λ h p m. m .2 (one-extreme (m .0) .0 (ap oneExtreme (sym (reads-read text (m .0) (m .1))) ∙ not-false _ h));
+        },
+        λ seventeen. tt,
+      ),
+    ))))

@@ -10,7 +10,7 @@ use lib.IntN.{ℤ, pos, negsuc}
 use lib.ListN.{length, take, drop}
 use lib.Signed.{_≤ℤ_}
 use lib.Seq.{take-append-seam, drop-append-seam}
-use borrow.Author.Tests.{eqb-true, eq-eqb, ne-eqb}
+use borrow.Author.Tests.{eqb-true, eq-eqb, ne-eqb, leb-true, le-leb}
 use Rattle.number.specs.Axis.{axis, origin, whole, OfAxis}
 use Rattle.number.specs.Least.{least}
 use Rattle.refusal.specs.Outcome.{Outcome, result, refused, Line, judged, NoneMeets}
@@ -29,7 +29,7 @@ use Rattle.grammar.specs.Syntax.{Text}
 use Rattle.grammar.specs.Grammar.{ReadsWhole}
 use Rattle.text.specs.Told.{textLines}
 use Rattle.meaning.specs.Alike.{Plain}
-use Rattle.number.specs.laws.Boolean.{same}
+use Rattle.number.specs.laws.Boolean.{same, then}
 use Rattle.meaning.specs.Meaning.{Holds}
 use Rattle.question.specs.Question.{read, answer, askingLines, setLines, questionOf}
 use Rattle.question.specs.laws.Answer.{answered-accepted}
@@ -37,7 +37,17 @@ use Rattle.question.specs.laws.Lines.{read-reads, reads-read}
 use Rattle.degree.specs.Nearest.{Near}
 use Rattle.degree.specs.laws.Nearest.{nearness-says}
 use Rattle.degree.specs.Degree.{Value, met, short, noValue, valueOf, targetLine, nearnessOf}
-use Rattle.meaning.specs.inner.Coded.{index}
+use Rattle.meaning.specs.inner.Coded.{coded, index}
+use Rattle.band.specs.Band.{Certain, Possible}
+use Rattle.band.specs.Call.{widthOf, theQuestion, widthLine, extremeLine, bandOf}
+use Rattle.band.specs.Ends.{Part, empty, run, InPart, Bands, bandsOf}
+use Rattle.band.specs.Means.{Meant}
+use Rattle.band.specs.inner.OnAxis.{EndsOnAxis}
+use Rattle.band.specs.laws.OnAxis.{given-on-axis}
+use Rattle.band.specs.laws.Meant.{band-meant}
+use Rattle.number.specs.Words.{signed}
+use Rattle.number.specs.laws.Words.{signed-bits}
+use Rattle.meaning.specs.laws.Whole.{stands-whole, le-index}
 use Rattle.pair.specs.Pair.{Given, times, none, firstPair, pairLines, pairOf}
 use Rattle.thin.specs.Thin.{keptBytes, thinOf}
 use Rattle.marks.specs.Marks.{marksOf, marksLine, AcceptedMarks}
@@ -47,16 +57,16 @@ use Rattle.thin.specs.Cut.{wholeFrom, CutBetween, LongEnough, allWritten}
 use Rattle.thin.specs.laws.Cut.{as-the-whole}
 use Rattle.reply.specs.Reply.{half, packed, InHalf, numberIn, lowIn, unpacked}
 use Rattle.reply.specs.laws.Unpacked.{Numbered, number-result, low-result, number-refused, low-refused, unpacked-packed}
-use Rattle.mill.specs.Boundary.{Writes, Degrees, QuestionCall, DegreeCall, PairCall, ThinCall, valueTold, distanceAfter, degreeAfter, pairTold, earlierAfter, laterAfter}
-use Rattle.mill.specs.laws.Boundary.{thin-in-half, question-in-half, degree-place, pair-place}
-use Rattle.promises.specs.Table.{Request, question, degree, pair, thin, order, acceptedOrder, NoneMet, FirstMet}
+use Rattle.mill.specs.Boundary.{Writes, Degrees, QuestionCall, DegreeCall, PairCall, ThinCall, valueTold, distanceAfter, degreeAfter, pairTold, earlierAfter, laterAfter, BandCall, filled, bandTold, lowAfter, highAfter, certainIn, possibleIn, InBands}
+use Rattle.mill.specs.laws.Boundary.{thin-in-half, question-in-half, degree-place, pair-place, band-place}
+use Rattle.promises.specs.Table.{Request, question, degree, pair, thin, order, acceptedOrder, NoneMet, FirstMet, band}
 use Rattle.promises.specs.laws.Table.{number-bounds, Agree, AsTable, met-there, judged-told}
-use Rattle.promises.specs.laws.CallLines.{InPlace, in-its-place, answer-is, agree-asked, agree-question, agree-degree, agree-pair, agree-marks, agree-thin}
+use Rattle.promises.specs.laws.CallLines.{InPlace, in-its-place, answer-is, agree-asked, agree-question, agree-degree, agree-pair, agree-marks, agree-thin, agree-band}
 use Rattle.promises.specs.laws.Operator.{unwritten-flat}
 use Rattle.promises.specs.StandIn.{StandIn}
-use Rattle.promises.specs.laws.StandIn.{stand-same, stand-question, kept-stands, kept-accepted}
+use Rattle.promises.specs.laws.StandIn.{stand-same, stand-question, stand-band, kept-stands, kept-accepted}
 use Rattle.promises.specs.CallsMade.{Returned, readOff, CallsMade, heldAt, takenFrom}
-use Rattle.promises.specs.Demands.{ByTheTable, OneAnswer, Demand1, Fixed, SetWritten, Demand2, AskedOfKept, RightOf, EveryList, CutWhole, KeptLikeFull, Demand3, Demands}
+use Rattle.promises.specs.Demands.{ByTheTable, OneAnswer, Demand1, Fixed, SetWritten, Demand2, AskedOfKept, RightOf, EveryList, CutWhole, KeptLikeFull, Demand3, Demands, InRun, BandTold}
 use Rattle.recording.specs.Reading.{curveOf}
 
 -- ---- DEMAND 1: the number that is returned
@@ -171,6 +181,39 @@ pair-answered bytes curve target earlier later r first second c =
     go (refused n i) e h p f s =
         record { result-or-refusal = judged-number q (order q) (refused n i) r p (pair-place bytes curve target n i e) h; refusal-writes-nothing = λ k. ap₂ (λ (x y : ℕ). x ∷ y ∷ []) f s }
 
+band-judged : (bytes text : List ℕ) (e : ℤ) → AsTable (band bytes text e) (order (band bytes text e)) (bandOf bytes text e)
+unfolding bandOf
+band-judged bytes text e =
+    judged-told (band bytes text e) (askingLines bytes text ++ (widthLine e ∷ extremeLine (read text) ∷ [])) (order (band bytes text e))
+    (bandsOf (theQuestion (read text)) (widthOf e) (coded bytes)) (agree-band bytes text e)
+
+filled-few : (p : Part) → filled p ≤ 1
+filled-few empty = omega arith
+filled-few (run l h) = omega arith
+
+-- the four places of the band call
+band-answered : (bytes text : List ℕ) (e : ℤ) (low high lowest highest r a b c d : ℕ) → BandCall bytes text e low high lowest highest r a b c d
+    → OneAnswer (band bytes text e) r (low ∷ high ∷ lowest ∷ highest ∷ []) (a ∷ b ∷ c ∷ d ∷ [])
+band-answered bytes text e low high lowest highest r a b c d w =
+    go (bandOf bytes text e) refl (band-judged bytes text e) w
+  where
+    q : Request
+    q = band bytes text e
+
+    go : (o : Outcome Bands) → bandOf bytes text e ≡ o → AsTable q (order q) o → InBands o low high lowest highest r a b c d
+        → OneAnswer q r (low ∷ high ∷ lowest ∷ highest ∷ []) (a ∷ b ∷ c ∷ d ∷ [])
+    go (result x) h t w =
+        let m = filled-few (x .certain) in let n = filled-few (x .possible) in
+        let small : filled (x .certain) + 2 * filled (x .possible) < half = omega arith in
+        record {
+          result-or-refusal = judged-number q (order q) (bandTold (result x)) r (w .returned) small t;
+          refusal-writes-nothing = λ k. absurd (k (ap numberIn (w .returned) ∙ number-result (filled (x .certain) + 2 * filled (x .possible)) small));
+        }
+    go (refused n i) h t w = record {
+      result-or-refusal = judged-number q (order q) (refused n i) r (w .returned) (band-place bytes text e n i h) t;
+      refusal-writes-nothing = λ k. let f = w .first-place in let g = w .second-place in let u = w .third-place in let v = w .fourth-place in λ j. f j ∷ g j ∷ u j ∷ v j ∷ [];
+    }
+
 demand-1 : Demand1
 demand-1 = record {
   of-question = λ {recording} {text} {out} {r} {after} w.
@@ -179,6 +222,8 @@ demand-1 = record {
   of-pair = λ {recording} {curve} {target} {earlier} {later} {r} {earlier-after} {later-after} c. pair-answered recording curve target earlier later r earlier-after later-after c;
   of-thin = λ {recording} {marks} {out} {r} {after} w.
       writes-answered (thin recording marks (length out)) (thinOf recording marks (length out)) out r after (thin-told recording marks (length out)) (thin-in-half recording marks (length out)) w;
+  of-band = λ {recording} {text} {e} {low} {high} {lowest} {highest} {r} {low-after} {high-after} {lowest-after} {highest-after} w.
+      band-answered recording text e low high lowest highest r low-after high-after lowest-after highest-after w;
 }
 
 -- ---- DEMAND 2
@@ -259,6 +304,66 @@ degree-meant recording text target distance value r first second d z = go (nearn
         let m = t .2 in
         let k : numberIn r ≡ n = ap numberIn (d .returned ∙ ap (λ (o : Outcome Value). packed (valueTold o)) e) ∙ number-refused n p (degree-place recording text target n p e) in
         absurd (omega arith)
+
+-- a run that the places tell of, by the indices of its ends
+part-run : (p : Part) → EndsOnAxis p → (low high low-after high-after : ℕ) → low-after ≡ lowAfter p low → high-after ≡ highAfter p high → (n : ℕ)
+    → InRun (filled p) low-after high-after (whole n) ↔ InPart p n
+part-run empty o low high low-after high-after f s n = (λ w. let z = w .0 in absurd (omega arith), λ w. absurd w)
+part-run (run l h) o low high low-after high-after f s n =
+    let e : signed low-after ≡ whole l = ap signed f ∙ signed-bits l (o .0) in
+    let g : signed high-after ≡ whole h = ap signed s ∙ signed-bits h (o .1) in
+    let a = le-index (whole l) (whole n) l n (stands-whole l) (stands-whole n) in
+    let b = le-index (whole n) (whole h) n h (stands-whole n) (stands-whole h) in (
+      λ w. (leb-true l n (a .1 (subst (λ (z : ℤ). z ≤ℤ whole n) e (w .1))), leb-true n h (b .1 (subst (λ (z : ℤ). whole n ≤ℤ z) g (w .2)))),
+      λ w. (refl, subst (λ (z : ℤ). z ≤ℤ whole n) (sym e) (a .0 (le-leb l n (w .0))), subst (λ (z : ℤ). whole n ≤ℤ z) (sym g) (b .0 (le-leb n h (w .1)))),
+    )
+
+-- the call gives two sets where it is not refused
+pub band-given : (recording text : List ℕ) (e : ℤ) (low high lowest highest r a b c d : ℕ) → BandCall recording text e low high lowest highest r a b c d → numberIn r ≡ 0
+    → (x : Bands) × (bandOf recording text e ≡ result x)
+band-given recording text e low high lowest highest r a b c d w z = go (bandOf recording text e) refl w
+  where
+    go : (o : Outcome Bands) → bandOf recording text e ≡ o → InBands o low high lowest highest r a b c d → (x : Bands) × (bandOf recording text e ≡ result x)
+    go (result x) h w = (x, h)
+    go (refused n p) h w =
+        let q : Request = band recording text e in
+        let t : AsTable q (order q) {R = Bands} (refused n p) = subst (λ (o : Outcome Bands). AsTable q (order q) o) h (band-judged recording text e) in
+        let f = number-bounds (t .0) in
+        let m = t .2 in
+        let k : numberIn r ≡ n = ap numberIn (w .returned) ∙ number-refused n p (band-place recording text e n p h) in
+        absurd (omega arith)
+
+band-meaning : (recording text : List ℕ) (e low high lowest highest r a b c d : ℕ) → BandCall recording text (pos e) low high lowest highest r a b c d → numberIn r ≡ 0
+    → BandTold recording text e r a b c d
+band-meaning recording text e low high lowest highest r a b c d w z =
+    let g = band-given recording text (pos e) low high lowest highest r a b c d w z in
+    sets (g .0) (g .1) (subst (λ (o : Outcome Bands). InBands o low high lowest highest r a b c d) (g .1) w)
+  where
+    sets : (x : Bands) → bandOf recording text (pos e) ≡ result x → InBands (result x) low high lowest highest r a b c d → BandTold recording text e r a b c d
+    sets x h w =
+        let m = filled-few (x .certain) in let n = filled-few (x .possible) in
+        let small : filled (x .certain) + 2 * filled (x .possible) < half = omega arith in
+        let is : lowIn r ≡ filled (x .certain) + 2 * filled (x .possible) = ap lowIn (w .returned) ∙ low-result (filled (x .certain) + 2 * filled (x .possible)) small in
+        let first : lowIn r % 2 ≡ filled (x .certain) = omega arith in
+        let second : lowIn r / 2 ≡ filled (x .possible) = omega arith in
+        let t : Meant recording text e x = band-meant recording text e x h in
+        let o = given-on-axis recording text (pos e) x h in
+        record {
+          asked = t .question;
+          extreme = t .extreme;
+          reads = t .reads;
+          only = t .only;
+          certain = λ y i.
+              let k = index-of y i in
+              subst (λ (v : ℤ). InRun (lowIn r % 2) a b v ↔ Certain (t .question) e (readings recording) v) (k .2)
+              (subst (λ (bit : ℕ). InRun bit a b (whole (k .0)) ↔ Certain (t .question) e (readings recording) (whole (k .0))) (sym first)
+              (then (part-run (x .certain) (o .0) low high a b (w .first-place) (w .second-place) (k .0)) (t .means .certain (k .0) (k .1))));
+          possible = λ y i.
+              let k = index-of y i in
+              subst (λ (v : ℤ). InRun (lowIn r / 2) c d v ↔ Possible (t .question) e (readings recording) v) (k .2)
+              (subst (λ (bit : ℕ). InRun bit c d (whole (k .0)) ↔ Possible (t .question) e (readings recording) (whole (k .0))) (sym second)
+              (then (part-run (x .possible) (o .1) lowest highest c d (w .third-place) (w .fourth-place) (k .0)) (t .means .possible (k .0) (k .1))));
+        }
 
 -- ---- DEMAND 3: lists of calls
 
@@ -356,6 +461,11 @@ module _ (marks recording text : List ℕ) (a : Accepted recording) (l : AskedOf
 
   kept-call : (out : List ℕ) (r : ℕ) (after : List ℕ) → QuestionCall (keptBytes (marksOf marks) recording) text out r after → QuestionCall recording text out r after
   kept-call out r after w = subst (λ (o : Outcome (List ℕ)). Writes o out r after) (kept-same (length out)) w
+
+  kept-band : (e : ℤ) → bandOf (keptBytes (marksOf marks) recording) text e ≡ bandOf recording text e
+  kept-band e =
+      stand-band marks recording (keptBytes (marksOf marks) recording) (kept-stands (marksOf marks) recording (kept-accepted (marksOf marks) recording a)) a text
+      (λ n. asked-plain marks text l (read text) (read-reads text (n .1 .0))) e
 
 -- two calls alike in all but their outputs, which have one length
 same-written : (recording text out out′ : List ℕ) (r r′ : ℕ) (after after′ : List ℕ) → length out ≡ length out′ → QuestionCall recording text out r after
@@ -455,6 +565,8 @@ demand-3 marks = record {
         same-bytes = s .1;
         right = record { refusal = demand-1 .of-question v .result-or-refusal; set = λ z. written-set recording text out r after v z .set };
       };
+  band-as-full = λ fine recording text a l e {low} {high} {lowest} {highest} {r} {low-after} {high-after} {lowest-after} {highest-after} w.
+      subst (λ (o : Outcome Bands). InBands o low high lowest highest r low-after high-after lowest-after highest-after) (kept-band marks recording text a l e) w;
   beyond = λ fine cs xs t {text} l {out} {r} {after} w.
       let ks : List ℕ = marksOf marks in
       let join : List ℕ = joinAfter ks [] cs in
@@ -473,6 +585,8 @@ demands = record {
   two = record {
     set-written = λ {recording} {text} {out} {r} {after} w z. written-set recording text out r after w z;
     degree-told = λ {recording} {text} target {distance} {value} {r} {distance-after} {value-after} d z. degree-meant recording text target distance value r distance-after value-after d z;
+    band-told = λ {recording} {text} e {low} {high} {lowest} {highest} {r} {low-after} {high-after} {lowest-after} {highest-after} w z.
+        band-meaning recording text e low high lowest highest r low-after high-after lowest-after highest-after w z;
   };
   three = demand-3;
 }

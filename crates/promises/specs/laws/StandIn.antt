@@ -1,9 +1,9 @@
--- A stand-in answers as the recording does: the question, the degree and the pair call. The kept readings are a stand-in.
+-- A stand-in answers as the recording does: the question, the degree, the band and the pair call. The kept readings are a stand-in.
 use Prim.Native.Nat.{ℕ, _<_}
 use native.Mathlib.Omega.{arith}
 use native.Mathlib.Decide.{decLt}
 use mathlib.Core.Path.{_≡_, refl, sym, ap, ap₂, _∙_, subst, fun-ext}
-use mathlib.Core.Bool.{Bool, true, false, cond, So}
+use mathlib.Core.Bool.{Bool, true, false, cond, So, false≢true}
 use mathlib.Core.Logic.{_↔_}
 use mathlib.Core.List.{List, [], _∷_, _++_, append-nil, map}
 use lib.Dec.{eqb, ltb}
@@ -12,7 +12,7 @@ use lib.ListN.{length, length-map}
 use borrow.Author.Tests.{eq-eqb, ne-eqb, eqb-true}
 use Rattle.number.specs.Axis.{whole}
 use Rattle.refusal.specs.Outcome.{refused, Line, line, judged, NoneMeets}
-use Rattle.recording.specs.Condition.{pick, on}
+use Rattle.recording.specs.Condition.{pick, on, when, pickFrom}
 use Rattle.recording.specs.Reading.{Reading, top, curveOf, a-top}
 use Rattle.recording.specs.Recording.{Raw, records, reading, readings, recordingLines, noRecord, Accepted}
 use Rattle.recording.specs.Output.{outputLine}
@@ -34,15 +34,21 @@ use Rattle.meaning.specs.inner.Recorded.{InRange}
 use Rattle.meaning.specs.laws.Recorded.{accepted-recorded}
 use Rattle.question.specs.Question.{read, answer, askingLines, setLines, questionOf}
 use Rattle.degree.specs.Degree.{Value, valueOf, targetLine, nearnessOf}
+use Rattle.band.specs.Call.{widthOf, theQuestion, widthLine, extremeLine, bandOf}
+use Rattle.band.specs.Ends.{Bands, bandsOf}
+use Rattle.band.specs.laws.Same.{text-same}
+use Rattle.leaves.specs.laws.Coding.{length-coded}
+use Rattle.recording.specs.laws.Record.{length-records}
 use Rattle.pair.specs.Pair.{Given, pairsOf, firstApart, firstPair, badTarget, acceptedLines, pairOf}
 use Rattle.kept.specs.Kept.{keptFor}
+use Rattle.kept.specs.Selection.{flagsFrom, flags, select, Includes}
 use Rattle.marks.specs.Marks.{marksOf}
 use Rattle.thin.specs.Thin.{keptBytes}
 use Rattle.thin.specs.laws.Book.{records-kept}
 use Rattle.thin.specs.laws.Cut.{sound-thinned}
 use Rattle.thin.specs.laws.KeptBytes.{readings-kept}
 use Rattle.promises.specs.KeptAsFull.{Askable, SameAnswers}
-use Rattle.promises.specs.laws.Observation.{kept-alike}
+use Rattle.promises.specs.laws.Observation.{kept-alike, selection-alike}
 use Rattle.promises.specs.StandIn.{StandIn}
 
 -- ---- lines judged
@@ -82,6 +88,13 @@ module _ (ks full held : List ℕ) (s : StandIn ks full held) where
   pub stand-same : noRecord held .meets ≡ false → (p : Text) → Plain ks p → Same (readings held) (readings full) p
   stand-same some p plain =
       alike-same (s .alike) (some-readings held some) (some-readings full (sym (ap (λ (l : Line). l .meets) same-noRecord) ∙ some)) p plain
+
+-- a single record, by the count of coded readings
+coded-single : (ks full held : List ℕ) (s : StandIn ks full held) → (length (coded held) ≡ 1) ↔ (length (coded full) ≡ 1)
+coded-single ks full held s = (
+  λ z. length-coded full ∙ sym (length-records full) ∙ s .single .0 (length-records held ∙ sym (length-coded held) ∙ z),
+  λ z. length-coded held ∙ sym (length-records held) ∙ s .single .1 (length-records full ∙ sym (length-coded full) ∙ z),
+)
 
 -- ---- for an accepted recording
 
@@ -139,6 +152,16 @@ module _ (marks full held : List ℕ) (s : StandIn (marksOf marks) full held) (a
         (stand-setLines (marksOf marks) full held s accepted some (read text) plain)
         (ap (λ (f : ℕ → Bool). valueOf f (index target)) (fun-ext (stand-val (marksOf marks) full held s accepted some (read text) plain))))
 
+    -- THE BAND CALL: the same two sets, or the same refusal
+    pub stand-band : (e : ℤ) → bandOf held text e ≡ bandOf full text e
+    unfolding bandOf
+    stand-band e =
+        stand-asking (widthLine e ∷ extremeLine (read text) ∷ []) (widthLine e ∷ extremeLine (read text) ∷ [])
+        (bandsOf (theQuestion (read text)) (widthOf e) (coded held)) (bandsOf (theQuestion (read text)) (widthOf e) (coded full))
+        (λ some plain. ap (λ (b : Bands). judged (widthLine e ∷ extremeLine (read text) ∷ []) b)
+        (text-same full held accepted (s .accepted) (coded-single (marksOf marks) full held s) (widthOf e) (read text)
+        (stand-val (marksOf marks) full held s accepted some (read text) plain)))
+
   module _ (curve : ℕ) (target : ℤ) where
     same-count : length (pick (top (curveOf curve)) (readings held)) ≡ length (pick (top (curveOf curve)) (readings full))
     same-count =
@@ -162,7 +185,7 @@ module _ (marks full held : List ℕ) (s : StandIn (marksOf marks) full held) (a
 
   -- A STAND-IN GIVES THE SAME ANSWERS
   pub stand-answers : SameAnswers marks held full
-  stand-answers = record { question = stand-question; degree = stand-degree; pair = stand-pair }
+  stand-answers = record { question = stand-question; degree = stand-degree; pair = stand-pair; band = stand-band }
 
 -- ---- kept readings
 
@@ -171,6 +194,24 @@ kept-count : (ks : List ℕ) (r : List Raw) → eqb (length (pick (on reading (k
 kept-count ks [] = refl
 kept-count ks (x ∷ r) =
     ne-eqb (length (pick (on reading (keptFor ks)) (x ∷ r))) 0 (λ e. omega arith) ∙ sym (ne-eqb (length (x ∷ r)) 0 (λ e. omega arith))
+
+-- the last record is kept
+kept-last : (ks : List ℕ) (b : List Raw) (x : Raw) (r : List Raw) → 0 < length (pickFrom (on reading (keptFor ks)) b (x ∷ r))
+kept-last ks [] x [] = omega arith
+kept-last ks (y ∷ b) x [] = omega arith
+kept-last ks b x (y ∷ r) = more (on reading (keptFor ks) b x (y ∷ r)) (kept-last ks (x ∷ b) y r)
+  where
+    more : (k : Bool) → 0 < length (pickFrom (on reading (keptFor ks)) (x ∷ b) (y ∷ r)) → 0 < length (when k x (pickFrom (on reading (keptFor ks)) (x ∷ b) (y ∷ r)))
+    more true h = omega arith
+    more false h = h
+
+-- one record out exactly where there is one: of several the first and the last are kept
+kept-single : (ks : List ℕ) (r : List Raw) → (length (pick (on reading (keptFor ks)) r) ≡ 1) ↔ (length r ≡ 1)
+kept-single ks [] = (λ z. z, λ z. z)
+kept-single ks (x ∷ []) = (λ z. refl, λ z. refl)
+kept-single ks (x ∷ (y ∷ r)) =
+    let h = kept-last ks (x ∷ []) y r in
+    (λ z. absurd (omega arith), λ z. absurd (omega arith))
 
 -- OF A RECORDING OF ANY LENGTH, whose kept readings are accepted
 pub kept-stands : (ks full : List ℕ) → Accepted (keptBytes ks full) → StandIn ks full (keptBytes ks full)
@@ -183,7 +224,49 @@ kept-stands ks full a =
         λ z. eqb-true (length (records full)) 0 (sym e ∙ eq-eqb (length (records kept)) 0 z),
         λ z. eqb-true (length (records kept)) 0 (e ∙ eq-eqb (length (records full)) 0 z),
       );
+      single = subst (λ (r : List Raw). (length r ≡ 1) ↔ (length (records full) ≡ 1)) (sym (records-kept ks full)) (kept-single ks (records full));
       alike = subst (λ r. Alike ks r (readings full)) (sym (readings-kept ks full)) (kept-alike ks (readings full));
+    }
+
+-- ---- selections
+
+-- a selection that includes the last record has one
+selected-last : (ks : List ℕ) (b : List Reading) (x : Reading) (r : List Reading) (mask : List Bool) → Includes mask (flagsFrom (keptFor ks) b (x ∷ r)) → 0 < length (select mask (x ∷ r))
+selected-last ks b x r [] w = absurd w
+selected-last ks b x r (true ∷ mask) w = omega arith
+selected-last ks [] x [] (false ∷ mask) w = absurd (false≢true (w .0 refl))
+selected-last ks (y ∷ b) x [] (false ∷ mask) w = absurd (false≢true (w .0 refl))
+selected-last ks b x (y ∷ r) (false ∷ mask) w = selected-last ks (x ∷ b) y r mask (w .1)
+
+selected-single : (ks : List ℕ) (r : List Reading) (mask : List Bool) → Includes mask (flags (keptFor ks) r) → (length (select mask r) ≡ 1) ↔ (length r ≡ 1)
+selected-single ks [] mask w = (λ z. z, λ z. z)
+selected-single ks (x ∷ r) [] w = absurd w
+selected-single ks (x ∷ r) (false ∷ mask) w = absurd (false≢true (w .0 refl))
+selected-single ks (x ∷ []) (true ∷ mask) w = (λ z. refl, λ z. refl)
+selected-single ks (x ∷ (y ∷ r)) (true ∷ mask) w =
+    let h = selected-last ks (x ∷ []) y r mask (w .1) in
+    (λ z. absurd (omega arith), λ z. absurd (omega arith))
+
+selected-empty : (ks : List ℕ) (r : List Reading) (mask : List Bool) → Includes mask (flags (keptFor ks) r) → (length (select mask r) ≡ 0) ↔ (length r ≡ 0)
+selected-empty ks [] mask w = (λ z. refl, λ z. refl)
+selected-empty ks (x ∷ r) mask w =
+    let h = selected-last ks [] x r mask w in
+    (λ z. absurd (omega arith), λ z. absurd (omega arith))
+
+-- EVERY SELECTION IN ORDER THAT INCLUDES THE KEPT READINGS is a stand-in, where it is an accepted recording
+pub selection-stands : (ks full held : List ℕ) (mask : List Bool) → Includes mask (flags (keptFor ks) (readings full)) → readings held ≡ select mask (readings full) → Accepted held
+    → StandIn ks full held
+selection-stands ks full held mask w e a =
+    let l = length-map (records held) reading in
+    let m = length-map (records full) reading in
+    let n = ap length e in
+    let none = selected-empty ks (readings full) mask w in
+    let one = selected-single ks (readings full) mask w in
+    record {
+      accepted = a;
+      empty = (λ z. sym m ∙ none .0 (sym n ∙ l ∙ z), λ z. sym l ∙ n ∙ none .1 (m ∙ z));
+      single = (λ z. sym m ∙ one .0 (sym n ∙ l ∙ z), λ z. sym l ∙ n ∙ one .1 (m ∙ z));
+      alike = subst (λ (r : List Reading). Alike ks r (readings full)) (sym e) (selection-alike ks (readings full) mask w);
     }
 
 -- KEPT READINGS of an accepted recording ARE ACCEPTED

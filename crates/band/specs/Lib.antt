@@ -1,0 +1,6 @@
+pub mod Band
+pub mod Ends
+pub mod Means
+pub mod Call
+pub mod inner
+pub mod laws

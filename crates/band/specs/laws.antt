@@ -1,0 +1,11 @@
+pub mod Values
+pub mod Lists
+pub mod Curves
+pub mod Meaning
+pub mod Today
+pub mod Call
+pub mod Widths
+pub mod OnAxis
+pub mod Meant
+pub mod Same
+pub mod Examples
