@@ -117,7 +117,7 @@ extern "C" {
 
 /*
 ** Bytes of stack with which each call does. Measured on x86-64 with the deepest
-** inputs known, and rounded up: 176,119 for questions and degrees (31 times !
+** inputs known, and rounded up: 170,471 for questions and degrees (31 times !
 ** before lag), 1,191 for pairs, 8,311 for thinning, 103,039 for bands (256 times
 ** an open bracket). No proof bounds the stack.
 */
