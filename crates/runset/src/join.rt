@@ -3,8 +3,9 @@ ghost use mathlib.Core.Path.{_≡_};
 ghost use mathlib.Core.Bool.{Bool, true, false, _||_};
 ghost use Prim.Native.Nat.{ℕ, _+_, _*_, _≤_, _<_, max};
 ghost use lib.ListN.{length, drop};
+ghost use Rattle.runset.specs.Runs.{mostRuns};
 ghost use Rattle.runset.specs.Set.{inside, slotWords, sharedWords, Canonical};
-ghost use Rattle.runset.specs.inner.Join.{Rest, Next, Joins};
+ghost use Rattle.runset.specs.inner.Join.{Rest, Next, withRun, Joins};
 use crate::CUTS;
 use crate::MOST_RUNS;
 
@@ -65,6 +66,24 @@ fn greater(x: u32, y: u32) -> u32
     if x < y { y } else { x }
 }
 
+// Stores a run as run number `at`, and counts the store: no other function writes a run of the result. `at` runs were stored before it.
+fn store(set: &mut [u32], at: usize, low: u32, end: u32, stores: &mut usize)
+    requires { ⌜ (length (now set) ≡ slotWords) × (at < mostRuns) × (now stores ≡ at) ⌝ }
+    ensures { λ r. ⌜ (now (set .exit) ≡ withRun (now (set .entry)) at low end) × (now (stores .exit) ≡ now (stores .entry) + 1) ⌝ }
+{
+    set[2 * at] = low;
+    set[2 * at + 1] = end;
+    *stores += 1;
+}
+
+// Closes a run: it is stored once.
+fn close(set: &mut [u32], at: usize, run: Head, stores: &mut usize)
+    requires { ⌜ (length (now set) ≡ slotWords) × (at < mostRuns) × (now stores ≡ at) ⌝ }
+    ensures { λ r. ⌜ (now (set .exit) ≡ withRun (now (set .entry)) at (run .low) (run .end)) × (now (stores .exit) ≡ now (stores .entry) + 1) ⌝ }
+{
+    store(set, at, run.low, run.end, stores);
+}
+
 // What is in a or in b.
 pub fn join(a: &[u32], b: &[u32], set: &mut [u32]) -> Joined
     requires { ⌜ Canonical (now a) × Canonical (now b) × (length (now a) ≤ sharedWords) × (length (now b) ≤ sharedWords) × (length (now set) ≡ slotWords) ⌝ }
@@ -80,6 +99,7 @@ pub fn join(a: &[u32], b: &[u32], set: &mut [u32]) -> Joined
     }
     let mut run = next(a, 0, b, 0);
     let mut n: usize = 0;
+    let mut stores: usize = 0;
     while run.i + run.j < all {
         let r = next(a, run.i, b, run.j);
         if r.low <= run.end {
@@ -93,29 +113,20 @@ pub fn join(a: &[u32], b: &[u32], set: &mut [u32]) -> Joined
             };
         } else {
             if n == MOST_RUNS {
-                return Joined {
-                    over: true,
-                    stores: n,
-                };
+                return Joined { over: true, stores };
             }
-            set[2 * n] = run.low;
-            set[2 * n + 1] = run.end;
+            close(set, n, run, &mut stores);
             n += 1;
             run = r;
         }
     }
     if n == MOST_RUNS {
-        return Joined {
-            over: true,
-            stores: n,
-        };
+        return Joined { over: true, stores };
     }
-    set[2 * n] = run.low;
-    set[2 * n + 1] = run.end;
-    n += 1;
-    set[CUTS] = (2 * n) as u32;
+    close(set, n, run, &mut stores);
+    set[CUTS] = (2 * n + 2) as u32;
     Joined {
         over: false,
-        stores: n,
+        stores,
     }
 }

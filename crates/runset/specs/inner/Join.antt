@@ -1,10 +1,10 @@
 -- What the functions of the joining promise.
-use Prim.Native.Nat.{ℕ, _+_, _≤_, _<_}
+use Prim.Native.Nat.{ℕ, _+_, _*_, _≤_, _<_}
 use mathlib.Core.Path.{_≡_}
 use mathlib.Core.Bool.{Bool, false, _||_, _&&_}
 use mathlib.Core.List.{List}
 use lib.Dec.{leb, ltb}
-use lib.ListN.{length, drop}
+use lib.ListN.{length, drop, set}
 use Rattle.number.specs.Axis.{axis}
 use Rattle.runset.specs.Runs.{runCount}
 use Rattle.runset.specs.Set.{inside, Ascending, Makes}
@@ -30,6 +30,10 @@ pub record Next (a : List ℕ) (i : ℕ) (b : List ℕ) (j : ℕ) (r : Head) : T
   pub right : Rest (r .low) b (r .j)
   pub on : i + j < r .i + r .j
   pub members : (v : ℕ) → (inside (drop i a) v || inside (drop j b) v) ≡ (within (r .low) (r .end) v || (inside (drop (r .i) a) v || inside (drop (r .j) b) v))
+
+-- the words with a run, from low on and before end, at the place of run number `at`
+abbrev pub withRun : List ℕ → ℕ → ℕ → ℕ → List ℕ
+withRun words at low end = set (set words (2 * at) low) (2 * at + 1) end
 
 -- THE JOINING: the set with the members f, unless it has too many runs; AS MANY STORES AS IT HAS RUNS
 pub record Joins (f : ℕ → Bool) (words : List ℕ) (r : Joined) : Type 0 where

@@ -16,7 +16,7 @@ use Rattle.number.specs.laws.Boolean.{same, or-left, or-right, or-cases, and-le
 use Rattle.number.specs.laws.Order.{less-or-not}
 use Rattle.runset.specs.Runs.{mostRuns, runCount}
 use Rattle.runset.specs.Set.{slotWords, inside, Ascending, Canonical, Makes}
-use Rattle.runset.specs.inner.Join.{Rest, within, Next, Joins}
+use Rattle.runset.specs.inner.Join.{Rest, within, Next, withRun, Joins}
 use Rattle.runset.specs.laws.Cuts.{none, outside, weaken, before-run, in-run, behind-run, rest-outside, rest-ended, lone, nil-canonical}
 use Rattle.runset.specs.laws.Runs.{runCount-ext, cuts-count, fewer-below}
 use Rattle.runset.specs.laws.Set.{held, holds-makes, nothing-held}
@@ -190,6 +190,13 @@ module _ (a b words : List ℕ) (n : ℕ) (r : Head) (w : Joining a b words n r)
   closed-length : length closed ≡ 2 * n + 2
   closed-length = length-append stored-cuts (r .low ∷ r .end ∷ []) ∙ ap (λ (k : ℕ). k + 2) stored-length
 
+  pub with-size : (o : List ℕ) → o ≡ withRun words n (r .low) (r .end) → length o ≡ slotWords
+  with-size o e = ap length e ∙ length-set (set words (2 * n) (r .low)) (2 * n + 1) (r .end) ∙ length-set words (2 * n) (r .low) ∙ w .size
+
+  -- there is room for the open run
+  pub joining-room : (n ≡ mostRuns → ⊥) → n < mostRuns
+  joining-room ne = omega (arith, w .few)
+
   members-closed : (v : ℕ) → f v ≡ (inside closed v || (inside (drop (r .i) a) v || inside (drop (r .j) b) v))
   members-closed v = w .members v ∙ sym (or-assoc (inside stored-cuts v) (within (r .low) (r .end) v) _) ∙ ap (λ (x : Bool). x || (inside (drop (r .i) a) v || inside (drop (r .j) b) v)) (sym (closed-members v))
 
@@ -223,25 +230,25 @@ module _ (a b words : List ℕ) (n : ℕ) (r : Head) (w : Joining a b words n r)
     count : 2 * n + 2 ≡ 2 * runCount f
     count = sym closed-length ∙ cuts-count f closed closed-canonical (λ v h. all-closed v)
 
-    pub joins-full : n ≡ mostRuns → Joins f words (record { over = true; stores = n })
-    joins-full e = record {
+    pub joins-full : n ≡ mostRuns → (k : ℕ) → Joins f words (record { over = true; stores = k })
+    joins-full e k = record {
       makes = record { flag = sym (lt-ltb mostRuns (runCount f) (omega (arith, count))); holds = λ z. absurd (true≢false z) };
       stores = λ z. absurd (true≢false z);
     }
 
-    pub joins-all : (n ≡ mostRuns → ⊥) → Joins f (set (set (set words (2 * n) (r .low)) (2 * n + 1) (r .end)) (2 * mostRuns) (2 * (n + 1))) (record { over = false; stores = n + 1 })
-    joins-all ne =
-        let o = set (set words (2 * n) (r .low)) (2 * n + 1) (r .end) in
-        let k : 2 * n + 2 ≤ 2 * mostRuns = omega (arith, w .few) in
-        let s : length o ≡ slotWords = length-set (set words (2 * n) (r .low)) (2 * n + 1) (r .end) ∙ length-set words (2 * n) (r .low) ∙ w .size in
-        let l : length closed ≡ 2 * (n + 1) = omega (arith, closed-length) in
+    -- the open run is stored too
+    pub joins-all : (n ≡ mostRuns → ⊥) → (o : List ℕ) → o ≡ withRun words n (r .low) (r .end) → (k : ℕ) → k ≡ n + 1
+        → Joins f (set o (2 * mostRuns) (2 * n + 2)) (record { over = false; stores = k })
+    joins-all ne o e k c =
+        let m : 2 * n + 2 ≤ 2 * mostRuns = omega (arith, w .few) in
+        let s : length o ≡ slotWords = with-size o e in
         record {
           makes = holds-makes f _
-              (held closed (set o (2 * mostRuns) (2 * (n + 1))) closed-canonical (omega (arith, closed-length))
-              (length-set o (2 * mostRuns) (2 * (n + 1)) ∙ s)
-              (getD-set-same o (2 * mostRuns) (2 * (n + 1)) 0 (omega arith) ∙ sym l)
-              (ap (λ (m : ℕ). take m (set o (2 * mostRuns) (2 * (n + 1)))) closed-length ∙ take-set-le (2 * n + 2) o (2 * mostRuns) (2 * (n + 1)) k
-              ∙ put-two words (2 * n) (r .low) (r .end) (omega (arith, w .size)))
+              (held closed (set o (2 * mostRuns) (2 * n + 2)) closed-canonical (omega (arith, closed-length))
+              (length-set o (2 * mostRuns) (2 * n + 2) ∙ s)
+              (getD-set-same o (2 * mostRuns) (2 * n + 2) 0 (omega arith) ∙ sym closed-length)
+              (ap (λ (x : ℕ). take x (set o (2 * mostRuns) (2 * n + 2))) closed-length ∙ take-set-le (2 * n + 2) o (2 * mostRuns) (2 * n + 2) m
+              ∙ ap (take (2 * n + 2)) e ∙ put-two words (2 * n) (r .low) (r .end) (omega (arith, w .size)))
               f (λ v h. all-closed v));
           stores = λ z. omega (arith, count);
         }
@@ -296,8 +303,8 @@ module _ (a b words : List ℕ) (n : ℕ) (r : Head) (w : Joining a b words n r)
       part v = ltb v (q .low) && f v
 
       -- there is no room for it: the part of f below the next run has too many runs already
-      pub joining-full : n ≡ mostRuns → Joins f words (record { over = true; stores = n })
-      joining-full e = record {
+      pub joining-full : n ≡ mostRuns → (k : ℕ) → Joins f words (record { over = true; stores = k })
+      joining-full e k = record {
         makes = record { flag = sym (lt-ltb mostRuns (runCount f) (omega (arith, closed-length, cuts-count part closed closed-canonical part-members, fewer-below f (q .low)))); holds = λ z. absurd (true≢false z) };
         stores = λ z. absurd (true≢false z);
       }
@@ -325,18 +332,14 @@ module _ (a b words : List ℕ) (n : ℕ) (r : Head) (w : Joining a b words n r)
                   ∙ sym (ap (λ (y : Bool). y && f v) (lt-ltb v (q .low) k))
               by (no k) = off (inside closed v) (λ t. absurd (omega (arith, closed-below v t))) ∙ sym (ap (λ (y : Bool). y && f v) (le-ltb v (q .low) (omega arith)))
 
-      pub joining-room : (n ≡ mostRuns → ⊥) → 2 * n + 2 ≤ 2 * mostRuns
-      joining-room ne = omega (arith, w .few)
-
-      pub joining-apart : (n ≡ mostRuns → ⊥) → Joining a b (set (set words (2 * n) (r .low)) (2 * n + 1) (r .end)) (n + 1) q
-      joining-apart ne =
-          let k = joining-room ne in
+      pub joining-apart : (n ≡ mostRuns → ⊥) → (o : List ℕ) → o ≡ withRun words n (r .low) (r .end) → Joining a b o (n + 1) q
+      joining-apart ne o c =
           let two : 2 * (n + 1) ≡ 2 * n + 2 = omega arith in
-          let e : take (2 * (n + 1)) (set (set words (2 * n) (r .low)) (2 * n + 1) (r .end)) ≡ closed =
-          ap (λ (m : ℕ). take m (set (set words (2 * n) (r .low)) (2 * n + 1) (r .end))) two ∙ put-two words (2 * n) (r .low) (r .end) (omega (arith, w .size)) in
+          let e : take (2 * (n + 1)) o ≡ closed =
+          ap₂ (λ (m : ℕ) (l : List ℕ). take m l) two c ∙ put-two words (2 * n) (r .low) (r .end) (omega (arith, w .size, joining-room ne)) in
           record {
-            size = length-set (set words (2 * n) (r .low)) (2 * n + 1) (r .end) ∙ length-set words (2 * n) (r .low) ∙ w .size;
-            few = omega arith;
+            size = with-size o c;
+            few = omega (arith, joining-room ne);
             stored = subst Canonical (sym e) closed-canonical;
             apart = λ v t. closed-below v (ap (λ (l : List ℕ). inside l v) (sym e) ∙ t);
             grows = x .grows;
