@@ -11,7 +11,8 @@ use Rattle.meaning.specs.inner.Coded.{coded}
 use Rattle.meaning.specs.inner.Truth.{ofListed}
 use Rattle.question.specs.Question.{read, askingLines}
 use Rattle.band.specs.Band.{widest}
-use Rattle.band.specs.Ends.{Part, empty, run, Bands, bandsOf}
+use Rattle.band.specs.Means.{Part, empty, run, Bands}
+use Rattle.band.specs.inner.Ends.{bandsOf}
 use Rattle.band.specs.declared.Part.{Part as Told}
 use Rattle.band.specs.declared.Part.the-variants as part
 use Rattle.band.specs.declared.Bands.{Bands as Pair}

@@ -1,5 +1,4 @@
 pub mod Band
-pub mod Ends
 pub mod Means
 pub mod Call
 pub mod inner

@@ -1,5 +1,5 @@
--- Document 02, Paper 9: what two sets say of a recording. Numbers of the axis are given by their indices.
-use Prim.Native.Nat.{ℕ, _<_}
+-- Document 02, Paper 9: two sets, each empty or one run, and what they say of a recording. Numbers of the axis are given by their indices.
+use Prim.Native.Nat.{ℕ, _≤_, _<_}
 use mathlib.Core.Path.{_≡_}
 use mathlib.Core.Logic.{_↔_}
 use mathlib.Core.List.{List}
@@ -9,7 +9,20 @@ use Rattle.recording.specs.Recording.{readings}
 use Rattle.grammar.specs.Syntax.{Listed, Text, listed}
 use Rattle.grammar.specs.Grammar.{ReadsWhole}
 use Rattle.band.specs.Band.{OfExtremes, Certain, Possible}
-use Rattle.band.specs.Ends.{InPart, Bands}
+
+-- a set that is empty, or the run from low to high, both ends included
+pub data Part : Type 0 where
+  empty : Part
+  run : (low high : ℕ) → Part
+
+abbrev pub InPart : Part → ℕ → Type 0
+InPart empty n = ⊥
+InPart (run l h) n = (l ≤ n) × (n ≤ h)
+
+-- the numbers true of every curve within the band, and those true of at least one
+pub record Bands : Type 0 where
+  pub certain : Part
+  pub possible : Part
 
 -- the first holds exactly the numbers that are certain, the second those that are possible
 pub record Mean (q : Listed) (e : ℕ) (r : List Reading) (b : Bands) : Type 0 where

@@ -7,7 +7,7 @@ ghost use Rattle.recording.specs.Reading.{curveOf};
 ghost use Rattle.grammar.specs.Syntax as asks;
 ghost use Rattle.meaning.specs.inner.Coded.{coded};
 ghost use Rattle.band.specs.Band.{widest};
-ghost use Rattle.band.specs.Ends as ends;
+ghost use Rattle.band.specs.inner.Ends as ends;
 ghost use Rattle.band.specs.Call.{setsOf};
 use crate::Bands;
 use crate::Part;

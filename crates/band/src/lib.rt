@@ -8,7 +8,7 @@ ghost use Rattle.meaning.specs.inner.Coded.{coded};
 ghost use Rattle.evaluation.specs.inner.Evaluation.{textOf};
 ghost use Rattle.question.specs.inner.Answered.{Ready};
 ghost use Rattle.band.specs.Band.{widest};
-ghost use Rattle.band.specs.Ends.{bandsOf};
+ghost use Rattle.band.specs.inner.Ends.{bandsOf};
 ghost use Rattle.band.specs.Call.{widthOf, theQuestion, widthLine, extremeLine, outcomeOf, bandOf};
 
 pub mod ends;

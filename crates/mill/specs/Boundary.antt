@@ -10,7 +10,7 @@ use Rattle.number.specs.Words.{bits}
 use Rattle.refusal.specs.Outcome.{Outcome, result, refused}
 use Rattle.recording.specs.Output.{counted, outputAfter}
 use Rattle.band.specs.Call.{bandOf}
-use Rattle.band.specs.Ends.{Part, empty, run, Bands}
+use Rattle.band.specs.Means.{Part, empty, run, Bands}
 use Rattle.pair.specs.Pair.{Given, times, none, pairOf}
 use Rattle.degree.specs.Degree.{Value, met, short, noValue, nearnessOf}
 use Rattle.question.specs.Question.{questionOf}

@@ -88,15 +88,29 @@ pub record SetWritten (recording text out : List ℕ) (r : ℕ) (after : List �
 abbrev pub InRun : (bit low high : ℕ) → ℤ → Type 0
 InRun bit low high z = (bit ≡ 1) × (signed low ≤ℤ z) × (z ≤ℤ signed high)
 
--- document 02, Paper 9, of the two runs that the band call tells of: the text's one reading is a question on extremes alone, and a whole number of
--- the axis lies in the first if and only if the question is true with it of every curve within e, in the second if and only if of at least one
-pub record BandTold (recording text : List ℕ) (e r low high lowest highest : ℕ) : Type 0 where
+-- an end of a run: a number of the axis, in 32 bits
+abbrev pub End : ℕ → Type 0
+End n = (n < half) × OfAxis (signed n)
+
+-- what a bit and two places tell of a set, `low` and `high` before: where the bit is set, both ends of a run, the low one not above the high one; where it
+-- is not, the set is empty, and both places stand as before
+pub record RunTold (bit low high low-after high-after : ℕ) : Type 0 where
+  pub ends : bit ≡ 1 → End low-after × End high-after × (signed low-after ≤ℤ signed high-after)
+  pub stand : bit ≡ 0 → (low-after ≡ low) × (high-after ≡ high)
+
+-- document 02, Paper 9, of the two sets that the band call tells of, each empty or one run: the text's one reading is a question on extremes alone, and a
+-- whole number of the axis lies in the first if and only if the question is true with it of every curve within e, in the second if and only if of at
+-- least one. Bit 0 tells of the first, bit 1 of the second, and no other bit is set
+pub record BandTold (recording text : List ℕ) (e r low high lowest highest low-after high-after lowest-after highest-after : ℕ) : Type 0 where
   pub asked : Listed
   pub extreme : OfExtremes asked
   pub reads : ReadsWhole text (listed asked)
   pub only : (t : Text) → ReadsWhole text t → t ≡ listed asked
-  pub certain : (z : ℤ) → OfAxis z → InRun (lowIn r % 2) low high z ↔ Certain asked e (readings recording) z
-  pub possible : (z : ℤ) → OfAxis z → InRun (lowIn r / 2) lowest highest z ↔ Possible asked e (readings recording) z
+  pub two-bits : lowIn r < 4
+  pub first-run : RunTold (lowIn r % 2) low high low-after high-after
+  pub second-run : RunTold (lowIn r / 2) lowest highest lowest-after highest-after
+  pub certain : (z : ℤ) → OfAxis z → InRun (lowIn r % 2) low-after high-after z ↔ Certain asked e (readings recording) z
+  pub possible : (z : ℤ) → OfAxis z → InRun (lowIn r / 2) lowest-after highest-after z ↔ Possible asked e (readings recording) z
 
 -- DEMAND 2, of what the question call wrote, and of what the degree call told (`Near`: by the same reading, of the target as the number at index v of the axis)
 -- and the band call (`BandTold`)
@@ -108,7 +122,7 @@ pub record Demand2 : Type 0 where
       → (v : ℕ) × (x : Value) × (whole v ≡ target) × Near recording text v x × Degrees (result x) distance value r distance-after value-after
   pub band-told : {recording text : List ℕ} (e : ℕ) {low high lowest highest r low-after high-after lowest-after highest-after : ℕ}
       → BandCall recording text (pos e) low high lowest highest r low-after high-after lowest-after highest-after → numberIn r ≡ 0
-      → BandTold recording text e r low-after high-after lowest-after highest-after
+      → BandTold recording text e r low high lowest highest low-after high-after lowest-after highest-after
 
 -- ---- DEMAND 3
 

@@ -34,7 +34,8 @@ use Rattle.targets.specs.Target.{offAxis, Placed}
 use Rattle.targets.specs.laws.Target.{sub-above, sub-below}
 use Rattle.targets.specs.declared.OnAxis.the-variants.{Index, Off}
 use Rattle.band.specs.Band.{widest}
-use Rattle.band.specs.Ends.{Bands, bandsOf}
+use Rattle.band.specs.Means.{Bands}
+use Rattle.band.specs.inner.Ends.{bandsOf}
 use Rattle.band.specs.Call.{badBand, widthOf, ofExtremes, oneExtreme, theQuestion, widthLine, extremeLine, bandOf}
 
 -- ---- the question of a text that was read

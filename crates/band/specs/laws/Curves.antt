@@ -21,7 +21,7 @@ use Rattle.meaning.specs.laws.Whole.{Stands, stands-whole, stands-le, stands-ad
 use Rattle.meaning.specs.laws.Listed.{Settled, AllSettled, settled}
 use Rattle.meaning.specs.laws.Pick.{Each, each-make}
 use Rattle.band.specs.Band.{NoFarther, Moved, Within}
-use Rattle.band.specs.Ends.{valuesWhere}
+use Rattle.band.specs.inner.Ends.{valuesWhere}
 use Rattle.band.specs.laws.Values.{Close, Closely}
 use Rattle.band.specs.laws.Lists.{Inner}
 

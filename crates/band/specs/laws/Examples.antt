@@ -7,7 +7,8 @@ use Rattle.grammar.specs.Syntax.{Listed, high, low, lowafter, capafter, ampl}
 use Rattle.meaning.specs.laws.R1Lines.{r1, R1}
 use Rattle.meaning.specs.laws.Lines.{at}
 use Rattle.meaning.specs.inner.Coded.{code}
-use Rattle.band.specs.Ends.{empty, Bands, upto, from, twoSets, twice, bandsOf}
+use Rattle.band.specs.Means.{empty, Bands}
+use Rattle.band.specs.inner.Ends.{upto, from, twoSets, twice, bandsOf}
 
 -- a question within e of a recording, and its two sets
 pub record Example : Type 0 where

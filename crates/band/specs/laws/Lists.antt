@@ -11,7 +11,8 @@ use Rattle.number.specs.Axis.{origin, axis}
 use Rattle.number.specs.laws.Order.{less-or-not}
 use Rattle.recording.specs.Condition.{someOf}
 use Rattle.meaning.specs.inner.Truth.{allOf}
-use Rattle.band.specs.Ends.{InPart, Bands, greatestOf, leastOf, toGreatest, fromLeast, fromGreatest, spreadOf, toSpread}
+use Rattle.band.specs.Means.{InPart, Bands}
+use Rattle.band.specs.inner.Ends.{greatestOf, leastOf, toGreatest, fromLeast, fromGreatest, spreadOf, toSpread}
 use Rattle.meaning.specs.laws.Pick.{Each}
 use Rattle.band.specs.laws.Values.{Close, Closely, closely-map, greatest-close, least-close, least-greatest, all-between, all-then, greatest-in, least-in, greatest-map, least-map, Upward, Downward, some-greatest, some-least, all-greatest}
 
@@ -126,7 +127,7 @@ module _ (n : ℕ) where
 
 module _ (e : ℕ) (Q : ℕ → ℕ → Bool) where
   -- what needs a value is neither certain nor possible
-  pub none-some : Tells e [] (λ n w. someOf (Q n) w) (record { certain = Rattle.band.specs.Ends.empty; possible = Rattle.band.specs.Ends.empty })
+  pub none-some : Tells e [] (λ n w. someOf (Q n) w) (record { certain = Rattle.band.specs.Means.empty; possible = Rattle.band.specs.Means.empty })
   none-some = record {
     certain = λ n h. (λ a. absurd a, λ f. false≢true (f [] tt));
     possible = λ n h. (λ a. absurd a, λ t. none-else e (λ w. So (someOf (Q n) w) → ⊥) false≢true (t .0) (t .1) (t .2));
@@ -288,7 +289,7 @@ module _ (e : ℕ) where
           let q : Apart x (y ∷ v) = apart x y v a in
           let l = q .lowest in let g = q .highest in let i = least-greatest x (y ∷ v) in let m = least-in (Inner e) x (y ∷ v) a .0 in
           (q .first ∷ q .others, q .close, lie-is n (q .first) (q .others) .1 (omega arith)),
-      λ t. some-else e (λ w. So (lieApart n w) → (0 ≤ n) × (n ≤ min (origin + (spreadOf x (y ∷ v) + 2 * e)) (axis - 1))) x (y ∷ v)
+      λ t. some-else e (λ w. So (lieApart n w) → InPart (toSpread e (x ∷ (y ∷ v)) .possible) n) x (y ∷ v)
           (λ z w c s.
           let u = greatest-close e x (y ∷ v) z w c .down in
           let d = least-close e x (y ∷ v) z w c .up in

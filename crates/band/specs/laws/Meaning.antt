@@ -19,7 +19,8 @@ use Rattle.meaning.specs.laws.Whole.{stands-whole}
 use Rattle.meaning.specs.laws.Listed.{says-at}
 use Rattle.meaning.specs.laws.Pick.{Each}
 use Rattle.band.specs.Band.{OfExtremes, of-high, of-low, of-lowafter, of-capafter, of-ampl, Certain, Possible}
-use Rattle.band.specs.Ends.{InPart, Bands, valuesWhere, values, valuesAfter, bandsOf}
+use Rattle.band.specs.Means.{InPart, Bands}
+use Rattle.band.specs.inner.Ends.{valuesWhere, values, valuesAfter, bandsOf}
 use Rattle.band.specs.Means.{Mean}
 use Rattle.band.specs.laws.Lists.{reaches, sinks, stays, lieApart, EveryList, SomeList, Tells, tells-greatest, tells-least, tells-cap, tells-spread}
 use Rattle.band.specs.laws.Curves.{margin, Ranged, all-ranged, within-settled, all-inner, within-values, curved}

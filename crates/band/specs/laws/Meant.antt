@@ -15,7 +15,8 @@ use Rattle.meaning.specs.laws.Recorded.{accepted-recorded}
 use Rattle.question.specs.Question.{read}
 use Rattle.question.specs.laws.Lines.{read-reads, reads-read}
 use Rattle.band.specs.Band.{OfExtremes, of-high, of-low, of-lowafter, of-capafter, of-ampl}
-use Rattle.band.specs.Ends.{Bands, bandsOf}
+use Rattle.band.specs.Means.{Bands}
+use Rattle.band.specs.inner.Ends.{bandsOf}
 use Rattle.band.specs.Means.{Mean, Meant}
 use Rattle.band.specs.Call.{ofExtremes, oneExtreme, theQuestion, bandOf}
 use Rattle.band.specs.laws.Meaning.{bands-mean}

@@ -16,7 +16,8 @@ use Rattle.meaning.specs.inner.Coded.{coded, codedAfter}
 use Rattle.meaning.specs.laws.Recorded.{accepted-recorded}
 use Rattle.question.specs.Question.{read, askingLines}
 use Rattle.band.specs.Band.{widest}
-use Rattle.band.specs.Ends.{Part, empty, run, Bands, toGreatest, fromLeast, fromGreatest, toSpread, bandsOf, values, valuesAfter}
+use Rattle.band.specs.Means.{Part, empty, run, Bands}
+use Rattle.band.specs.inner.Ends.{toGreatest, fromLeast, fromGreatest, toSpread, bandsOf, values, valuesAfter}
 use Rattle.band.specs.Call.{badBand, widthOf, theQuestion, widthLine, extremeLine, bandOf}
 use Rattle.band.specs.inner.OnAxis.{EndsOnAxis, BothOnAxis}
 use Rattle.meaning.specs.laws.Pick.{Each}

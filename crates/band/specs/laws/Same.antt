@@ -12,7 +12,7 @@ use Rattle.recording.specs.Recording.{Accepted}
 use Rattle.grammar.specs.Syntax.{Listed, high, low, lowafter, capafter, peaks, dips, cross, crossup, dose, ampl, gaps, steps, lag, Text, atom, listed, or, and, neg, finally, globally, next, until, weakUntil}
 use Rattle.meaning.specs.inner.Coded.{Coded, coded}
 use Rattle.meaning.specs.inner.Truth.{truth, val}
-use Rattle.band.specs.Ends.{twoSets, upto, from, values, valuesAfter, greatestOf, leastOf, spreadOf, toGreatest, fromLeast, fromGreatest, toSpread, bandsOf}
+use Rattle.band.specs.inner.Ends.{twoSets, upto, from, values, valuesAfter, greatestOf, leastOf, spreadOf, toGreatest, fromLeast, fromGreatest, toSpread, bandsOf}
 use Rattle.band.specs.Call.{theQuestion}
 use Rattle.meaning.specs.laws.Pick.{Each}
 use Rattle.band.specs.laws.Values.{greatest-in, least-greatest}

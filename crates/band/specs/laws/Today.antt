@@ -20,7 +20,8 @@ use Rattle.leaves.specs.inner.Span.{Spans}
 use Rattle.leaves.specs.laws.Span.{spans-ext}
 use Rattle.leaves.specs.laws.Coding.{length-coded}
 use Rattle.leaves.specs.declared.span.Span.{Span}
-use Rattle.band.specs.Ends.{Part, empty, Bands, upto, from, twoSets, twice, values, valuesAfter, greatestOf, leastOf, spreadOf, toGreatest, fromLeast, fromGreatest, toSpread, bandsOf}
+use Rattle.band.specs.Means.{Part, empty, Bands}
+use Rattle.band.specs.inner.Ends.{upto, from, twoSets, twice, values, valuesAfter, greatestOf, leastOf, spreadOf, toGreatest, fromLeast, fromGreatest, toSpread, bandsOf}
 use Rattle.meaning.specs.laws.Pick.{Each}
 use Rattle.band.specs.laws.Values.{greatest-in, least-in, least-greatest}
 use Rattle.band.specs.laws.Lists.{Inner, reaches, sinks, stays, lieApart, reaches-is, sinks-is, stays-is, lie-is}

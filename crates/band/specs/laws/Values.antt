@@ -10,7 +10,7 @@ use Rattle.number.specs.laws.Order.{less-or-not}
 use Rattle.recording.specs.Condition.{someOf}
 use Rattle.meaning.specs.inner.Truth.{allOf}
 use Rattle.meaning.specs.laws.Pick.{Each}
-use Rattle.band.specs.Ends.{greatestOf, leastOf}
+use Rattle.band.specs.inner.Ends.{greatestOf, leastOf}
 
 -- two numbers within e of each other
 pub record Close (e x y : ℕ) : Type 0 where

@@ -11,7 +11,7 @@ use Rattle.refusal.specs.Outcome.{Outcome, refused}
 use Rattle.refusal.specs.Numbers.{numberOf, placeOf}
 use Rattle.refusal.specs.declared.Refusal.{Refusal}
 use Rattle.band.specs.Call.{bandOf, partOf, setsOf, outcomeOf}
-use Rattle.band.specs.Ends.{Part, empty, run, Bands}
+use Rattle.band.specs.Means.{Part, empty, run, Bands}
 use Rattle.band.specs.inner.OnAxis.{BothOnAxis}
 use Rattle.band.specs.laws.OnAxis.{given-on-axis}
 use Rattle.band.specs.declared.Bands.{Bands as Pair}

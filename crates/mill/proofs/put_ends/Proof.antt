@@ -1,5 +1,6 @@
 -- By the part: nothing is written of the empty one, both ends of a run.
-use Prim.Native.Nat.{ℕ, _<_}
+use Prim.Native.Nat.{ℕ, _≤_, _<_}
+use native.Mathlib.Omega.{arith}
 use mathlib.Core.Path.{_≡_, sym, ap, _∙_, subst}
 use Rattle.number.specs.Axis.{axis, whole}
 use Rattle.number.specs.Words.{bits}
@@ -14,7 +15,11 @@ use Rattle.mill.proofs.put_ends.Tie as tie
 
 -- the ends of a run
 ends : (p : Part) (l h : ℕ) → p ≡ Run l h → EndsOnAxis (partOf p) → (l < axis) × (h < axis)
-ends p l h e a = subst (λ (x : Part). EndsOnAxis (partOf x)) e a
+ends p l h e a =
+    let o : (l ≤ h) × (h < axis) = subst (λ (x : Part). EndsOnAxis (partOf x)) e a in
+    let m = o .0 in
+    let n = o .1 in
+    (omega arith, n)
 
 -- what is left of a run
 left : (p : Part) (l h low high first second : ℕ) → p ≡ Run l h → first ≡ bits (whole l) → second ≡ bits (whole h)

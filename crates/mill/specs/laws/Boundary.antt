@@ -32,7 +32,7 @@ use Rattle.degree.specs.laws.Call.{Numbers, short-numbers}
 use Rattle.degree.specs.declared.Nearness.{Nearness}
 use Rattle.degree.specs.declared.Nearness.the-variants as nearness
 use Rattle.band.specs.Call.{widthOf, theQuestion, widthLine, extremeLine, bandOf}
-use Rattle.band.specs.Ends.{bandsOf}
+use Rattle.band.specs.inner.Ends.{bandsOf}
 use Rattle.pair.specs.Pair.{firstPair, acceptedLines, pairOf}
 use Rattle.reply.specs.Reply.{half, packed, InHalf}
 use Rattle.reply.specs.laws.Place.{place-below}

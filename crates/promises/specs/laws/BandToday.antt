@@ -30,7 +30,7 @@ pub band-today : (recording text out : List ℕ) (r : ℕ) (after : List ℕ) �
     → (InRun (lowIn r′ % 2) a b z ↔ inBytes (take (lowIn r) after) z) × (InRun (lowIn r′ / 2) c d z ↔ inBytes (take (lowIn r) after) z)
 band-today recording text out r after w k low high lowest highest r′ a b c d u l z on =
     let s : Fixed recording text (take (lowIn r) after) = demands .two .set-written w k .set in
-    let t : BandTold recording text 0 r′ a b c d = demands .two .band-told 0 u l in
+    let t : BandTold recording text 0 r′ low high lowest highest a b c d = demands .two .band-told 0 u l in
     let g = band-given recording text (pos 0) low high lowest highest r′ a b c d u l in
     let range : InRange (readings recording) = accepted-recorded recording (shown recording text (pos 0) (g .0) (g .1) .accepted) .in-range in
     let today = back (then (s .members z on) (says-holds (t .asked) recording z (s .tree) (t .only (s .tree) (s .reads)))) in (

@@ -40,13 +40,14 @@ use Rattle.degree.specs.Degree.{Value, met, short, noValue, valueOf, targetLine
 use Rattle.meaning.specs.inner.Coded.{coded, index}
 use Rattle.band.specs.Band.{Certain, Possible}
 use Rattle.band.specs.Call.{widthOf, theQuestion, widthLine, extremeLine, bandOf}
-use Rattle.band.specs.Ends.{Part, empty, run, InPart, Bands, bandsOf}
+use Rattle.band.specs.Means.{Part, empty, run, InPart, Bands}
+use Rattle.band.specs.inner.Ends.{bandsOf}
 use Rattle.band.specs.Means.{Meant}
 use Rattle.band.specs.inner.OnAxis.{EndsOnAxis}
 use Rattle.band.specs.laws.OnAxis.{given-on-axis}
 use Rattle.band.specs.laws.Meant.{band-meant}
-use Rattle.number.specs.Words.{signed}
-use Rattle.number.specs.laws.Words.{signed-bits}
+use Rattle.number.specs.Words.{signed, bits}
+use Rattle.number.specs.laws.Words.{bits-small, signed-bits}
 use Rattle.meaning.specs.laws.Whole.{stands-whole, le-index}
 use Rattle.pair.specs.Pair.{Given, times, none, firstPair, pairLines, pairOf}
 use Rattle.thin.specs.Thin.{keptBytes, thinOf}
@@ -66,7 +67,7 @@ use Rattle.promises.specs.laws.Operator.{unwritten-flat}
 use Rattle.promises.specs.StandIn.{StandIn}
 use Rattle.promises.specs.laws.StandIn.{stand-same, stand-question, stand-band, kept-stands, kept-accepted}
 use Rattle.promises.specs.CallsMade.{Returned, readOff, CallsMade, heldAt, takenFrom}
-use Rattle.promises.specs.Demands.{ByTheTable, OneAnswer, Demand1, Fixed, SetWritten, Demand2, AskedOfKept, RightOf, EveryList, CutWhole, KeptLikeFull, Demand3, Demands, InRun, BandTold}
+use Rattle.promises.specs.Demands.{ByTheTable, OneAnswer, Demand1, Fixed, SetWritten, Demand2, AskedOfKept, RightOf, EveryList, CutWhole, KeptLikeFull, Demand3, Demands, InRun, End, RunTold, BandTold}
 use Rattle.recording.specs.Reading.{curveOf}
 
 -- ---- DEMAND 1: the number that is returned
@@ -305,18 +306,43 @@ degree-meant recording text target distance value r first second d z = go (nearn
         let k : numberIn r ≡ n = ap numberIn (d .returned ∙ ap (λ (o : Outcome Value). packed (valueTold o)) e) ∙ number-refused n p (degree-place recording text target n p e) in
         absurd (omega arith)
 
--- a run that the places tell of, by the indices of its ends
-part-run : (p : Part) → EndsOnAxis p → (low high low-after high-after : ℕ) → low-after ≡ lowAfter p low → high-after ≡ highAfter p high → (n : ℕ)
-    → InRun (filled p) low-after high-after (whole n) ↔ InPart p n
-part-run empty o low high low-after high-after f s n = (λ w. let z = w .0 in absurd (omega arith), λ w. absurd w)
-part-run (run l h) o low high low-after high-after f s n =
-    let e : signed low-after ≡ whole l = ap signed f ∙ signed-bits l (o .0) in
-    let g : signed high-after ≡ whole h = ap signed s ∙ signed-bits h (o .1) in
-    let a = le-index (whole l) (whole n) l n (stands-whole l) (stands-whole n) in
-    let b = le-index (whole n) (whole h) n h (stands-whole n) (stands-whole h) in (
-      λ w. (leb-true l n (a .1 (subst (λ (z : ℤ). z ≤ℤ whole n) e (w .1))), leb-true n h (b .1 (subst (λ (z : ℤ). whole n ≤ℤ z) g (w .2)))),
-      λ w. (refl, subst (λ (z : ℤ). z ≤ℤ whole n) (sym e) (a .0 (le-leb l n (w .0))), subst (λ (z : ℤ). whole n ≤ℤ z) (sym g) (b .0 (le-leb n h (w .1)))),
-    )
+-- the order of the axis is that of indices
+index-le : (m n : ℕ) → (m ≤ n) ↔ (whole m ≤ℤ whole n)
+index-le m n =
+    let a = le-index (whole m) (whole n) m n (stands-whole m) (stands-whole n) in
+    (λ h. a .0 (le-leb m n h), λ h. leb-true m n (a .1 h))
+
+-- the bits of the number at an index are an end
+end-at : (n place : ℕ) → n < axis → place ≡ bits (whole n) → (signed place ≡ whole n) × End place
+end-at n place h e =
+    let s : signed place ≡ whole n = ap signed e ∙ signed-bits n h in
+    (s, (subst (λ (m : ℕ). m < half) (sym e) (bits-small n h), subst OfAxis (sym s) (index-le 0 n .0 (omega arith), index-le n (axis - 1) .0 (omega arith))))
+
+module _ (low high low-after high-after : ℕ) where
+  -- a run that the places tell of, by the indices of its ends
+  part-run : (p : Part) → EndsOnAxis p → low-after ≡ lowAfter p low → high-after ≡ highAfter p high → (n : ℕ) → InRun (filled p) low-after high-after (whole n) ↔ InPart p n
+  part-run empty o f s n = (λ w. let z = w .0 in absurd (omega arith), λ w. absurd w)
+  part-run (run l h) o f s n =
+      let u = o .0 in
+      let w = o .1 in
+      let e : signed low-after ≡ whole l = end-at l low-after (omega arith) f .0 in
+      let g : signed high-after ≡ whole h = end-at h high-after w s .0 in (
+        λ w. (index-le l n .1 (subst (λ (z : ℤ). z ≤ℤ whole n) e (w .1)), index-le n h .1 (subst (λ (z : ℤ). whole n ≤ℤ z) g (w .2))),
+        λ w. (refl, subst (λ (z : ℤ). z ≤ℤ whole n) (sym e) (index-le l n .0 (w .0)), subst (λ (z : ℤ). whole n ≤ℤ z) (sym g) (index-le n h .0 (w .1))),
+      )
+
+  -- its ends, or both places as they were
+  part-told : (p : Part) → EndsOnAxis p → low-after ≡ lowAfter p low → high-after ≡ highAfter p high → RunTold (filled p) low high low-after high-after
+  part-told empty o f s = record { ends = λ z. absurd (omega arith); stand = λ z. (f, s) }
+  part-told (run l h) o f s =
+      let u = o .0 in
+      let w = o .1 in
+      let a = end-at l low-after (omega arith) f in
+      let b = end-at h high-after w s in
+      record {
+        ends = λ z. (a .1, b .1, subst (λ (y : ℤ). y ≤ℤ signed high-after) (sym (a .0)) (subst (λ (y : ℤ). whole l ≤ℤ y) (sym (b .0)) (index-le l h .0 u)));
+        stand = λ z. absurd (omega arith);
+      }
 
 -- the call gives two sets where it is not refused
 pub band-given : (recording text : List ℕ) (e : ℤ) (low high lowest highest r a b c d : ℕ) → BandCall recording text e low high lowest highest r a b c d → numberIn r ≡ 0
@@ -334,12 +360,13 @@ band-given recording text e low high lowest highest r a b c d w z = go (bandOf r
         absurd (omega arith)
 
 band-meaning : (recording text : List ℕ) (e low high lowest highest r a b c d : ℕ) → BandCall recording text (pos e) low high lowest highest r a b c d → numberIn r ≡ 0
-    → BandTold recording text e r a b c d
+    → BandTold recording text e r low high lowest highest a b c d
 band-meaning recording text e low high lowest highest r a b c d w z =
     let g = band-given recording text (pos e) low high lowest highest r a b c d w z in
     sets (g .0) (g .1) (subst (λ (o : Outcome Bands). InBands o low high lowest highest r a b c d) (g .1) w)
   where
-    sets : (x : Bands) → bandOf recording text (pos e) ≡ result x → InBands (result x) low high lowest highest r a b c d → BandTold recording text e r a b c d
+    sets : (x : Bands) → bandOf recording text (pos e) ≡ result x → InBands (result x) low high lowest highest r a b c d
+        → BandTold recording text e r low high lowest highest a b c d
     sets x h w =
         let m = filled-few (x .certain) in let n = filled-few (x .possible) in
         let small : filled (x .certain) + 2 * filled (x .possible) < half = omega arith in
@@ -353,16 +380,19 @@ band-meaning recording text e low high lowest highest r a b c d w z =
           extreme = t .extreme;
           reads = t .reads;
           only = t .only;
+          two-bits = omega arith;
+          first-run = subst (λ (bit : ℕ). RunTold bit low high a b) (sym first) (part-told low high a b (x .certain) (o .0) (w .first-place) (w .second-place));
+          second-run = subst (λ (bit : ℕ). RunTold bit lowest highest c d) (sym second) (part-told lowest highest c d (x .possible) (o .1) (w .third-place) (w .fourth-place));
           certain = λ y i.
               let k = index-of y i in
               subst (λ (v : ℤ). InRun (lowIn r % 2) a b v ↔ Certain (t .question) e (readings recording) v) (k .2)
               (subst (λ (bit : ℕ). InRun bit a b (whole (k .0)) ↔ Certain (t .question) e (readings recording) (whole (k .0))) (sym first)
-              (then (part-run (x .certain) (o .0) low high a b (w .first-place) (w .second-place) (k .0)) (t .means .certain (k .0) (k .1))));
+              (then (part-run low high a b (x .certain) (o .0) (w .first-place) (w .second-place) (k .0)) (t .means .certain (k .0) (k .1))));
           possible = λ y i.
               let k = index-of y i in
               subst (λ (v : ℤ). InRun (lowIn r / 2) c d v ↔ Possible (t .question) e (readings recording) v) (k .2)
               (subst (λ (bit : ℕ). InRun bit c d (whole (k .0)) ↔ Possible (t .question) e (readings recording) (whole (k .0))) (sym second)
-              (then (part-run (x .possible) (o .1) lowest highest c d (w .third-place) (w .fourth-place) (k .0)) (t .means .possible (k .0) (k .1))));
+              (then (part-run lowest highest c d (x .possible) (o .1) (w .third-place) (w .fourth-place) (k .0)) (t .means .possible (k .0) (k .1))));
         }
 
 -- ---- DEMAND 3: lists of calls

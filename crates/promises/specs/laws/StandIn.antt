@@ -35,7 +35,8 @@ use Rattle.meaning.specs.laws.Recorded.{accepted-recorded}
 use Rattle.question.specs.Question.{read, answer, askingLines, setLines, questionOf}
 use Rattle.degree.specs.Degree.{Value, valueOf, targetLine, nearnessOf}
 use Rattle.band.specs.Call.{widthOf, theQuestion, widthLine, extremeLine, bandOf}
-use Rattle.band.specs.Ends.{Bands, bandsOf}
+use Rattle.band.specs.Means.{Bands}
+use Rattle.band.specs.inner.Ends.{bandsOf}
 use Rattle.band.specs.laws.Same.{text-same}
 use Rattle.leaves.specs.laws.Coding.{length-coded}
 use Rattle.recording.specs.laws.Record.{length-records}

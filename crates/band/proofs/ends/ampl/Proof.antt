@@ -3,7 +3,7 @@ use Prim.Native.Nat.{ℕ}
 use mathlib.Core.Path.{ap₂, _∙_}
 use native.Mathlib.Omega.{arith}
 use Rattle.recording.specs.Reading.{curveOf}
-use Rattle.band.specs.Ends.{upto, twoSets}
+use Rattle.band.specs.inner.Ends.{upto, twoSets}
 use Rattle.band.specs.laws.Today.{ampl-alone, ampl-today}
 use borrow.Author.Needs.{needs}
 use Rattle.band.proofs.ends.ampl.Statement.{statement}

@@ -1,6 +1,6 @@
--- Document 02, Paper 9: each of the two sets is empty or one run, given by its ends. Numbers of the axis stand by their indices. That a run holds
--- exactly the numbers that are certain, or possible, is `bands-mean` (laws/Meaning).
-use Prim.Native.Nat.{ℕ, _+_, _-_, _*_, _≤_, max, min}
+-- Document 02, Paper 9: the ends of the two sets, as they are computed. Numbers of the axis stand by their indices. That a run holds exactly the numbers
+-- that are certain, or possible, is `bands-mean` (laws/Meaning).
+use Prim.Native.Nat.{ℕ, _+_, _-_, _*_, max, min}
 use mathlib.Core.Bool.{Bool, true}
 use mathlib.Core.List.{List, [], _∷_}
 use Rattle.number.specs.Axis.{origin, axis}
@@ -8,20 +8,7 @@ use Rattle.recording.specs.Condition.{when}
 use Rattle.recording.specs.Reading.{Curve}
 use Rattle.grammar.specs.Syntax.{Listed, high, low, lowafter, capafter, peaks, dips, cross, crossup, dose, ampl, gaps, steps, lag}
 use Rattle.meaning.specs.inner.Coded.{Coded, codedValue, codedAfter}
-
--- a set that is empty, or the run from low to high, both ends included
-pub data Part : Type 0 where
-  empty : Part
-  run : (low high : ℕ) → Part
-
-abbrev pub InPart : Part → ℕ → Type 0
-InPart empty n = ⊥
-InPart (run l h) n = (l ≤ n) × (n ≤ h)
-
--- the numbers true of every curve within the band, and those true of at least one
-pub record Bands : Type 0 where
-  pub certain : Part
-  pub possible : Part
+use Rattle.band.specs.Means.{Part, empty, run, Bands}
 
 -- up to the number at an index; from it on
 abbrev pub upto : ℕ → Part
