@@ -33,6 +33,7 @@ use Rattle.thin.specs.Book.{Call, book}
 use Rattle.thin.specs.Cut.{wholeFrom, CutBetween, LongEnough, allWritten}
 use Rattle.reply.specs.Reply.{half, numberIn, lowIn}
 use Rattle.mill.specs.Boundary.{QuestionCall, DegreeCall, PairCall, ThinCall, BandCall, Degrees}
+use Rattle.promises.specs.Selection.{Selection}
 use Rattle.promises.specs.CallsMade.{Returned, readOff, CallsMade, heldAt, takenFrom}
 use Rattle.promises.specs.Table.{Request, question, degree, pair, thin, order, acceptedOrder, NoneMet, FirstMet, band}
 
@@ -159,9 +160,9 @@ pub record KeptLikeFull (recording text out : List ℕ) (r r′ : ℕ) (after af
   pub same-bytes : numberIn r ≡ 0 → take (lowIn r) after ≡ take (lowIn r) after′
   pub right : RightOf recording text out (1 ∷ 2 ∷ 3 ∷ acceptedOrder) r after
 
--- DEMAND 3, its three sentences; what the band call returns and leaves on the kept readings is what it does on the full recording (document 02,
--- Paper 9); and beyond it: after any list of calls, however long the join, what is held answers what the text means of the join,
--- of which only 4 to 10 are asked; with marks that 11 refuses every call is refused and nothing is ever held
+-- DEMAND 3, its three sentences; what the band call returns and leaves on the kept readings, and on every selection that includes them, is what it does
+-- on the full recording (document 02, Paper 9); and beyond it: after any list of calls, however long the join, what is held answers what the text means
+-- of the join, of which only 4 to 10 are asked; with marks that 11 refuses every call is refused and nothing is ever held
 pub record Demand3 (marks : List ℕ) : Type 0 where
   pub every-list : AcceptedMarks marks → (cs : List Call) (xs : List Returned) → CallsMade marks [] cs xs → EveryList marks cs xs
   pub cut : AcceptedMarks marks → (cs : List Call) (xs : List Returned) → CallsMade marks [] cs xs → Accepted (wholeFrom [] cs) → CutBetween cs
@@ -169,9 +170,10 @@ pub record Demand3 (marks : List ℕ) : Type 0 where
   pub kept-as-full : AcceptedMarks marks → {recording text : List ℕ} → Accepted recording → AskedOfKept marks text
       → {out out′ : List ℕ} → length out ≡ length out′ → {r r′ : ℕ} {after after′ : List ℕ} → QuestionCall (keptBytes (marksOf marks) recording) text out r after
       → QuestionCall recording text out′ r′ after′ → KeptLikeFull recording text out r r′ after after′
-  pub band-as-full : AcceptedMarks marks → (recording text : List ℕ) → Accepted recording → AskedOfKept marks text
+  pub least-selection : (recording : List ℕ) → Selection (marksOf marks) recording (keptBytes (marksOf marks) recording)
+  pub band-as-full : AcceptedMarks marks → (recording held text : List ℕ) → Accepted recording → Selection (marksOf marks) recording held → AskedOfKept marks text
       → (e : ℤ) {low high lowest highest r low-after high-after lowest-after highest-after : ℕ}
-      → BandCall (keptBytes (marksOf marks) recording) text e low high lowest highest r low-after high-after lowest-after highest-after
+      → BandCall held text e low high lowest highest r low-after high-after lowest-after highest-after
       → BandCall recording text e low high lowest highest r low-after high-after lowest-after highest-after
   pub beyond : AcceptedMarks marks → (cs : List Call) (xs : List Returned) → CallsMade marks [] cs xs → {text : List ℕ} → AskedOfKept marks text
       → {out : List ℕ} {r : ℕ} {after : List ℕ} → QuestionCall (heldAt [] xs) text out r after → RightOf (takenFrom [] cs xs) text out acceptedOrder r after

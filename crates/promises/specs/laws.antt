@@ -1,6 +1,7 @@
 pub mod Table
 pub mod CallLines
 pub mod Observation
+pub mod Selection
 pub mod StandIn
 pub mod KeptAsFull
 pub mod Lasting

@@ -65,7 +65,9 @@ use Rattle.promises.specs.laws.Table.{number-bounds, Agree, AsTable, met
 use Rattle.promises.specs.laws.CallLines.{InPlace, in-its-place, answer-is, agree-asked, agree-question, agree-degree, agree-pair, agree-marks, agree-thin, agree-band}
 use Rattle.promises.specs.laws.Operator.{unwritten-flat}
 use Rattle.promises.specs.StandIn.{StandIn}
-use Rattle.promises.specs.laws.StandIn.{stand-same, stand-question, stand-band, kept-stands, kept-accepted}
+use Rattle.promises.specs.Selection.{Selection}
+use Rattle.promises.specs.laws.Selection.{kept-selection}
+use Rattle.promises.specs.laws.StandIn.{stand-same, stand-question, stand-band, kept-stands, kept-accepted, selection-stands}
 use Rattle.promises.specs.CallsMade.{Returned, readOff, CallsMade, heldAt, takenFrom}
 use Rattle.promises.specs.Demands.{ByTheTable, OneAnswer, Demand1, Fixed, SetWritten, Demand2, AskedOfKept, RightOf, EveryList, CutWhole, KeptLikeFull, Demand3, Demands, InRun, End, RunTold, BandTold}
 use Rattle.recording.specs.Reading.{curveOf}
@@ -492,10 +494,10 @@ module _ (marks recording text : List ℕ) (a : Accepted recording) (l : AskedOf
   kept-call : (out : List ℕ) (r : ℕ) (after : List ℕ) → QuestionCall (keptBytes (marksOf marks) recording) text out r after → QuestionCall recording text out r after
   kept-call out r after w = subst (λ (o : Outcome (List ℕ)). Writes o out r after) (kept-same (length out)) w
 
-  kept-band : (e : ℤ) → bandOf (keptBytes (marksOf marks) recording) text e ≡ bandOf recording text e
-  kept-band e =
-      stand-band marks recording (keptBytes (marksOf marks) recording) (kept-stands (marksOf marks) recording (kept-accepted (marksOf marks) recording a)) a text
-      (λ n. asked-plain marks text l (read text) (read-reads text (n .1 .0))) e
+  -- every selection that includes the kept readings, to the band call
+  selected-band : (held : List ℕ) → Selection (marksOf marks) recording held → (e : ℤ) → bandOf held text e ≡ bandOf recording text e
+  selected-band held s e =
+      stand-band marks recording held (selection-stands (marksOf marks) recording held a s) a text (λ n. asked-plain marks text l (read text) (read-reads text (n .1 .0))) e
 
 -- two calls alike in all but their outputs, which have one length
 same-written : (recording text out out′ : List ℕ) (r r′ : ℕ) (after after′ : List ℕ) → length out ≡ length out′ → QuestionCall recording text out r after
@@ -595,8 +597,9 @@ demand-3 marks = record {
         same-bytes = s .1;
         right = record { refusal = demand-1 .of-question v .result-or-refusal; set = λ z. written-set recording text out r after v z .set };
       };
-  band-as-full = λ fine recording text a l e {low} {high} {lowest} {highest} {r} {low-after} {high-after} {lowest-after} {highest-after} w.
-      subst (λ (o : Outcome Bands). InBands o low high lowest highest r low-after high-after lowest-after highest-after) (kept-band marks recording text a l e) w;
+  least-selection = kept-selection (marksOf marks);
+  band-as-full = λ fine recording held text a s l e {low} {high} {lowest} {highest} {r} {low-after} {high-after} {lowest-after} {highest-after} w.
+      subst (λ (o : Outcome Bands). InBands o low high lowest highest r low-after high-after lowest-after highest-after) (selected-band marks recording text a l held s e) w;
   beyond = λ fine cs xs t {text} l {out} {r} {after} w.
       let ks : List ℕ = marksOf marks in
       let join : List ℕ = joinAfter ks [] cs in

@@ -49,7 +49,9 @@ use Rattle.thin.specs.laws.Book.{records-kept}
 use Rattle.thin.specs.laws.Cut.{sound-thinned}
 use Rattle.thin.specs.laws.KeptBytes.{readings-kept}
 use Rattle.promises.specs.KeptAsFull.{Askable, SameAnswers}
+use Rattle.promises.specs.Selection.{Selection}
 use Rattle.promises.specs.laws.Observation.{kept-alike, selection-alike}
+use Rattle.promises.specs.laws.Selection.{selected-readings, selected-accepted}
 use Rattle.promises.specs.StandIn.{StandIn}
 
 -- ---- lines judged
@@ -254,20 +256,20 @@ selected-empty ks (x ∷ r) mask w =
     let h = selected-last ks [] x r mask w in
     (λ z. absurd (omega arith), λ z. absurd (omega arith))
 
--- EVERY SELECTION IN ORDER THAT INCLUDES THE KEPT READINGS is a stand-in, where it is an accepted recording
-pub selection-stands : (ks full held : List ℕ) (mask : List Bool) → Includes mask (flags (keptFor ks) (readings full)) → readings held ≡ select mask (readings full) → Accepted held
-    → StandIn ks full held
-selection-stands ks full held mask w e a =
+-- EVERY SELECTION IN ORDER of an accepted recording THAT INCLUDES THE KEPT READINGS is a stand-in
+pub selection-stands : (ks full held : List ℕ) → Accepted full → Selection ks full held → StandIn ks full held
+selection-stands ks full held a h =
+    let e : readings held ≡ select (h .mask) (readings full) = ap readings (h .bytes) ∙ selected-readings (h .mask) full in
     let l = length-map (records held) reading in
     let m = length-map (records full) reading in
     let n = ap length e in
-    let none = selected-empty ks (readings full) mask w in
-    let one = selected-single ks (readings full) mask w in
+    let none = selected-empty ks (readings full) (h .mask) (h .includes) in
+    let one = selected-single ks (readings full) (h .mask) (h .includes) in
     record {
-      accepted = a;
+      accepted = subst Accepted (sym (h .bytes)) (selected-accepted (h .mask) full a);
       empty = (λ z. sym m ∙ none .0 (sym n ∙ l ∙ z), λ z. sym l ∙ n ∙ none .1 (m ∙ z));
       single = (λ z. sym m ∙ one .0 (sym n ∙ l ∙ z), λ z. sym l ∙ n ∙ one .1 (m ∙ z));
-      alike = subst (λ (r : List Reading). Alike ks r (readings full)) (sym e) (selection-alike ks (readings full) mask w);
+      alike = subst (λ (r : List Reading). Alike ks r (readings full)) (sym e) (selection-alike ks (readings full) (h .mask) (h .includes));
     }
 
 -- KEPT READINGS of an accepted recording ARE ACCEPTED
