@@ -13,3 +13,4 @@ pub mod R2Lines
 pub mod Recorded
 pub mod Formulas
 pub mod Alike
+pub mod Unpigmented

@@ -38,10 +38,10 @@ so-decided (yes p) = (λ e. p, λ q. refl)
 so-decided (no p) = (λ e. absurd (false≢true e), λ q. absurd (p q))
 
 -- t is z; t − s is z
-is-time : ℤ → ℕ → Bool
+pub is-time : ℤ → ℕ → Bool
 is-time z t = decided (ℤ-discrete (pos t) z)
 
-is-apart : ℤ → ℕ → ℕ → Bool
+pub is-apart : ℤ → ℕ → ℕ → Bool
 is-apart z s t = decided (ℤ-discrete (pos t -ℤ pos s) z)
 
 module _ (r : List Reading) (z : ℤ) where
@@ -53,27 +53,27 @@ module _ (r : List Reading) (z : ℤ) where
   unfolding is-apart
   apart-at i j = so-decided (ℤ-discrete (between r i j) z)
 
-  of-times : (ρ : Condition Reading) → So (someOf (is-time z) (times ρ r)) ↔ TimeOf ρ r z
+  pub of-times : (ρ : Condition Reading) → So (someOf (is-time z) (times ρ r)) ↔ TimeOf ρ r z
   of-times ρ = (
     λ h. let f = key-find nothing ρ (λ x. x .time) (is-time z) [] r h in (f .0, f .1, time-at (f .0) .0 (f .2)),
     λ f. key-at nothing ρ (λ x. x .time) (is-time z) [] r (f .0) (f .1) (time-at (f .0) .1 (f .2)),
   )
 
-  of-gaps : (c : Curve) → So (somePair (is-apart z) (times (top c) r)) ↔ Says (gaps c) r z
+  pub of-gaps : (c : Curve) → So (somePair (is-apart z) (times (top c) r)) ↔ Says (gaps c) r z
   unfolding Says
   of-gaps c = (
     λ h. let f = pair-find nothing (top c) (λ x. x .time) (is-apart z) [] r h in (f .0, f .1, f .2, f .3, f .4, apart-at (f .0) (f .1) .0 (f .5)),
     λ f. pair-at nothing (top c) (λ x. x .time) (is-apart z) [] r (f .0) (f .1) (f .2) (f .3) (f .4) (apart-at (f .0) (f .1) .1 (f .5)),
   )
 
-  of-steps : (c : Curve) → So (someStep (is-apart z) (times (top c) r)) ↔ Says (steps c) r z
+  pub of-steps : (c : Curve) → So (someStep (is-apart z) (times (top c) r)) ↔ Says (steps c) r z
   unfolding Says
   of-steps c = (
     λ h. let f = step-find nothing (top c) (λ x. x .time) (is-apart z) [] r h in (f .0, f .1, (f .2, f .5), f .3, f .4, apart-at (f .0) (f .1) .0 (f .6)),
     λ f. step-at nothing (top c) (λ x. x .time) (is-apart z) [] r (f .0) (f .1) (f .2 .0) (f .3) (f .4) (f .2 .1) (apart-at (f .0) (f .1) .1 (f .5)),
   )
 
-  of-lag : So (someOf (λ t. someOf (is-apart z t) (times (top B) r)) (times (top A) r)) ↔ Says lag r z
+  pub of-lag : So (someOf (λ t. someOf (is-apart z t) (times (top B) r)) (times (top A) r)) ↔ Says lag r z
   unfolding Says
   of-lag = (
     λ h.
@@ -84,7 +84,7 @@ module _ (r : List Reading) (z : ℤ) where
         (key-at nothing (top B) (λ x. x .time) (is-apart z (recordAt r (f .0) .time)) [] r (f .1) (f .3) (apart-at (f .0) (f .1) .1 (f .4))),
   )
 
-through : {P Q : Type 0} (e f : Bool) → e ≡ f → So e ↔ P → So f ↔ Q → P ↔ Q
+pub through : {P Q : Type 0} (e f : Bool) → e ≡ f → So e ↔ P → So f ↔ Q → P ↔ Q
 through e f h p q = (λ x. q .0 (sym h ∙ p .1 x), λ x. p .0 (h ∙ q .1 x))
 
 -- ---- listed questions
