@@ -1,3 +1,4 @@
 pub mod Kept
 pub mod Selection
+pub mod Unpigmented
 pub mod laws
