@@ -7,4 +7,5 @@ pub mod Selection
 pub mod Lasting
 pub mod FormulasAsked
 pub mod MarkedLines
+pub mod OldRecordings
 pub mod laws

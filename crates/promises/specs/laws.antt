@@ -8,6 +8,7 @@ pub mod Lasting
 pub mod R1Lasting
 pub mod MarkedLines
 pub mod FormulasAsked
+pub mod OldRecordings
 pub mod Operator
 pub mod Demands
 pub mod AskedOfKept

@@ -1,0 +1,60 @@
+-- Document 02, Paper 3: "Old recordings read as having no additions." Where byte 14 is zero throughout, 1, 2 and 3 with its place, the kept readings and the
+-- limit are those of the rules without pigments, which are kept as definitions to say so. That it holds is `as-before` (laws/OldRecordings). What a text
+-- means that writes neither `P` nor `dose` stands in meaning/specs/Unpigmented.
+use Prim.Native.Nat.{ℕ, _+_, _*_, _/_, _%_, _<_}
+use mathlib.Core.Path.{_≡_}
+use mathlib.Core.Bool.{Bool, _&&_, not}
+use mathlib.Core.List.{List, [], _∷_, _++_, List·Memᴰ}
+use lib.Dec.{leb, ltb, eqb}
+use lib.ListN.{length, getD}
+use Rattle.number.specs.Least.{least}
+use Rattle.number.specs.Words.{word, signed}
+use Rattle.refusal.specs.Outcome.{Outcome, Line, line, judged}
+use Rattle.recording.specs.Condition.{pick, on}
+use Rattle.recording.specs.Reading.{Reading}
+use Rattle.recording.specs.Recording.{Raw, records, flat, reading, readings, latest, inRange, later, mostRecords, recordingLines}
+use Rattle.recording.specs.Output.{outputLine}
+use Rattle.kept.specs.Kept.{mostKept}
+use Rattle.kept.specs.Unpigmented.{keptForWithout, mostKeptWithout}
+use Rattle.marks.specs.Marks.{marksOf, marksLine}
+use Rattle.thin.specs.Thin.{thinOf}
+
+-- byte 14 of every record is zero
+abbrev pub Old : List ℕ → Type 0
+Old recording = (i : ℕ) → i < length recording / 16 → getD recording (i * 16 + 14) 0 ≡ 0
+
+-- ---- the rules without pigments
+
+-- document 01: the fields of a record keep to their ranges, and bytes 14 and 15 are zero
+abbrev pub fieldsBefore : Raw → Bool
+fieldsBefore x =
+    leb (word x 0) latest
+    && (inRange (signed (word x 4)) && (inRange (signed (word x 8)) && (leb (getD x 12 0) 2 && (leb (getD x 13 0) 2 && (eqb (getD x 14 0) 0 && eqb (getD x 15 0) 0)))))
+
+-- the index of the first record out of its rules
+abbrev pub firstBadBefore : List Raw → ℕ
+firstBadBefore xs = least (λ i. not (fieldsBefore (getD xs i []) && later xs i)) (length xs)
+
+-- refusals 1, 2 and 3, in order
+abbrev pub linesBefore : List ℕ → List Line
+linesBefore bytes =
+    line 1 (not (eqb (length bytes % 16) 0))
+    ∷ line 2 (ltb mostRecords (length bytes / 16))
+    ∷ record { number = 3; place = firstBadBefore (records bytes); meets = ltb (firstBadBefore (records bytes)) (length (records bytes)) }
+    ∷ []
+
+-- the bytes of the kept records
+abbrev pub keptBefore : List ℕ → List ℕ → List ℕ
+keptBefore marks bytes = flat (pick (on reading (keptForWithout marks)) (records bytes))
+
+-- the thinning call
+abbrev pub thinBefore : List ℕ → List ℕ → ℕ → Outcome (List ℕ)
+thinBefore bytes marks room =
+    judged (linesBefore bytes ++ marksLine marks ∷ outputLine room (keptBefore (marksOf marks) bytes) ∷ []) (keptBefore (marksOf marks) bytes)
+
+-- ---- AN OLD RECORDING IS TAKEN AS BEFORE
+pub record AsBefore (recording : List ℕ) : Type 0 where
+  pub no-additions : (x : Reading) → List·Memᴰ x (readings recording) → x .pigment ≡ 0
+  pub lines : recordingLines recording ≡ linesBefore recording
+  pub thinned : (marks : List ℕ) (room : ℕ) → thinOf recording marks room ≡ thinBefore recording marks room
+  pub limit : (marks : List ℕ) → mostKept marks (readings recording) ≡ mostKeptWithout marks (readings recording)
