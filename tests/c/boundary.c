@@ -22,7 +22,7 @@ static void expect(int holds, const char *what, int line)
 enum { R1_RECORDS = 8, R1_BYTES = R1_RECORDS * MILL_RECORD_BYTES };
 enum { R2_RECORDS = 9, R2_BYTES = R2_RECORDS * MILL_RECORD_BYTES };
 
-/* R1 keeps all its readings; R2 does not. R3 is R2 with pigments: 3 added at 0, 20 and 60, and 16 at 70. */
+/* R1 keeps all its readings; R2 does not. R3 is R2 with pigments: 7 added at 20, and 16 at 40. */
 static uint8_t r1[R1_BYTES], r2[R2_BYTES], r3[R2_BYTES];
 
 static void put32(uint8_t *at, uint32_t number)
@@ -71,7 +71,7 @@ static void make_r2(void)
 
 static void make_r3(void)
 {
-    static const uint8_t pigment[R2_RECORDS] = {3, 0, 3, 0, 0, 0, 3, MILL_MAX_PIGMENT, 0};
+    static const uint8_t pigment[R2_RECORDS] = {0, 0, 7, 0, MILL_MAX_PIGMENT, 0, 0, 0, 0};
     int i;
     memcpy(r3, r2, sizeof r3);
     for (i = 0; i < R2_RECORDS; i++)
@@ -137,17 +137,19 @@ static void questions(void)
 
 static void additions(void)
 {
-    const int64_t whole[] = {MILL_AXIS_LOW, MILL_AXIS_HIGH}, dose_3[] = {0, 0, 20, 20, 60, 60}, dose_16[] = {70, 70};
-    const int64_t level[] = {4, 4, 8, 8, 10, 10}, at_a_top[] = {60, 60};
-    EXPECT(answers_of(r3, R2_BYTES, "dose(3)", 3, dose_3));
-    EXPECT(answers_of(r3, R2_BYTES, "F(P=3&T=v)", 3, dose_3));
+    const int64_t whole[] = {MILL_AXIS_LOW, MILL_AXIS_HIGH}, dose_7[] = {20, 20}, dose_16[] = {40, 40}, level[] = {6, 6};
+    EXPECT(answers_of(r3, R2_BYTES, "dose(7)", 1, dose_7));
+    EXPECT(answers_of(r3, R2_BYTES, "F(P=7&T=v)", 1, dose_7));
     EXPECT(answers_of(r3, R2_BYTES, "dose(16)", 1, dose_16));
     EXPECT(answers_of(r3, R2_BYTES, "F(P=16&T=v)", 1, dose_16));
-    EXPECT(answers_of(r3, R2_BYTES, "dose(1)", 0, NULL));
-    EXPECT(answers_of(r3, R2_BYTES, "F(P=3&A=v)", 3, level));
-    EXPECT(answers_of(r3, R2_BYTES, "dose(3)&peaks(A)", 1, at_a_top));
-    EXPECT(answers_of(r3, R2_BYTES, "P=3", 1, whole));
-    EXPECT(answers_of(r3, R2_BYTES, "P=16", 0, NULL));
+    EXPECT(answers_of(r3, R2_BYTES, "dose(3)", 0, NULL));
+    EXPECT(answers_of(r3, R2_BYTES, "F(P=16&A=v)", 1, level));
+    EXPECT(answers_of(r3, R2_BYTES, "dose(16)&peaks(A)", 1, dose_16));
+    EXPECT(answers_of(r3, R2_BYTES, "P=7", 0, NULL));
+    EXPECT(answers_of(r3, R2_BYTES, "X(X(P=7))", 1, whole));
+    /* From the reading at 20 on, which is then the first. */
+    EXPECT(answers_of(r3 + 2 * MILL_RECORD_BYTES, R2_BYTES - 2 * MILL_RECORD_BYTES, "P=7", 1, whole));
+    EXPECT(answers_of(r3 + 2 * MILL_RECORD_BYTES, R2_BYTES - 2 * MILL_RECORD_BYTES, "dose(7)", 1, dose_7));
 }
 
 static void degrees(void)
@@ -453,17 +455,17 @@ static void thinning_of_r2(void)
 /* Each addition is kept, without the record before it, and what is kept answers as the whole. */
 static void thinning_of_r3(void)
 {
-    static const uint32_t plain[] = {0, 20, 30, 40, 50, 60, 70, 80};
-    const int64_t dose_3[] = {0, 0, 20, 20, 60, 60}, dose_16[] = {70, 70};
+    static const uint32_t plain[] = {0, 20, 30, 40, 50, 60, 80};
+    const int64_t dose_7[] = {20, 20}, dose_16[] = {40, 40};
     uint8_t out[R2_BYTES], held[2 * R2_BYTES];
     size_t readings;
-    EXPECT(MILL_NUMBER(mill_thin(r3, R2_BYTES, NULL, 0, out, 127)) == MILL_SHORT_OUTPUT);
-    EXPECT(times(out, (size_t)mill_thin(r3, R2_BYTES, NULL, 0, out, 128), plain, 8));
-    EXPECT(out[14] == 3 && out[MILL_RECORD_BYTES + 14] == 3 && out[6 * MILL_RECORD_BYTES + 14] == MILL_MAX_PIGMENT);
-    EXPECT(answers_of(out, 128, "dose(3)", 3, dose_3));
-    EXPECT(answers_of(out, 128, "dose(16)", 1, dose_16));
+    EXPECT(MILL_NUMBER(mill_thin(r3, R2_BYTES, NULL, 0, out, 111)) == MILL_SHORT_OUTPUT);
+    EXPECT(times(out, (size_t)mill_thin(r3, R2_BYTES, NULL, 0, out, 112), plain, 7));
+    EXPECT(out[14] == 0 && out[MILL_RECORD_BYTES + 14] == 7 && out[3 * MILL_RECORD_BYTES + 14] == MILL_MAX_PIGMENT);
+    EXPECT(answers_of(out, 112, "dose(7)", 1, dose_7));
+    EXPECT(answers_of(out, 112, "dose(16)", 1, dose_16));
     for (readings = 1; readings <= R2_RECORDS; readings++)
-        EXPECT(times(held, thin_in_pieces(r3, R2_BYTES, readings, NULL, 0, held), plain, 8));
+        EXPECT(times(held, thin_in_pieces(r3, R2_BYTES, readings, NULL, 0, held), plain, 7));
     make_additions(MILL_MAX_RECORDS, 1);
     EXPECT(mill_thin(large, sizeof large - MILL_RECORD_BYTES, NULL, 0, thinned, sizeof thinned) == sizeof thinned);
     EXPECT(memcmp(thinned, large, sizeof thinned) == 0);

@@ -10,6 +10,7 @@ pub mod Extreme
 pub mod Lines
 pub mod R1Lines
 pub mod R2Lines
+pub mod R3Lines
 pub mod Recorded
 pub mod Formulas
 pub mod Alike

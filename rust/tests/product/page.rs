@@ -270,8 +270,8 @@ peaks(A) => 30, 70
 X(A=v) => 8
 ```
 ```mill R3 kept
-dose(16) => 70
-dose(3) => 20, 60
+dose(16) => 40
+dose(7) => 20, 60
 ```
 ```mill band 5
 high(A) => certain Lo..85; possible Lo..95

@@ -65,15 +65,16 @@ fn r2_lines() {
 #[test]
 fn r3_lines() {
     let recording = r3_bytes();
-    let first = Reading { time: 0, a: 10, b: 0, slope_a: Slope::Rising, slope_b: Slope::Flat, pigment: 3 };
-    assert_eq!(recording[..16], first.to_bytes());
+    let addition = Reading { time: 20, a: 8, b: 0, slope_a: Slope::Flat, slope_b: Slope::Flat, pigment: 7 };
+    assert_eq!(recording[32..48], addition.to_bytes());
     for (text, expected) in r3::ANSWERS {
         assert_eq!(runs(&recording, text), expected, "{text}");
     }
     for (marks, expected) in r3::KEPT {
         assert_eq!(kept_times(&recording, marks), expected, "{marks:?}");
     }
-    let bad = Reading { pigment: 17, ..first }.to_bytes();
+    assert_eq!(runs(&addition.to_bytes(), "dose(7)"), [(20, 20)], "the first reading counts");
+    let bad = Reading { pigment: 17, ..addition }.to_bytes();
     assert_eq!(mill::question(&bad, b"dose(1)"), Err(Refusal::BadRecord { index: 0 }));
 }
 

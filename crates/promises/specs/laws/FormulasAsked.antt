@@ -68,12 +68,12 @@ module _ {q : Listed} {p : Text} (f : Formula q p) (recording : List ℕ) (accep
   there : 0 < length (readings recording)
   there = some-readings recording some
 
-  same-val : (n : ℕ) → val (coded recording) n (listed q) 0 ≡ val (coded recording) n p 0
+  pub same-val : (n : ℕ) → val (coded recording) n (listed q) 0 ≡ val (coded recording) n p 0
   same-val n = same-test _ _
       (val-holds (readings recording) (recorded .in-range) n (listed q) 0 (omega arith)) (back (formula-holds f (readings recording) recorded there n))
       (val-holds (readings recording) (recorded .in-range) n p 0 (omega arith))
 
-  same-eight : refused8 (coded recording) (listed q) ≡ refused8 (coded recording) p
+  pub same-eight : refused8 (coded recording) (listed q) ≡ refused8 (coded recording) p
   same-eight = same-test _ _
       (eight-overfull (readings recording) (recorded .in-range) there (listed q)) (back (formula-overfull f (readings recording) recorded there))
       (eight-overfull (readings recording) (recorded .in-range) there p)

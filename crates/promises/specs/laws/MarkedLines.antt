@@ -1,8 +1,8 @@
--- The marked lines of R1, and the lines of R2, hold by one fact: the texts are read by computing, their sets are those of R1Lines and R2Lines, and the runs of
--- a set fix its bytes.
+-- The marked lines of R1, and the lines of R2 and R3, hold by one fact: the texts are read by computing, their sets are those of R1Lines, R2Lines and R3Lines,
+-- and the runs of a set fix its bytes.
 use Prim.Native.Nat.{ℕ, _*_, zero, suc, _+_, _-_, _≤_, _<_}
 use native.Mathlib.Omega.{arith}
-use mathlib.Core.Path.{_≡_, refl, sym, ap, _∙_, subst}
+use mathlib.Core.Path.{_≡_, refl, sym, ap, _∙_, subst, fun-ext}
 use mathlib.Core.Bool.{Bool, true, false, _&&_, _||_, not, cond, So, false≢true}
 use mathlib.Core.Logic.{⊎-elim, _↔_}
 use mathlib.Core.List.{List, [], _∷_, _++_, map, List·Memᴰ, List·Memᴰ·head, List·Memᴰ·tail, List·Memᴰ·not-nil, List·Memᴰ·cases-cons}
@@ -18,6 +18,8 @@ use Rattle.recording.specs.Output.{outputLine}
 use Rattle.recording.specs.laws.Outcome.{judged-pass, append-none}
 use Rattle.recording.specs.R1.{R1}
 use Rattle.recording.specs.R2.{R2}
+use Rattle.recording.specs.R3.{R3}
+use Rattle.recording.specs.laws.Pigment.{R3-accepted}
 use Rattle.recording.specs.Reading.{Reading, A}
 use Rattle.recording.specs.Recording as recording
 use Rattle.runset.specs.Runs.{runCount, mostRuns, startsAt, runBytes, setBytes}
@@ -25,10 +27,10 @@ use Rattle.runset.specs.Set.{inside, Ascending, Canonical}
 use Rattle.runset.specs.laws.Cuts.{lowCuts, highCuts, none, behind-run, covers, inside-covers}
 use Rattle.runset.specs.laws.Runs.{cuts-bytes, cuts-count}
 use Rattle.grammar.specs.Bytes.{bytes}
-use Rattle.grammar.specs.inner.Lexer.{unsignedAt, numberAt, operandAt, comparisonAt, timedAt, argumentsAt, namedAt, headedAt, leafAt}
+use Rattle.grammar.specs.inner.Lexer.{unsignedAt, numberAt, pigmentAt, pigmentLeafAt, operandAt, comparisonAt, timedAt, argumentsAt, namedAt, headedAt, leafAt}
 use Rattle.grammar.specs.inner.Parse.{one, parse, parsed}
 use Rattle.grammar.specs.Size.{tooDeep}
-use Rattle.grammar.specs.Syntax.{ge, eq, of, v, number, compare, Listed, high, low, lowafter, capafter, peaks, dips, cross, crossup, ampl, gaps, lag, Text, atom, listed, until}
+use Rattle.grammar.specs.Syntax.{ge, eq, of, v, number, Atom, compare, pigment, Listed, high, low, lowafter, capafter, peaks, dips, cross, crossup, dose, ampl, gaps, lag, Text, atom, listed, next, until}
 use Rattle.text.specs.Told.{textLines}
 use Rattle.grammar.specs.laws.Unique.{reading-is}
 use Rattle.number.specs.laws.Boolean.{same, then, back, either, both, so-or, so-and, or-none, and-left, and-right}
@@ -40,6 +42,7 @@ use Rattle.meaning.specs.Ranges.{Run, InRuns}
 use Rattle.meaning.specs.laws.Lines.{Example, Holding, within, OnAxis, in-runs}
 use Rattle.meaning.specs.laws.R1Lines as r1
 use Rattle.meaning.specs.laws.R2Lines as r2
+use Rattle.meaning.specs.laws.R3Lines as r3
 use Rattle.meaning.specs.laws.R1Lines.{marked-lines}
 use Rattle.meaning.specs.laws.R2Lines.{lines-hold}
 use Rattle.meaning.specs.laws.Run.{starts, run-count, Convex, const-convex, point-convex, convex-runs, convex-few}
@@ -52,7 +55,9 @@ use Rattle.thin.specs.Thin.{keptBytes, thinOf}
 use Rattle.marks.specs.Marks.{marksOf, marksLine, AcceptedMarks}
 use Rattle.thin.specs.laws.R1Calls.{R1-accepted}
 use Rattle.thin.specs.laws.Examples.{R2-accepted}
-use Rattle.promises.specs.MarkedLines.{MarkedLine, markedLines, R2Lines, bytesOfRuns, bytesOfMarks, writtenIn, Asked, Thinned, LineHolds}
+use Rattle.promises.specs.laws.FormulasAsked.{same-val, same-eight}
+use Rattle.meaning.specs.Formulas.{of-dose}
+use Rattle.promises.specs.MarkedLines.{MarkedLine, markedLines, R2Lines, R3Lines, bytesOfRuns, bytesOfMarks, writtenIn, Asked, Thinned, LineHolds}
 use Rattle.recording.specs.Condition.{someOf}
 
 -- ---- the runs of a set fix its bytes
@@ -179,6 +184,16 @@ listed-eight : (R : List ℕ) (q : Listed) → runCount (λ n. val (coded R) n (
 unfolding refused8 someNode
 listed-eight R q h = le-ltb mostRuns (runCount (λ n. val (coded R) n (listed q) 0)) h
 
+atom-eight : (R : List ℕ) (k : Atom) → runCount (λ n. val (coded R) n (atom k) 0) ≤ mostRuns → refused8 (coded R) (atom k) ≡ false
+unfolding refused8 someNode
+atom-eight R k h = le-ltb mostRuns (runCount (λ n. val (coded R) n (atom k) 0)) h
+
+-- `dose(k)` written out
+dosed-eight : runCount (λ n. val (coded R3) n r3.dosed 0) ≤ mostRuns → refused8 (coded R3) r3.dosed ≡ false
+dosed-eight h =
+    sym (same-eight of-dose R3 R3-accepted refl)
+    ∙ listed-eight R3 (dose 7) (subst (λ (f : ℕ → Bool). runCount f ≤ mostRuns) (sym (fun-ext (same-val of-dose R3 R3-accepted refl))) h)
+
 -- the runs of a union are not more than those of its two sides
 starts-or : (f g : ℕ → Bool) (n : ℕ) → starts (λ m. f m || g m) n ≤ starts f n + starts g n
 unfolding starts
@@ -242,6 +257,18 @@ until-eight : (k : ℕ) → refused8 (coded R1) (untilText k) ≡ false
 unfolding refused8
 until-eight k = nowhere (overAt (coded R1) (untilText k)) (λ i. until-over (coded R1) k i (leb-true _ _ refl)) (length (coded R1))
 
+-- X(X(P=7)), which has no v
+twoOn-over : (r : List Coded) (i : ℕ) → overAt r r3.twoOn i ≡ false
+unfolding someNode val
+twoOn-over r i =
+    or-none (convex-few (λ n. val r n r3.twoOn i) (const-convex (val r 0 r3.twoOn i)))
+    (or-none (convex-few (λ n. val r n (next (atom (pigment 7))) i) (const-convex (val r 0 (next (atom (pigment 7))) i)))
+    (convex-few (λ n. val r n (atom (pigment 7)) i) (const-convex (val r 0 (atom (pigment 7)) i))))
+
+twoOn-eight : refused8 (coded R3) r3.twoOn ≡ false
+unfolding refused8
+twoOn-eight = nowhere (overAt (coded R3) r3.twoOn) (twoOn-over (coded R3)) (length (coded R3))
+
 -- ---- thinning
 
 module _ (R : List ℕ) (accepted : recording.Accepted R) (marks times : List ℕ) (numbers : marksOf (bytesOfMarks marks) ≡ marks) (fine : AcceptedMarks (bytesOfMarks marks))
@@ -282,6 +309,13 @@ R2-readings = refl
 told-2 : Each (Holding (recording.readings R2)) r2.lines
 told-2 = each (Holding (recording.readings R2)) r2.lines (λ l m. subst (λ (r : List Reading). Holding r l) (sym R2-readings) (lines-hold l m))
 
+R3-readings : recording.readings R3 ≡ r3.R3
+unfolding recording.reading signed turned
+R3-readings = refl
+
+told-3 : Each (Holding (recording.readings R3)) r3.lines
+told-3 = each (Holding (recording.readings R3)) r3.lines (λ l m. subst (λ (r : List Reading). Holding r l) (sym R3-readings) (r3.lines-hold l m))
+
 line-1 : {l : Example} → Holding (recording.readings R1) l → (text : List ℕ) → parsed text ≡ one (l .text) → NoneMeets (textLines text) → fits (l .runs) ≡ true
     → runBytes (lowCuts (cuts (l .runs))) (highCuts (cuts (l .runs))) ≡ bytesOfRuns (l .runs) → refused9 (coded R1) (l .text) ≡ false
     → (runCount (λ n. val (coded R1) n (l .text) 0) ≤ mostRuns → refused8 (coded R1) (l .text) ≡ false) → Asked R1 text (l .runs)
@@ -291,6 +325,11 @@ line-2 : {l : Example} → Holding (recording.readings R2) l → (text : List �
     → runBytes (lowCuts (cuts (l .runs))) (highCuts (cuts (l .runs))) ≡ bytesOfRuns (l .runs) → refused9 (coded R2) (l .text) ≡ false
     → (runCount (λ n. val (coded R2) n (l .text) 0) ≤ mostRuns → refused8 (coded R2) (l .text) ≡ false) → Asked R2 text (l .runs)
 line-2 = asked R2 R2-accepted refl
+
+line-3 : {l : Example} → Holding (recording.readings R3) l → (text : List ℕ) → parsed text ≡ one (l .text) → NoneMeets (textLines text) → fits (l .runs) ≡ true
+    → runBytes (lowCuts (cuts (l .runs))) (highCuts (cuts (l .runs))) ≡ bytesOfRuns (l .runs) → refused9 (coded R3) (l .text) ≡ false
+    → (runCount (λ n. val (coded R3) n (l .text) 0) ≤ mostRuns → refused8 (coded R3) (l .text) ≡ false) → Asked R3 text (l .runs)
+line-3 = asked R3 R3-accepted refl
 
 -- THE MARKED LINES OF R1 HOLD
 pub marked-hold : (l : MarkedLine) → List·Memᴰ l markedLines → LineHolds R1 l
@@ -356,6 +395,33 @@ R2-hold =
           (
             thinned R2 R2-accepted _ _ refl (refl, tt) refl,
             tt,
+          ),
+        ),
+      ),
+    )
+
+-- THE LINES OF R3 HOLD
+pub R3-hold : (l : MarkedLine) → List·Memᴰ l R3Lines → LineHolds R3 l
+unfolding tooDeep least parsed parse unsignedAt numberAt pigmentAt pigmentLeafAt operandAt comparisonAt timedAt argumentsAt namedAt headedAt leafAt lowCuts highCuts refused9 someNode marksOf keptBytes recording.reading signed turned
+R3-hold =
+    any (LineHolds R3) R3Lines (
+      line-3 (told-3 .0) (bytes "dose(7)") refl (refl, (refl, (refl, tt))) refl refl refl (listed-eight R3 (dose 7)),
+      (
+        line-3 (told-3 .1 .0) (bytes "dose(16)") refl (refl, (refl, (refl, tt))) refl refl refl (listed-eight R3 (dose 16)),
+        (
+          line-3 (told-3 .1 .1 .0) (bytes "dose(3)") refl (refl, (refl, (refl, tt))) refl refl refl (listed-eight R3 (dose 3)),
+          (
+            line-3 (told-3 .1 .1 .1 .0) (bytes "P=7") refl (refl, (refl, (refl, tt))) refl refl refl (atom-eight R3 (pigment 7)),
+            (
+              line-3 (told-3 .1 .1 .1 .1 .0) (bytes "X(X(P=7))") refl (refl, (refl, (refl, tt))) refl refl refl (λ few. twoOn-eight),
+              (
+                line-3 (told-3 .1 .1 .1 .1 .1 .0) (bytes "F(P=7&T=v)") refl (refl, (refl, (refl, tt))) refl refl refl dosed-eight,
+                (
+                  thinned R3 R3-accepted _ _ refl (refl, tt) refl,
+                  tt,
+                ),
+              ),
+            ),
           ),
         ),
       ),
