@@ -73,7 +73,7 @@ asked-may marks text e =
           (all-among (afterTimes (read text)) ks (and-right (noneAmong text fiveLetters) (allAmong (afterTimes (read text)) ks) e));
     }
 
--- the ten listed questions, and texts made of them
+-- the listed questions, and texts made of them
 abbrev pub askedTexts : List (List ℕ)
 askedTexts =
     bytes "high(A)"
@@ -81,13 +81,16 @@ askedTexts =
     ∷ bytes "lowafter(A,40)"
     ∷ bytes "capafter(A,40)"
     ∷ bytes "peaks(A)"
+    ∷ bytes "dips(A)"
     ∷ bytes "cross"
+    ∷ bytes "crossup"
     ∷ bytes "ampl(A)"
     ∷ bytes "gaps(A)"
     ∷ bytes "steps(A)"
     ∷ bytes "lag"
     ∷ bytes "high(A)|low(B)"
     ∷ bytes "cross&peaks(B)"
+    ∷ bytes "crossup|dips(B)"
     ∷ bytes "!lowafter(B,40)"
     ∷ []
 
