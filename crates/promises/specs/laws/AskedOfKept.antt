@@ -8,7 +8,7 @@ use lib.Dec.{eqb}
 use borrow.Author.Tests.{eqb-true, eq-eqb, not-true}
 use Rattle.number.specs.laws.Boolean.{and-left, and-right}
 use Rattle.grammar.specs.Bytes.{bytes}
-use Rattle.grammar.specs.inner.Lexer.{unsignedAt, numberAt, operandAt, comparisonAt, timedAt, argumentsAt, namedAt, headedAt, leafAt}
+use Rattle.grammar.specs.inner.Lexer.{unsignedAt, numberAt, pigmentAt, pigmentLeafAt, operandAt, comparisonAt, timedAt, argumentsAt, namedAt, headedAt, leafAt}
 use Rattle.grammar.specs.inner.Parse.{parse, parsed}
 use Rattle.grammar.specs.Size.{afterTimes}
 use Rattle.meaning.specs.Alike.{markIndex}
@@ -84,6 +84,7 @@ askedTexts =
     ∷ bytes "dips(A)"
     ∷ bytes "cross"
     ∷ bytes "crossup"
+    ∷ bytes "dose(3)"
     ∷ bytes "ampl(A)"
     ∷ bytes "gaps(A)"
     ∷ bytes "steps(A)"
@@ -91,6 +92,7 @@ askedTexts =
     ∷ bytes "high(A)|low(B)"
     ∷ bytes "cross&peaks(B)"
     ∷ bytes "crossup|dips(B)"
+    ∷ bytes "dose(3)|!P=3"
     ∷ bytes "!lowafter(B,40)"
     ∷ []
 
@@ -110,5 +112,5 @@ all-asked marks (text ∷ texts) e = (
 )
 
 pub asked-of-kept : AllAsked mark40 askedTexts
-unfolding marksOf parsed parse unsignedAt numberAt operandAt comparisonAt timedAt argumentsAt namedAt headedAt leafAt
+unfolding marksOf parsed parse unsignedAt numberAt pigmentAt pigmentLeafAt operandAt comparisonAt timedAt argumentsAt namedAt headedAt leafAt
 asked-of-kept = all-asked mark40 askedTexts refl
