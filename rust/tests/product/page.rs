@@ -298,7 +298,7 @@ refused 6 0
     assert_eq!(wrong[1], "line 22: F(T=v&A=55) => 50, and not empty");
     assert_eq!(wrong[2], "line 26: peaks(A) => distance 19, degree 0.05, and not distance 19, degree 0.06");
     assert_eq!(wrong[3], "line 32: peaks(A) => 40, 60, and not 30, 70");
-    assert_eq!(wrong[4], "line 39: dose(3) => 0, 20, 60, and not 20, 60");
+    assert_eq!(wrong[4], "line 39: dose(7) => 20, and not 20, 60");
     assert_eq!(wrong[5], "line 43: high(A) => certain Lo..85; possible Lo..95, and not certain Lo..85; possible Lo..94");
     assert_eq!(wrong[6], "line 52: lag => runs 0\n, and not runs 1\n");
     assert!(examples("```mill\nlag\n```\n").is_err());
