@@ -1,7 +1,7 @@
 /*
 ** mill.h: questions about recordings of bead mills, and their thinning.
 **
-** Five calls on plain bytes. Each answers with its result or with one numbered
+** Six calls on plain bytes. Each answers with its result or with one numbered
 ** refusal, for every input that can be handed in; a caller needs to test
 ** nothing first. A call reads only the bytes that it is given, keeps nothing
 ** from one call to the next, takes no memory from the heap, and may run in any
@@ -59,19 +59,21 @@
 **
 **
 ** MEMORY. A call writes its result and nothing else. With a refusal, with
-** MILL_MET, MILL_NO_VALUE and MILL_NO_PAIR, all of the caller's memory stays as
-** it was, and so do the two ends of a set that mill_band finds empty. On success the output bytes behind the result stay as they were.
+** MILL_MET, MILL_NO_VALUE, MILL_NO_PAIR and MILL_SHEET_MET, all of the caller's
+** memory stays as it was, and so do the two ends of a set that mill_band finds
+** empty. On success the output bytes behind the result stay as they were.
 **
 ** A pointer must point to as many bytes as the length that follows it says.
 ** Bytes need no alignment; uint32_t, int32_t and double are aligned as C has
-** them. Inputs (recording, text, marks) may overlap each other in any way. An
-** output (out, distance, degree, earlier, later, the ends of mill_band) must not
-** overlap an input nor another output; where one does, nothing is promised. While a call runs, no other
-** thread may write an input or touch an output.
+** them. Inputs (recording, text, marks, sheet) may overlap each other in any way.
+** An output (out, distance, degree, earlier, later, the ends of mill_band, time,
+** line) must not overlap an input nor another output; where one does, nothing is
+** promised. While a call runs, no other thread may write an input or touch an
+** output.
 **
 ** A null pointer with length 0 serves as an empty input or an empty output.
 ** This is tested, and it is not part of what is proved. distance, degree,
-** earlier, later and the ends of mill_band are never null.
+** earlier, later, the ends of mill_band, time and line are never null.
 **
 ** When a degree is asked for, round to nearest must be in force (FE_TONEAREST of
 ** <fenv.h>), as it is when a program starts.
@@ -98,6 +100,7 @@ extern "C" {
 #define MILL_RECORD_BYTES 16
 #define MILL_RUN_BYTES 8
 #define MILL_MARK_BYTES 4
+#define MILL_LINE_BYTES 2
 #define MILL_SET_BYTES 2048 /* MILL_MAX_RUNS runs: always room enough */
 
 /* Limits. */
@@ -114,18 +117,20 @@ extern "C" {
 #define MILL_MAX_MARKS 8             /* marks of a thinning */
 #define MILL_MAX_MARK 2000000000     /* a mark */
 #define MILL_MAX_BAND 1000000        /* e of mill_band */
+#define MILL_MAX_LINES 32            /* lines of an order sheet */
 
 /*
 ** Bytes of stack with which each call does. Measured on x86-64 with the deepest
 ** inputs known, and rounded up: 170,471 for questions and degrees (31 times !
 ** before lag), 1,191 for pairs, 8,311 for thinning, 103,039 for bands (256 times
-** an open bracket). No proof bounds the stack.
+** an open bracket), 471 for order sheets. No proof bounds the stack.
 */
 #define MILL_STACK_QUESTION 196608
 #define MILL_STACK_DEGREE 196608
 #define MILL_STACK_PAIR 4096
 #define MILL_STACK_THIN 16384
 #define MILL_STACK_BAND 131072
+#define MILL_STACK_ORDER 4096
 
 /* Slopes of a record. */
 #define MILL_FALLING 0
@@ -156,6 +161,7 @@ extern "C" {
 #define MILL_SHORT_OUTPUT 10    /* the output is shorter than the result */
 #define MILL_BAD_MARKS 11       /* the marks are not 4 bytes each, over MILL_MAX_MARKS, or over MILL_MAX_MARK */
 #define MILL_BAD_TARGET 12      /* the target is off the axis, or the curve number is not 0 or 1 */
+#define MILL_BAD_SHEET 13       /* the order sheet has an odd length, over MILL_MAX_LINES lines, or a number not 1 to MILL_MAX_PIGMENT */
 #define MILL_BAD_BAND 16        /* e is not 0 to MILL_MAX_BAND */
 #define MILL_NOT_BAND_QUESTION 17 /* the text is not one of high, low, lowafter, capafter and ampl alone */
 
@@ -245,8 +251,9 @@ uint64_t mill_pair(const uint8_t *recording, size_t recording_len, uint32_t curv
 ** Kept readings answer as the recording does: every question that writes none
 ** of F, G, X, U and W and whose after-times (the k of lowafter and capafter)
 ** are among the marks gets the same bytes or the same refusal, in mill_degree
-** and mill_band too; mill_pair gives the same two times. Other questions may be asked of kept
-** readings and are answered of those alone.
+** and mill_band too; mill_pair gives the same two times, and mill_order the same
+** time and line. Other questions may be asked of kept readings and are answered of
+** those alone.
 **
 ** A recording may be thinned piece by piece, cut between readings: hand in the
 ** readings held with the next piece behind them, under the same marks. What is
@@ -320,6 +327,34 @@ uint64_t mill_thin(const uint8_t *recording, size_t recording_len, const uint8_t
 #define MILL_POSSIBLE 2 /* this bit: some number is possible; possible_low and possible_high are written */
 uint64_t mill_band(const uint8_t *recording, size_t recording_len, const uint8_t *text, size_t text_len, int64_t e,
                    int32_t *certain_low, int32_t *certain_high, int32_t *possible_low, int32_t *possible_high);
+
+/*
+** Whether each pigment went in after those that must be in before it.
+**
+** sheet is an order sheet: 0 to MILL_MAX_LINES lines of MILL_LINE_BYTES bytes, a
+** then b, each the number of a pigment, 1 to MILL_MAX_PIGMENT. A line says that no
+** addition of b stands at or before the first addition of a. Where a is never
+** added, any b breaks the line; where a equals b, any addition of it does. Broken
+** at is the first record whose addition breaks a line: its time is written, and
+** the number, from 0, of the first line that this addition breaks. An empty sheet
+** is met. Pigment 1 before 2, and before 3:
+**
+**     static const uint8_t sheet[] = {1, 2, 1, 3};
+**     uint32_t time, line;
+**     uint64_t r = mill_order(recording, recording_len, sheet, sizeof sheet, &time, &line);
+**     if (MILL_NUMBER(r) != 0)
+**         return report(MILL_NUMBER(r), MILL_PLACE(r));
+**     if (r == MILL_SHEET_BROKEN)
+**         printf("line %lu broken at %lu\n", (unsigned long)line, (unsigned long)time);
+**     else
+**         printf("met\n");
+**
+** Refusals, in order: 1, 2, 3, 4, 13.
+*/
+#define MILL_SHEET_MET 0    /* every line is met; nothing is written */
+#define MILL_SHEET_BROKEN 1 /* a line is broken: time and line are written */
+uint64_t mill_order(const uint8_t *recording, size_t recording_len, const uint8_t *sheet, size_t sheet_len, uint32_t *time,
+                    uint32_t *line);
 
 #ifdef __cplusplus
 }

@@ -97,6 +97,15 @@ pub struct Band {
     pub possible: Option<Run>,
 }
 
+/// What an order sheet says of a recording.
+#[derive(Clone, Copy, PartialEq, Eq, Debug)]
+pub enum Order {
+    /// Every line is met.
+    Met,
+    /// The time of the first record whose addition breaks a line, and the first line that it breaks, counted from 0.
+    Broken { time: u32, line: u32 },
+}
+
 /// Why a call gives no result.
 #[derive(Clone, Copy, PartialEq, Eq, Debug)]
 pub enum Refusal {
@@ -124,6 +133,8 @@ pub enum Refusal {
     BadMarks,
     /// 12: the target is off the axis.
     BadTarget,
+    /// 13: the order sheet has over 32 lines, or a number that is not 1 to 16.
+    BadSheet,
     /// 16: the band is not 0 to 1,000,000 units.
     BadBand,
     /// 17: the text is not one of `high`, `low`, `lowafter`, `capafter` and `ampl` alone.
@@ -146,6 +157,7 @@ impl Refusal {
             Refusal::ShortOutput => sys::MILL_SHORT_OUTPUT,
             Refusal::BadMarks => sys::MILL_BAD_MARKS,
             Refusal::BadTarget => sys::MILL_BAD_TARGET,
+            Refusal::BadSheet => sys::MILL_BAD_SHEET,
             Refusal::BadBand => sys::MILL_BAD_BAND,
             Refusal::NotBandQuestion => sys::MILL_NOT_BAND_QUESTION,
         }
@@ -175,6 +187,7 @@ impl Refusal {
             sys::MILL_SHORT_OUTPUT => Refusal::ShortOutput,
             sys::MILL_BAD_MARKS => Refusal::BadMarks,
             sys::MILL_BAD_TARGET => Refusal::BadTarget,
+            sys::MILL_BAD_SHEET => Refusal::BadSheet,
             sys::MILL_BAD_BAND => Refusal::BadBand,
             sys::MILL_NOT_BAND_QUESTION => Refusal::NotBandQuestion,
             number => unreachable!("the library gives no refusal {number}"),
@@ -193,7 +206,7 @@ impl std::error::Error for Refusal {}
 
 #[cfg(feature = "library")]
 mod calls {
-    use super::{sys, Band, Curve, Degree, Pair, Refusal, Run};
+    use super::{sys, Band, Curve, Degree, Order, Pair, Refusal, Run};
 
     /// The set of all numbers that make the text true of the recording, as ascending maximal runs.
     pub fn question(recording: &[u8], text: &[u8]) -> Result<Vec<Run>, Refusal> {
@@ -278,6 +291,19 @@ mod calls {
         Ok(Band { certain: run(sys::MILL_CERTAIN, low, high), possible: run(sys::MILL_POSSIBLE, lowest, highest) })
     }
 
+    /// Whether the additions keep to an order sheet: lines [a, b], pigment a before pigment b.
+    pub fn order(recording: &[u8], sheet: &[[u8; sys::MILL_LINE_BYTES]]) -> Result<Order, Refusal> {
+        let (sheet, mut time, mut line) = (sheet.as_flattened(), 0, 0);
+        // SAFETY: each pointer is a live slice's with its own length, or a live number's.
+        let returned =
+            unsafe { sys::mill_order(recording.as_ptr(), recording.len(), sheet.as_ptr(), sheet.len(), &mut time, &mut line) };
+        match Refusal::of_returned(returned) {
+            Some(refusal) => Err(refusal),
+            None if returned == sys::MILL_SHEET_BROKEN => Ok(Order::Broken { time, line }),
+            None => Ok(Order::Met),
+        }
+    }
+
     fn bytes_written(returned: u64) -> Result<usize, Refusal> {
         match Refusal::of_returned(returned) {
             Some(refusal) => Err(refusal),
@@ -287,4 +313,4 @@ mod calls {
 }
 
 #[cfg(feature = "library")]
-pub use calls::{band, degree, pair, question, question_into, thin, thin_into};
+pub use calls::{band, degree, order, pair, question, question_into, thin, thin_into};

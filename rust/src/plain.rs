@@ -102,6 +102,28 @@ pub fn band(recording: &[u8], text: &[u8], e: i64) -> Result<[Option<(i32, i32)>
     }
 }
 
+/// The time of the first record whose addition breaks a line of the sheet, and the first line that it breaks.
+pub fn order(recording: &[u8], sheet: &[u8]) -> Result<Option<(u32, u32)>, Refused> {
+    let records = some_records(recording)?;
+    if sheet.len() % 2 != 0 || sheet.len() / 2 > 32 || sheet.iter().any(|k| !(1..=MOST_PIGMENT).contains(k)) {
+        return Err((13, 0));
+    }
+    // For each pigment, as bits, those that must be in before it; and those that are.
+    let (mut needed, mut added) = ([0u32; 1 + MOST_PIGMENT as usize], 0u32);
+    for line in sheet.chunks_exact(2) {
+        needed[usize::from(line[1])] |= 1 << line[0];
+    }
+    for record in &records {
+        if needed[usize::from(record.pigment)] & !added != 0 {
+            let breaks = |line: &[u8]| line[1] == record.pigment && added >> line[0] & 1 == 0;
+            let line = sheet.chunks_exact(2).position(breaks).expect("a line that needs it");
+            return Ok(Some((record.time as u32, line as u32)));
+        }
+        added |= 1 << record.pigment;
+    }
+    Ok(None)
+}
+
 /// Writes the kept readings into `out`; the bytes written.
 pub fn thin(recording: &[u8], marks: &[u8], out: &mut [u8]) -> Result<usize, Refused> {
     let records = decode(recording)?;

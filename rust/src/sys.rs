@@ -8,6 +8,7 @@ pub const MILL_AXIS_HIGH: i64 = 2_000_000_000;
 pub const MILL_RECORD_BYTES: usize = 16;
 pub const MILL_RUN_BYTES: usize = 8;
 pub const MILL_MARK_BYTES: usize = 4;
+pub const MILL_LINE_BYTES: usize = 2;
 /// Room for every set that a question answers.
 pub const MILL_SET_BYTES: usize = 2048;
 
@@ -25,6 +26,7 @@ pub const MILL_MAX_TOPS: usize = 256;
 pub const MILL_MAX_MARKS: usize = 8;
 pub const MILL_MAX_MARK: u32 = 2_000_000_000;
 pub const MILL_MAX_BAND: i64 = 1_000_000;
+pub const MILL_MAX_LINES: usize = 32;
 
 /// Bytes of stack with which each call does.
 pub const MILL_STACK_QUESTION: usize = 196_608;
@@ -32,6 +34,7 @@ pub const MILL_STACK_DEGREE: usize = 196_608;
 pub const MILL_STACK_PAIR: usize = 4_096;
 pub const MILL_STACK_THIN: usize = 16_384;
 pub const MILL_STACK_BAND: usize = 131_072;
+pub const MILL_STACK_ORDER: usize = 4_096;
 
 pub const MILL_FALLING: u8 = 0;
 pub const MILL_FLAT: u8 = 1;
@@ -50,6 +53,9 @@ pub const MILL_PAIR: u64 = 1;
 pub const MILL_CERTAIN: u64 = 1;
 pub const MILL_POSSIBLE: u64 = 2;
 
+pub const MILL_SHEET_MET: u64 = 0;
+pub const MILL_SHEET_BROKEN: u64 = 1;
+
 pub const MILL_PARTIAL_RECORD: u32 = 1;
 pub const MILL_TOO_MANY_RECORDS: u32 = 2;
 pub const MILL_BAD_RECORD: u32 = 3;
@@ -62,6 +68,7 @@ pub const MILL_TOO_MANY_TOPS: u32 = 9;
 pub const MILL_SHORT_OUTPUT: u32 = 10;
 pub const MILL_BAD_MARKS: u32 = 11;
 pub const MILL_BAD_TARGET: u32 = 12;
+pub const MILL_BAD_SHEET: u32 = 13;
 pub const MILL_BAD_BAND: u32 = 16;
 pub const MILL_NOT_BAND_QUESTION: u32 = 17;
 
@@ -124,5 +131,14 @@ extern "C" {
         certain_high: *mut i32,
         possible_low: *mut i32,
         possible_high: *mut i32,
+    ) -> u64;
+
+    pub fn mill_order(
+        recording: *const u8,
+        recording_len: usize,
+        sheet: *const u8,
+        sheet_len: usize,
+        time: *mut u32,
+        line: *mut u32,
     ) -> u64;
 }

@@ -207,6 +207,41 @@ static void bands(void)
     EXPECT(within("!high(A)", 0, other, 7, 7, 7, 7));
 }
 
+/* What an order sheet says of R3, in places that held 7. */
+static int ordered(const uint8_t *sheet, size_t sheet_len, uint64_t returned, uint32_t time, uint32_t line)
+{
+    uint32_t found_time = 7, found_line = 7;
+    uint64_t r = mill_order(r3, R2_BYTES, sheet, sheet_len, &found_time, &found_line);
+    return r == returned && found_time == time && found_line == line;
+}
+
+/* Of R3's pigments 7 goes in before 16. */
+static void orders(void)
+{
+    static const uint8_t sheet[] = {7, 16, 5, 16, 16, 7, 7, 7};
+    static const uint8_t zero[] = {0, 16}, seventeen[] = {7, MILL_MAX_PIGMENT + 1};
+    const uint64_t bad = (uint64_t)MILL_BAD_SHEET << 32;
+    uint8_t lines[MILL_MAX_LINES * MILL_LINE_BYTES + MILL_LINE_BYTES], kept[R2_BYTES];
+    uint32_t time = 7, line = 7;
+    size_t kept_len, at;
+    for (at = 0; at < sizeof lines; at++)
+        lines[at] = at % 2 == 0 ? 7 : 16;
+    EXPECT(ordered(NULL, 0, MILL_SHEET_MET, 7, 7));
+    EXPECT(ordered(sheet, 2, MILL_SHEET_MET, 7, 7));
+    EXPECT(ordered(sheet, 4, MILL_SHEET_BROKEN, 40, 1));
+    EXPECT(ordered(sheet, 6, MILL_SHEET_BROKEN, 20, 2));
+    EXPECT(ordered(sheet + 6, 2, MILL_SHEET_BROKEN, 20, 0));
+    EXPECT(ordered(lines, MILL_MAX_LINES * MILL_LINE_BYTES, MILL_SHEET_MET, 7, 7));
+    EXPECT(ordered(lines, sizeof lines, bad, 7, 7));
+    EXPECT(ordered(sheet, 3, bad, 7, 7));
+    EXPECT(ordered(zero, 2, bad, 7, 7));
+    EXPECT(ordered(seventeen, 2, bad, 7, 7));
+    EXPECT(mill_order(NULL, 0, sheet, 3, &time, &line) == (uint64_t)MILL_NO_RECORD << 32);
+    EXPECT(time == 7 && line == 7);
+    kept_len = (size_t)mill_thin(r3, R2_BYTES, NULL, 0, kept, sizeof kept);
+    EXPECT(mill_order(kept, kept_len, sheet, 4, &time, &line) == MILL_SHEET_BROKEN && time == 40 && line == 1);
+}
+
 /* Tops of A at 10, 20, 40 and 50: (10, 40) and (20, 50) lie 30 apart. The second record is the one that is not kept. */
 static void first_of_several_pairs(void)
 {
@@ -484,6 +519,7 @@ int main(void)
     pairs();
     first_of_several_pairs();
     bands();
+    orders();
     refusals();
     nothing_at_all();
     thinning_of_r1();

@@ -111,6 +111,19 @@ void bands()
     EXPECT(low == MILL_AXIS_LOW && high == 40 && lowest == MILL_AXIS_LOW && highest == 80);
 }
 
+void orders()
+{
+    uint8_t additions[length];
+    std::memcpy(additions, r1, length);
+    additions[14] = 2;
+    additions[MILL_RECORD_BYTES + 14] = 1;
+    const uint8_t sheet[] = {2, 1, 1, 2};
+    uint32_t time = 7, line = 7;
+    EXPECT(mill_order(additions, length, sheet, MILL_LINE_BYTES, &time, &line) == MILL_SHEET_MET && time == 7 && line == 7);
+    EXPECT(MILL_NUMBER(mill_order(additions, length, sheet, 3, &time, &line)) == MILL_BAD_SHEET && time == 7 && line == 7);
+    EXPECT(mill_order(additions, length, sheet, sizeof sheet, &time, &line) == MILL_SHEET_BROKEN && time == 0 && line == 1);
+}
+
 void thinning()
 {
     uint8_t mark[MILL_MARK_BYTES], whole[length], held[length], out[length];
@@ -139,6 +152,7 @@ int main()
     degrees();
     pairs();
     bands();
+    orders();
     thinning();
     std::printf("boundary.cpp: %d failures\n", failures);
     return failures == 0 ? 0 : 1;

@@ -15,6 +15,8 @@ use Rattle.pair.specs.Pair.{Given, times, none, pairOf}
 use Rattle.degree.specs.Degree.{Value, met, short, noValue, nearnessOf}
 use Rattle.question.specs.Question.{questionOf}
 use Rattle.thin.specs.Thin.{thinOf}
+use Rattle.sheet.specs.Finding.{Finding, allMet, brokenAt}
+use Rattle.sheet.specs.Call.{orderOf}
 use Rattle.reply.specs.Reply.{packed}
 
 -- ---- thinning and the question
@@ -116,6 +118,31 @@ pub record InBands (outcome : Outcome Bands) (certain-low certain-high possible-
   pub third-place : third ≡ lowAfter (possibleIn outcome) possible-low
   pub fourth-place : fourth ≡ highAfter (possibleIn outcome) possible-high
 
+-- ---- the order sheet
+
+-- 0 met, 1 broken
+abbrev pub findingTold : Outcome Finding → Outcome ℕ
+findingTold (result allMet) = result 0
+findingTold (result (brokenAt t k)) = result 1
+findingTold (refused n p) = refused n p
+
+-- of a line that is broken the time goes to the first place and the number to the second; else both places stay
+abbrev pub timeAfter : Outcome Finding → ℕ → ℕ
+timeAfter (result allMet) old = old
+timeAfter (result (brokenAt t k)) old = t
+timeAfter (refused n p) old = old
+
+abbrev pub lineAfter : Outcome Finding → ℕ → ℕ
+lineAfter (result allMet) old = old
+lineAfter (result (brokenAt t k)) old = k
+lineAfter (refused n p) old = old
+
+-- THE COMPLETE OUTCOME of the order call: what it returns, and the two places, `time` and `line` before, `first` and `second` after
+pub record Orders (outcome : Outcome Finding) (time line r first second : ℕ) : Type 0 where
+  pub returned : r ≡ packed (findingTold outcome)
+  pub first-place : first ≡ timeAfter outcome time
+  pub second-place : second ≡ lineAfter outcome line
+
 -- ---- THE CONTRACT OF EACH CALL: what it is handed, what it returns (r), and the caller's memory after it
 
 abbrev pub QuestionCall : (recording text out : List ℕ) (r : ℕ) (after : List ℕ) → Type 0
@@ -133,3 +160,6 @@ ThinCall recording marks out r after = Writes (thinOf recording marks (length ou
 abbrev pub BandCall : (recording text : List ℕ) (e : ℤ) (certain-low certain-high possible-low possible-high r first second third fourth : ℕ) → Type 0
 BandCall recording text e certain-low certain-high possible-low possible-high r first second third fourth =
     InBands (bandOf recording text e) certain-low certain-high possible-low possible-high r first second third fourth
+
+abbrev pub OrderCall : (recording sheet : List ℕ) (time line r first second : ℕ) → Type 0
+OrderCall recording sheet time line r first second = Orders (orderOf recording sheet) time line r first second

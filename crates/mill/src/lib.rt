@@ -6,7 +6,7 @@ ghost use lib.Dec.{T};
 ghost use lib.Ieee.{binary64, toBits, isNan};
 ghost use Rattle.band.specs.Call.{partOf};
 ghost use Rattle.band.specs.inner.OnAxis.{EndsOnAxis};
-ghost use Rattle.mill.specs.Boundary.{QuestionCall, DegreeCall, PairCall, ThinCall, BandCall, filled, lowAfter, highAfter};
+ghost use Rattle.mill.specs.Boundary.{QuestionCall, DegreeCall, PairCall, ThinCall, BandCall, OrderCall, filled, lowAfter, highAfter};
 
 // THE QUESTION CALL. Returns how many bytes of the output the answered set takes, or the refusal.
 #[no_mangle]
@@ -121,5 +121,22 @@ pub extern "C" fn mill_band(
             first + 2 * second
         }
         band::InBand::Refused(x) => reply::refused(x),
+    }
+}
+
+// THE ORDER CALL. Returns 0 where every line of the sheet is met, 1 where one is broken and the time and the line are written, or the refusal.
+#[no_mangle]
+pub extern "C" fn mill_order(rec: &[u8], sheet: &[u8], time: &mut u32, line: &mut u32) -> u64
+    ensures { λ r. ⌜ OrderCall (now (rec .entry)) (now (sheet .entry)) (now (time .entry)) (now (line .entry)) r (now (time .exit)) (now (line .exit)) ⌝ }
+{
+    let found = sheet::order(rec, sheet);
+    match found {
+        sheet::Ordered::Met => 0,
+        sheet::Ordered::Broken(t, k) => {
+            *time = t;
+            *line = k;
+            1
+        }
+        sheet::Ordered::Refused(x) => reply::refused(x),
     }
 }

@@ -1,10 +1,10 @@
 -- THE THREE DEMANDS, sentence by sentence, of the calls of the C boundary: of the 64-bit number that a call returns and of the memory that it leaves,
--- for every call that meets its contract (mill/specs/Boundary: QuestionCall, DegreeCall, PairCall, ThinCall, BandCall). Each call of the library is proved to
+-- for every call that meets its contract (mill/specs/Boundary: QuestionCall, DegreeCall, PairCall, ThinCall, BandCall, OrderCall). Each call of the library is proved to
 -- meet it, for every input, with no condition. That `Demands` holds is `demands` (laws/Demands).
 use Prim.Native.Nat.{ℕ, _*_, _/_, _%_, _<_}
 use mathlib.Core.Path.{_≡_}
 use mathlib.Core.Bool.{Bool, true}
-use mathlib.Core.Logic.{_↔_}
+use mathlib.Core.Logic.{_⊎_, _↔_}
 use mathlib.Core.List.{List, [], _∷_, map, List·Memᴰ}
 use lib.IntN.{ℤ, pos}
 use lib.ListN.{length, take, drop}
@@ -27,15 +27,17 @@ use Rattle.meaning.specs.Alike.{markIndex}
 use Rattle.degree.specs.Degree.{Value}
 use Rattle.degree.specs.Nearest.{Near}
 use Rattle.band.specs.Band.{OfExtremes, Certain, Possible}
+use Rattle.sheet.specs.Sheet.{sheetOf}
+use Rattle.sheet.specs.Finding.{allMet, brokenAt, TrueFinding}
 use Rattle.marks.specs.Marks.{marksOf, marksLine, AcceptedMarks}
 use Rattle.thin.specs.Thin.{keptBytes}
 use Rattle.thin.specs.Book.{Call, book}
 use Rattle.thin.specs.Cut.{wholeFrom, CutBetween, LongEnough, allWritten}
 use Rattle.reply.specs.Reply.{half, numberIn, lowIn}
-use Rattle.mill.specs.Boundary.{QuestionCall, DegreeCall, PairCall, ThinCall, BandCall, Degrees}
+use Rattle.mill.specs.Boundary.{QuestionCall, DegreeCall, PairCall, ThinCall, BandCall, OrderCall, Degrees}
 use Rattle.promises.specs.Selection.{Selection}
 use Rattle.promises.specs.CallsMade.{Returned, readOff, CallsMade, heldAt, takenFrom}
-use Rattle.promises.specs.Table.{Request, question, degree, pair, thin, order, acceptedOrder, NoneMet, FirstMet, band}
+use Rattle.promises.specs.Table.{Request, question, degree, pair, thin, order, acceptedOrder, NoneMet, FirstMet, band, ordering}
 
 -- ---- DEMAND 1
 
@@ -67,6 +69,8 @@ pub record Demand1 : Type 0 where
   pub of-band : {recording text : List ℕ} {e : ℤ} {low high lowest highest r low-after high-after lowest-after highest-after : ℕ}
       → BandCall recording text e low high lowest highest r low-after high-after lowest-after highest-after
       → OneAnswer (band recording text e) r (low ∷ high ∷ lowest ∷ highest ∷ []) (low-after ∷ high-after ∷ lowest-after ∷ highest-after ∷ [])
+  pub of-order : {recording sheet : List ℕ} {time line r time-after line-after : ℕ} → OrderCall recording sheet time line r time-after line-after
+      → OneAnswer (ordering recording sheet) r (time ∷ line ∷ []) (time-after ∷ line-after ∷ [])
 
 -- ---- DEMAND 2
 
@@ -113,8 +117,15 @@ pub record BandTold (recording text : List ℕ) (e r low high lowest highest low
   pub certain : (z : ℤ) → OfAxis z → InRun (lowIn r % 2) low-after high-after z ↔ Certain asked e (readings recording) z
   pub possible : (z : ℤ) → OfAxis z → InRun (lowIn r / 2) lowest-after highest-after z ↔ Possible asked e (readings recording) z
 
+-- document 02, Paper 6, of what the order call tells: 0, every line of the sheet is met, and both places stay; or 1, and there stand "the time of the first
+-- record whose addition breaks a line, and the number, from 0, of the first line that this addition breaks"
+pub record OrderTold (recording sheet : List ℕ) (time line r time-after line-after : ℕ) : Type 0 where
+  pub met-or-broken : (lowIn r ≡ 0) ⊎ (lowIn r ≡ 1)
+  pub met : lowIn r ≡ 0 → TrueFinding (readings recording) (sheetOf sheet) allMet × (time-after ≡ time) × (line-after ≡ line)
+  pub broken : lowIn r ≡ 1 → TrueFinding (readings recording) (sheetOf sheet) (brokenAt time-after line-after)
+
 -- DEMAND 2, of what the question call wrote, and of what the degree call told (`Near`: by the same reading, of the target as the number at index v of the axis)
--- and the band call (`BandTold`)
+-- the band call (`BandTold`) and the order call (`OrderTold`)
 pub record Demand2 : Type 0 where
   pub set-written : {recording text out : List ℕ} {r : ℕ} {after : List ℕ} → QuestionCall recording text out r after → numberIn r ≡ 0
       → SetWritten recording text out r after
@@ -124,6 +135,8 @@ pub record Demand2 : Type 0 where
   pub band-told : {recording text : List ℕ} (e : ℕ) {low high lowest highest r low-after high-after lowest-after highest-after : ℕ}
       → BandCall recording text (pos e) low high lowest highest r low-after high-after lowest-after highest-after → numberIn r ≡ 0
       → BandTold recording text e r low high lowest highest low-after high-after lowest-after highest-after
+  pub order-told : {recording sheet : List ℕ} {time line r time-after line-after : ℕ} → OrderCall recording sheet time line r time-after line-after → numberIn r ≡ 0
+      → OrderTold recording sheet time line r time-after line-after
 
 -- ---- DEMAND 3
 
@@ -160,9 +173,9 @@ pub record KeptLikeFull (recording text out : List ℕ) (r r′ : ℕ) (after af
   pub same-bytes : numberIn r ≡ 0 → take (lowIn r) after ≡ take (lowIn r) after′
   pub right : RightOf recording text out (1 ∷ 2 ∷ 3 ∷ acceptedOrder) r after
 
--- DEMAND 3, its three sentences; what the band call returns and leaves on the kept readings, and on every selection that includes them, is what it does
--- on the full recording (document 02, Paper 9); and beyond it: after any list of calls, however long the join, what is held answers what the text means
--- of the join, of which only 4 to 10 are asked; with marks that 11 refuses every call is refused and nothing is ever held
+-- DEMAND 3, its three sentences; what the band call and the order call return and leave on the kept readings, and on every selection that includes them,
+-- is what they do on the full recording (document 02, Papers 9 and 6); and beyond it: after any list of calls, however long the join, what is held answers
+-- what the text means of the join, of which only 4 to 10 are asked; with marks that 11 refuses every call is refused and nothing is ever held
 pub record Demand3 (marks : List ℕ) : Type 0 where
   pub every-list : AcceptedMarks marks → (cs : List Call) (xs : List Returned) → CallsMade marks [] cs xs → EveryList marks cs xs
   pub cut : AcceptedMarks marks → (cs : List Call) (xs : List Returned) → CallsMade marks [] cs xs → Accepted (wholeFrom [] cs) → CutBetween cs
@@ -175,6 +188,8 @@ pub record Demand3 (marks : List ℕ) : Type 0 where
       → (e : ℤ) {low high lowest highest r low-after high-after lowest-after highest-after : ℕ}
       → BandCall held text e low high lowest highest r low-after high-after lowest-after highest-after
       → BandCall recording text e low high lowest highest r low-after high-after lowest-after highest-after
+  pub order-as-full : AcceptedMarks marks → (recording held sheet : List ℕ) → Accepted recording → Selection (marksOf marks) recording held
+      → {time line r time-after line-after : ℕ} → OrderCall held sheet time line r time-after line-after → OrderCall recording sheet time line r time-after line-after
   pub beyond : AcceptedMarks marks → (cs : List Call) (xs : List Returned) → CallsMade marks [] cs xs → {text : List ℕ} → AskedOfKept marks text
       → {out : List ℕ} {r : ℕ} {after : List ℕ} → QuestionCall (heldAt [] xs) text out r after → RightOf (takenFrom [] cs xs) text out acceptedOrder r after
   pub bad-marks : marksLine marks .meets ≡ true → (cs : List Call) (xs : List Returned) → CallsMade marks [] cs xs

@@ -11,6 +11,7 @@ use Rattle.degree.specs.Degree.{nearnessOf}
 use Rattle.band.specs.Call.{bandOf}
 use Rattle.marks.specs.Marks.{marksOf}
 use Rattle.pair.specs.Pair.{pairOf}
+use Rattle.sheet.specs.Call.{orderOf}
 
 -- A text that may be asked of kept readings: where none of 5, 6 and 7 refuses it, it writes none of F, G, X, U and W, and its after-times
 -- are among the marks. The marks are given by their bytes, as a thinning call takes them.
@@ -27,3 +28,5 @@ pub record SameAnswers (marks held full : List ℕ) : Type 0 where
   pub pair : (curve : ℕ) (target : ℤ) → pairOf held curve target ≡ pairOf full curve target
   -- the same two sets, or the same refusal
   pub band : (text : List ℕ) → Askable marks text → (e : ℤ) → bandOf held text e ≡ bandOf full text e
+  -- met, the same time and line, or the same refusal
+  pub ordering : (sheet : List ℕ) → orderOf held sheet ≡ orderOf full sheet

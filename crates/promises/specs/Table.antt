@@ -1,5 +1,5 @@
 -- Document 01, "When no result is given": the table of refusals, to which document 02 adds, each condition by its meaning, and the order of each call.
-use Prim.Native.Nat.{ℕ, _*_, _/_, _%_, _<_}
+use Prim.Native.Nat.{ℕ, _*_, _/_, _%_, _≤_, _<_}
 use mathlib.Core.Path.{_≡_}
 use mathlib.Core.Bool.{Bool, true, false}
 use mathlib.Core.Logic.{_⊎_}
@@ -10,10 +10,10 @@ use lib.Signed.{_≤ℤ_}
 use Rattle.number.specs.Axis.{OfAxis}
 use Rattle.refusal.specs.Numbers.{numberOf, placeOf}
 use Rattle.refusal.specs.declared.Refusal.{Refusal}
-use Rattle.refusal.specs.declared.Refusal.the-variants.{PartialRecord, TooManyRecords, BadRecord, NoRecord, TextLength, NoReading, TextTooLarge, TooManyRuns, TooManyTops, ShortOutput, BadMarks, BadTarget, BadBand, NotBandQuestion}
+use Rattle.refusal.specs.declared.Refusal.the-variants.{PartialRecord, TooManyRecords, BadRecord, NoRecord, TextLength, NoReading, TextTooLarge, TooManyRuns, TooManyTops, ShortOutput, BadMarks, BadTarget, BadSheet, BadBand, NotBandQuestion}
 use Rattle.recording.specs.Condition.{pick}
 use Rattle.recording.specs.Reading.{top, curveOf}
-use Rattle.recording.specs.Recording.{Raw, records, readings, lawful, mostRecords}
+use Rattle.recording.specs.Recording.{Raw, records, readings, lawful, mostRecords, mostPigments}
 use Rattle.runset.specs.Runs.{runCount}
 use Rattle.tops.specs.Tops.{mostTops}
 use Rattle.grammar.specs.Syntax.{Text, Listed, listed}
@@ -23,6 +23,7 @@ use Rattle.meaning.specs.Overfull.{IsSet, Overfull, TooManyTops as OverTops}
 use Rattle.band.specs.Band.{widest, OfExtremes}
 use Rattle.thin.specs.Thin.{keptBytes}
 use Rattle.marks.specs.Marks.{marksOf, mostMarks, latestMark}
+use Rattle.sheet.specs.Sheet.{mostLines}
 
 -- what a call is handed; of an output its length
 pub data Request : Type 0 where
@@ -31,6 +32,7 @@ pub data Request : Type 0 where
   pair : (recording : List ℕ) (curve : ℕ) (target : ℤ) → Request
   thin : (recording marks : List ℕ) (room : ℕ) → Request
   band : (recording text : List ℕ) (e : ℤ) → Request
+  ordering : (recording sheet : List ℕ) → Request
 
 abbrev pub recordingIn : Request → List ℕ
 recordingIn (question r t n) = r
@@ -38,6 +40,7 @@ recordingIn (degree r t g) = r
 recordingIn (pair r c g) = r
 recordingIn (thin r m n) = r
 recordingIn (band r t e) = r
+recordingIn (ordering r s) = r
 
 -- the text; a call that takes none has no line about it
 abbrev pub textIn : Request → List ℕ
@@ -46,6 +49,7 @@ textIn (degree r t g) = t
 textIn (pair r c g) = []
 textIn (thin r m n) = []
 textIn (band r t e) = t
+textIn (ordering r s) = []
 
 -- record i is the first out of its rules
 pub record FirstBroken (xs : List Raw) (i : ℕ) : Type 0 where
@@ -72,6 +76,7 @@ TopsOver (degree r t g) = ReadWith t (OverTops (readings r))
 TopsOver (pair r c g) = mostTops < length (pick (top (curveOf c)) (readings r))
 TopsOver (thin r m n) = ⊥
 TopsOver (band r t e) = ⊥
+TopsOver (ordering r s) = ⊥
 
 -- 10: the output is shorter than the result
 abbrev pub OutputShort : Request → Type 0
@@ -80,6 +85,7 @@ OutputShort (degree r t g) = ⊥
 OutputShort (pair r c g) = ⊥
 OutputShort (thin r m n) = n < length (keptBytes (marksOf m) r)
 OutputShort (band r t e) = ⊥
+OutputShort (ordering r s) = ⊥
 
 -- 11: the marks are not 4 bytes each, over 8, or too large
 abbrev pub MarksBad : Request → Type 0
@@ -88,6 +94,7 @@ MarksBad (degree r t g) = ⊥
 MarksBad (pair r c g) = ⊥
 MarksBad (thin r m n) = ¬ (length m % 4 ≡ 0) ⊎ ((mostMarks < length m / 4) ⊎ ((k : ℕ) × List·Memᴰ k (marksOf m) × (latestMark < k)))
 MarksBad (band r t e) = ⊥
+MarksBad (ordering r s) = ⊥
 
 -- 12: the target is off the axis, or the curve number is not 0 or 1
 abbrev pub TargetBad : Request → Type 0
@@ -96,6 +103,16 @@ TargetBad (degree r t g) = ¬ OfAxis g
 TargetBad (pair r c g) = (1 < c) ⊎ ¬ OfAxis g
 TargetBad (thin r m n) = ⊥
 TargetBad (band r t e) = ⊥
+TargetBad (ordering r s) = ⊥
+
+-- 13: the sheet has an odd length, over 32 lines, or a number that is not 1 to 16
+abbrev pub SheetBad : Request → Type 0
+SheetBad (question r t n) = ⊥
+SheetBad (degree r t g) = ⊥
+SheetBad (pair r c g) = ⊥
+SheetBad (thin r m n) = ⊥
+SheetBad (band r t e) = ⊥
+SheetBad (ordering r s) = ¬ (length s % 2 ≡ 0) ⊎ ((mostLines < length s / 2) ⊎ ((k : ℕ) × List·Memᴰ k s × ¬ ((1 ≤ k) × (k ≤ mostPigments))))
 
 -- 16: the band is not 0 to 1,000,000 units
 abbrev pub BandBad : Request → Type 0
@@ -104,6 +121,7 @@ BandBad (degree r t g) = ⊥
 BandBad (pair r c g) = ⊥
 BandBad (thin r m n) = ⊥
 BandBad (band r t e) = ¬ ((pos 0 ≤ℤ e) × (e ≤ℤ pos widest))
+BandBad (ordering r s) = ⊥
 
 -- the text is one question on extremes alone; brackets are no node of it
 abbrev pub OneExtreme : Text → Type 0
@@ -116,6 +134,7 @@ NotOneExtreme (degree r t g) = ⊥
 NotOneExtreme (pair r c g) = ⊥
 NotOneExtreme (thin r m n) = ⊥
 NotOneExtreme (band r t e) = ReadWith t (λ p. ¬ OneExtreme p)
+NotOneExtreme (ordering r s) = ⊥
 
 -- THE TABLE: the condition of each line is met by the request
 abbrev pub Met : Request → Refusal → Type 0
@@ -131,6 +150,7 @@ Met q TooManyTops = TopsOver q
 Met q ShortOutput = OutputShort q
 Met q BadMarks = MarksBad q
 Met q BadTarget = TargetBad q
+Met q BadSheet = SheetBad q
 Met q BadBand = BandBad q
 Met q NotBandQuestion = NotOneExtreme q
 
@@ -145,6 +165,7 @@ order (degree r t g) = 1 ∷ 2 ∷ 3 ∷ 4 ∷ 5 ∷ 6 ∷ 7 ∷ 12 ∷ 9 ∷ 8 
 order (pair r c g) = 1 ∷ 2 ∷ 3 ∷ 4 ∷ 12 ∷ 9 ∷ []
 order (thin r m n) = 1 ∷ 2 ∷ 3 ∷ 11 ∷ 10 ∷ []
 order (band r t e) = 1 ∷ 2 ∷ 3 ∷ 4 ∷ 5 ∷ 6 ∷ 7 ∷ 16 ∷ 17 ∷ []
+order (ordering r s) = 1 ∷ 2 ∷ 3 ∷ 4 ∷ 13 ∷ []
 
 -- no line of these numbers is met
 abbrev pub NoneMet : Request → List ℕ → Type 0

@@ -27,6 +27,8 @@ pub enum Refusal {
     BadMarks,
     // The target is off the axis, or the curve number is not 0 or 1.
     BadTarget,
+    // The order sheet has an odd length, over 32 lines, or a number that is not 1 to 16.
+    BadSheet,
     // The band is not 0 to 1,000,000 units.
     BadBand,
     // The text is not one question that is answered within a band, alone.
@@ -50,6 +52,7 @@ pub fn number(r: Refusal) -> u32
         Refusal::ShortOutput => 10,
         Refusal::BadMarks => 11,
         Refusal::BadTarget => 12,
+        Refusal::BadSheet => 13,
         Refusal::BadBand => 16,
         Refusal::NotBandQuestion => 17,
     }
@@ -72,6 +75,7 @@ pub fn place(r: Refusal) -> usize
         Refusal::ShortOutput => 0,
         Refusal::BadMarks => 0,
         Refusal::BadTarget => 0,
+        Refusal::BadSheet => 0,
         Refusal::BadBand => 0,
         Refusal::NotBandQuestion => 0,
     }

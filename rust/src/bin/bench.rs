@@ -19,6 +19,7 @@ fn main() {
     degrees();
     pairs();
     bands();
+    orders();
 }
 
 fn thinning() {
@@ -154,6 +155,33 @@ fn bands() {
         let plain = || plain::band(&recording, text.as_bytes(), 500);
         assert_eq!(library().map_err(|refusal| (refusal.number(), refusal.place())), plain(), "{text}");
         row(&format!("band of {text}"), "two sets", best(&library, &plain), Some(1.2));
+    }
+}
+
+/// 32 lines: each of 9 to 16 needs four of 1 to 8. No addition, and one at every record: met, broken at the first, at the last.
+fn orders() {
+    let sheet: Vec<[u8; 2]> = (0..32).map(|line| [1 + line % 8, 9 + line / 4]).collect();
+    let additions = |pigment: &dyn Fn(usize) -> u8| {
+        let mut readings = with_tops(&evenly(64, RECORDS), &[]);
+        readings.iter_mut().enumerate().for_each(|(index, reading)| reading.pigment = pigment(index));
+        bytes(&readings)
+    };
+    let in_turn = |index: usize| 1 + (index % 16) as u8;
+    for (name, recording) in [
+        ("no addition", additions(&|_| 0)),
+        ("4,096 additions, met", additions(&in_turn)),
+        ("4,096 additions, broken at the first", additions(&|_| 16)),
+        ("4,096 additions, broken at the last", additions(&|index| if index + 1 < RECORDS { 1 + (index % 7) as u8 } else { 16 })),
+    ] {
+        let library = || {
+            mill::order(&recording, &sheet).map(|order| match order {
+                mill::Order::Met => None,
+                mill::Order::Broken { time, line } => Some((time, line)),
+            })
+        };
+        let plain = || plain::order(&recording, sheet.as_flattened());
+        assert_eq!(library().map_err(|refusal| (refusal.number(), refusal.place())), plain(), "{name}");
+        row(&format!("order, 32 lines, {name}"), "a finding", best(&library, &plain), Some(1.2));
     }
 }
 

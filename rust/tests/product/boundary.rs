@@ -5,7 +5,7 @@ use crate::support::r1::r1_bytes;
 use crate::support::r2::r2_bytes;
 use crate::support::recordings::flat;
 use mill::reference::recording::bytes;
-use mill::sys::{mill_band, mill_degree, mill_pair, mill_question, mill_thin};
+use mill::sys::{mill_band, mill_degree, mill_order, mill_pair, mill_question, mill_thin};
 use std::ptr::{null, null_mut};
 
 fn refusal(number: u64) -> u64 {
@@ -20,6 +20,8 @@ fn null_with_length_0() {
     // SAFETY: each pointer lies before as many bytes as its length says; null goes with 0.
     unsafe {
         assert_eq!(mill_pair(null(), 0, 0, 40, &mut earlier, &mut later), refusal(4));
+        assert_eq!(mill_order(null(), 0, null(), 0, &mut earlier, &mut later), refusal(4));
+        assert_eq!(mill_order(recording, length, null(), 0, &mut earlier, &mut later), 0);
         assert_eq!((earlier, later), (77, 78));
         assert_eq!(mill_thin(null(), 0, null(), 0, null_mut(), 0), 0);
         assert_eq!(mill_thin(null(), 0, [0u8; 3].as_ptr(), 3, null_mut(), 0), refusal(11));

@@ -270,6 +270,39 @@ pub fn pair(recording: &[u8], curve: u32, target: i64) -> u32 {
     number_of(&expected)
 }
 
+/// Checks an order sheet and compares the time and the line; the outcome's number.
+#[track_caller]
+pub fn order(recording: &[u8], sheet: &[u8]) -> u32 {
+    count();
+    let expected = reference::order(recording, sheet);
+    let (returned, found, filler) = DESK.with_borrow_mut(|desk| {
+        let [first, other, output] = desk.turn();
+        let recording_at = desk.recording.put(recording, first);
+        let sheet_at = desk.second.put(sheet, other);
+        let [time, line, ..] = desk.number_places(output, 4).map(|place| place.cast());
+        // SAFETY: each pointer lies before as many bytes as its length says, or before its number.
+        let returned = unsafe { sys::mill_order(recording_at, recording.len(), sheet_at, sheet.len(), time, line) };
+        let [time, line, ..] = desk.numbers_after(output, 4);
+        (returned, [time, line], filler(desk.turn))
+    });
+    let (expected_return, expected_places) = match expected {
+        Err(refused) => (refused.returned(), [(); 2].map(|()| vec![filler; 4])),
+        Ok(None) => (0, [(); 2].map(|()| vec![filler; 4])),
+        Ok(Some((time, line))) => (1, [time, line].map(|number| number.to_le_bytes().to_vec())),
+    };
+    if (returned, &found) != (expected_return, &expected_places) {
+        panic!(
+            "{}\nexpected {} {expected_places:?}\nfound    {} {found:?}\nin mill_order of sheet {}\n{}",
+            place(),
+            outcome(expected_return),
+            outcome(returned),
+            hex(sheet),
+            hex(recording)
+        );
+    }
+    number_of(&expected)
+}
+
 /// Asks within a band and compares the two sets; the outcome's number.
 #[track_caller]
 pub fn band(recording: &[u8], text: &[u8], e: i64) -> u32 {

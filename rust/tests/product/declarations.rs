@@ -202,7 +202,7 @@ fn the_declarations_are_the_same() {
     let found = differences(header::TEXT, RUST, RATTLE);
     assert!(found.is_empty(), "{}", found.join("\n"));
     let calls: Vec<String> = in_c(header::TEXT).into_iter().map(|call| call.name).collect();
-    assert_eq!(calls, ["mill_question", "mill_degree", "mill_pair", "mill_thin", "mill_band"]);
+    assert_eq!(calls, ["mill_question", "mill_degree", "mill_pair", "mill_thin", "mill_band", "mill_order"]);
 }
 
 /// The libraries that open a layer to the tests are declared in Rust alone.

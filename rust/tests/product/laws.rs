@@ -6,7 +6,7 @@ use crate::question::room;
 use crate::support::cases::{begin, cases, one_alone};
 use crate::support::random::Random;
 use crate::support::recordings::{self, with_many_events};
-use crate::support::texts;
+use crate::support::{sheets, texts};
 use mill::reference::kept::mark_bytes;
 use mill::reference::recording::{bytes, Record};
 use mill::reference::text::{accepted, Node};
@@ -75,6 +75,10 @@ fn same_answers(random: &mut Random, records: &[Record], marks: &[i64], held: &[
                 assert_eq!(mill::pair(full, curve, target), mill::pair(held, curve, target), "{target}: {}", case());
             }
         }
+        let lines = sheets::length(random);
+        let sheet = sheets::met(random, records, lines);
+        let sheet: Vec<[u8; 2]> = sheet.chunks_exact(2).map(|line| [line[0], line[1]]).collect();
+        assert_eq!(mill::order(full, &sheet), mill::order(held, &sheet), "{sheet:?}: {}", case());
     }
 }
 

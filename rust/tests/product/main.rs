@@ -15,6 +15,7 @@ mod guarded;
 mod header;
 mod laws;
 mod limits;
+mod order;
 mod page;
 mod pair;
 mod question;

@@ -5,14 +5,15 @@
 //! axis ends; or `refused` with number and place. ```` ```mill kept ```` asks R1's kept readings without marks,
 //! ```` ```mill kept 40 50 ```` those with these marks. ```` ```mill degree 51 ```` asks for degrees of this target: `met`,
 //! `distance d, degree g` or `no value`. ```` ```mill band 5 ```` asks within this band: `certain` and a set, `; possible` and a
-//! set. ```` ```mill R2 ```` and ```` ```mill R3 ````, with any of these behind it, ask R2 and R3.
+//! set. ```` ```mill order ```` checks order sheets, lines `a b` parted by `, `: `met`, or `line k broken at t`.
+//! ```` ```mill R2 ```` and ```` ```mill R3 ````, with any of these behind it, ask R2 and R3.
 //! Blank lines, and lines that begin with `#`, say nothing. A block ```` ```ask ```` holds lines `$ echo 'text' | ask`, each with
 //! what the program prints below it. Other fenced blocks are not looked at.
 
 use crate::support::r1::{self, r1_bytes};
 use crate::support::r2::{self, r2_bytes};
 use crate::support::r3::{self, r3_bytes};
-use mill::{Degree, Refusal, Run};
+use mill::{Degree, Order, Refusal, Run};
 
 /// Of which recording.
 #[derive(Clone, Copy, PartialEq)]
@@ -29,6 +30,7 @@ enum Asked {
     OfKept(Vec<u32>),
     Degree(i64),
     Band(i64),
+    Order,
     AtThePrompt,
 }
 
@@ -105,6 +107,7 @@ fn block_of(name: &str) -> Result<Block, String> {
         }
         ["degree", target] => Asked::Degree(target.parse().map_err(unread)?),
         ["band", e] => Asked::Band(e.parse().map_err(unread)?),
+        ["order"] => Asked::Order,
         _ => return Err(format!("unknown block '{name}'")),
     };
     Ok(Block::Examples(recording, asked))
@@ -133,9 +136,23 @@ fn answer(example: &Example) -> String {
             let set = |run: Option<Run>| on_the_page(&run.into_iter().collect::<Vec<_>>());
             format!("certain {}; possible {}", set(band.certain), set(band.possible))
         }),
+        Asked::Order => mill::order(&recording, &sheet_of(&example.text)).map(|order| match order {
+            Order::Met => "met".into(),
+            Order::Broken { time, line } => format!("line {line} broken at {time}"),
+        }),
         Asked::AtThePrompt => return at_the_prompt(mill::question(&recording, text)),
     };
     written.unwrap_or_else(|refusal| refusal.to_string())
+}
+
+/// The lines of a sheet as the page writes them; none of the empty text.
+fn sheet_of(text: &str) -> Vec<[u8; 2]> {
+    let number = |word: Option<&str>| word.and_then(|word| word.parse().ok()).expect("a line of two numbers");
+    let line = |line: &str| {
+        let mut words = line.split_whitespace();
+        [number(words.next()), number(words.next())]
+    };
+    text.split(',').filter(|line| !line.trim().is_empty()).map(line).collect()
 }
 
 fn on_the_page(runs: &[Run]) -> String {
@@ -277,6 +294,10 @@ dose(7) => 20, 60
 high(A) => certain Lo..85; possible Lo..95
 high(A) => certain Lo..85; possible Lo..94
 ```
+```mill R3 order
+7 16 => met
+7 16, 16 7 => line 0 broken at 20
+```
 ```ask
 $ echo 'peaks(A)' | ask
 runs 2
@@ -291,16 +312,17 @@ refused 6 0
 ```
 ";
     let found = examples(page).unwrap();
-    assert_eq!(found.len(), 23);
+    assert_eq!(found.len(), 25);
     let wrong = wrong(&found);
-    assert_eq!(wrong.len(), 7, "{wrong:?}");
+    assert_eq!(wrong.len(), 8, "{wrong:?}");
     assert_eq!(wrong[0], "line 7: A=v|A>90 => 40, and not refused 9 9");
     assert_eq!(wrong[1], "line 22: F(T=v&A=55) => 50, and not empty");
     assert_eq!(wrong[2], "line 26: peaks(A) => distance 19, degree 0.05, and not distance 19, degree 0.06");
     assert_eq!(wrong[3], "line 32: peaks(A) => 40, 60, and not 30, 70");
     assert_eq!(wrong[4], "line 39: dose(7) => 20, and not 20, 60");
     assert_eq!(wrong[5], "line 43: high(A) => certain Lo..85; possible Lo..95, and not certain Lo..85; possible Lo..94");
-    assert_eq!(wrong[6], "line 52: lag => runs 0\n, and not runs 1\n");
+    assert_eq!(wrong[6], "line 47: 7 16, 16 7 => line 1 broken at 20, and not line 0 broken at 20");
+    assert_eq!(wrong[7], "line 56: lag => runs 0\n, and not runs 1\n");
     assert!(examples("```mill\nlag\n```\n").is_err());
     assert!(examples("```mill\nlag => empty\n").is_err());
     assert!(examples("```mill keep\n```\n").is_err());
@@ -309,5 +331,6 @@ refused 6 0
     assert!(examples("```mill kept x\n```\n").is_err());
     assert!(examples("```mill degree\n```\n").is_err());
     assert!(examples("```mill band x\n```\n").is_err());
+    assert!(examples("```mill order 3\n```\n").is_err());
     assert!(examples("```ask\nruns 0\n```\n").is_err());
 }

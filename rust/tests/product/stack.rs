@@ -6,7 +6,7 @@ use crate::support::recordings::{flat, put_top, with_tops};
 use crate::support::small_stack::on_stack_of;
 use crate::support::{header, painted};
 use mill::reference::recording::bytes;
-use mill::sys::{mill_band, mill_degree, mill_pair, mill_question, mill_thin};
+use mill::sys::{mill_band, mill_degree, mill_order, mill_pair, mill_question, mill_thin};
 use std::collections::BTreeMap;
 
 /// A recording of 4,096 readings under which sets grow to 250 runs, with additions.
@@ -81,6 +81,17 @@ fn recordings() -> Vec<Vec<u8>> {
 
 const MARKS: [u8; 32] = [1, 0, 0, 0, 0, 1, 0, 0, 0, 2, 0, 0, 0, 3, 0, 0, 0, 4, 0, 0, 0, 5, 0, 0, 0, 6, 0, 0, 0, 15, 0, 0];
 
+/// 32 lines: each of 16 pigments before the next, twice.
+const SHEET: [u8; 64] = {
+    let mut sheet = [0; 64];
+    let mut at = 0;
+    while at < 64 {
+        sheet[at] = 1 + ((at / 2 + at % 2) % 16) as u8;
+        at += 1;
+    }
+    sheet
+};
+
 /// A call with what it is called on.
 enum Job {
     Question(Vec<u8>, String),
@@ -88,6 +99,7 @@ enum Job {
     Pair(Vec<u8>, i64),
     Thin(Vec<u8>),
     Band(Vec<u8>, String),
+    Order(Vec<u8>),
 }
 
 impl Job {
@@ -99,6 +111,7 @@ impl Job {
             Job::Pair(..) => ("mill_pair", header::stack("PAIR")),
             Job::Thin(_) => ("mill_thin", header::stack("THIN")),
             Job::Band(..) => ("mill_band", header::stack("BAND")),
+            Job::Order(_) => ("mill_order", header::stack("ORDER")),
         }
     }
 }
@@ -116,6 +129,7 @@ fn jobs() -> Vec<Job> {
         }
         jobs.push(Job::Pair(recording.clone(), 16));
         jobs.push(Job::Pair(recording.clone(), 5));
+        jobs.push(Job::Order(recording.clone()));
         jobs.push(Job::Thin(recording));
     }
     jobs
@@ -142,6 +156,9 @@ fn run(job: &Job, out: &mut [u8]) -> u64 {
                 let [mut low, mut high, mut lowest, mut highest] = [0; 4];
                 let (at, length) = (recording.as_ptr(), recording.len());
                 mill_band(at, length, text.as_ptr(), text.len(), 9, &mut low, &mut high, &mut lowest, &mut highest)
+            }
+            Job::Order(recording) => {
+                mill_order(recording.as_ptr(), recording.len(), SHEET.as_ptr(), SHEET.len(), &mut one, &mut two)
             }
         }
     }
@@ -196,7 +213,8 @@ fn a_stack_that_is_too_small_is_seen() {
         (Job::Degree(recording.clone(), "(".repeat(256)), 65_536),
         (Job::Pair(recording.clone(), 16), 512),
         (Job::Thin(recording.clone()), 4_096),
-        (Job::Band(recording, "(".repeat(256)), 65_536),
+        (Job::Band(recording.clone(), "(".repeat(256)), 65_536),
+        (Job::Order(recording), 128),
     ];
     if let Ok(which) = std::env::var(LESS) {
         let which: usize = which.parse().unwrap();

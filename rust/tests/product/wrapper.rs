@@ -95,6 +95,7 @@ fn every_refusal() {
         (10, mill::thin_into(&recording, &[], &mut [0; 127]).unwrap_err()),
         (11, mill::thin(&recording, &[0; 9]).unwrap_err()),
         (12, mill::pair(&recording, Curve::B, 2_000_000_001).unwrap_err()),
+        (13, mill::order(&recording, &[[1, 2]; 33]).unwrap_err()),
         (16, mill::band(&recording, b"high(A)", 1_000_001).unwrap_err()),
         (17, mill::band(&recording, b"peaks(A)", 0).unwrap_err()),
     ];

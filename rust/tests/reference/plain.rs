@@ -1,7 +1,7 @@
 //! Covers: the plain Rust of the benchmarks against the independent implementation.
 
 use crate::support::cases::cases;
-use crate::support::{recordings, texts};
+use crate::support::{recordings, sheets, texts};
 use mill::reference::recording::bytes;
 use mill::reference::{self, Degree};
 
@@ -41,6 +41,9 @@ fn plain_rust_answers_alike() {
         let e = random.pick(&[0, 1, 7, 1_000_000, 1_000_001, -1]);
         let ends = |sets: [Option<(i64, i64)>; 2]| sets.map(|set| set.map(|(low, high)| (low as i32, high as i32)));
         assert_eq!(mill::plain::band(&recording, &text, e), reference::band(&recording, &text, e).map(ends).map_err(pair));
+
+        let sheet = sheets::any(random);
+        assert_eq!(mill::plain::order(&recording, &sheet), reference::order(&recording, &sheet).map_err(pair));
 
         let curve = random.below(3) as u32;
         let gap = random.between(0, 30);

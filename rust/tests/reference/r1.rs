@@ -5,7 +5,7 @@ use crate::support::r2::{self, r2_bytes};
 use crate::support::r3::{self, r3_bytes};
 use crate::support::recordings::{flat, with_additions, with_crossings, with_dips, with_tops, with_tops_at};
 use mill::reference::set::{HIGH, LOW};
-use mill::reference::{degree, kept, pair, question, recording, thin, Degree, Refused};
+use mill::reference::{degree, kept, order, pair, question, recording, thin, Degree, Refused};
 
 const ROOM: usize = 1 << 20;
 
@@ -184,6 +184,9 @@ fn orders() {
     assert_eq!(thin(&[9; 16], &[0; 3], 0), Err(refused(3)));
     assert_eq!(thin(&recording::bytes(&flat(1)), &[0; 3], 0), Err(refused(11)));
     assert_eq!(thin(&recording::bytes(&flat(1)), &[0; 4], 15), Err(refused(10)));
+    assert_eq!(order(&[9; 16], &[1]), Err(refused(3)));
+    assert_eq!(order(&[], &[1]), Err(refused(4)));
+    assert_eq!(order(&recording::bytes(&flat(1)), &[1]), Err(refused(13)));
 }
 
 #[test]

@@ -10,5 +10,6 @@ pub mod r2;
 pub mod r3;
 pub mod random;
 pub mod recordings;
+pub mod sheets;
 pub mod small_stack;
 pub mod texts;

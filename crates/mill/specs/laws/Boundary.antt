@@ -34,6 +34,9 @@ use Rattle.degree.specs.declared.Nearness.the-variants as nearness
 use Rattle.band.specs.Call.{widthOf, theQuestion, widthLine, extremeLine, bandOf}
 use Rattle.band.specs.inner.Ends.{bandsOf}
 use Rattle.pair.specs.Pair.{firstPair, acceptedLines, pairOf}
+use Rattle.sheet.specs.Sheet.{sheetOf}
+use Rattle.sheet.specs.inner.Found.{finding}
+use Rattle.sheet.specs.Call.{sheetLines, orderOf}
 use Rattle.reply.specs.Reply.{half, packed, InHalf}
 use Rattle.reply.specs.laws.Place.{place-below}
 use Rattle.mill.specs.Boundary.{Writes, valueTold, distanceAfter, degreeAfter, Degrees}
@@ -145,3 +148,7 @@ unfolding bandOf
 band-place bytes text e n p h =
     place-below bytes (noRecord bytes ∷ textLines text ++ (widthLine e ∷ extremeLine (read text) ∷ [])) (bandsOf (theQuestion (read text)) (widthOf e) (coded bytes)) n p
     (refl, (refl, (refl, (refl, (refl, (refl, tt)))))) h
+
+pub order-place : (bytes sheet : List ℕ) (n p : ℕ) → orderOf bytes sheet ≡ refused n p → p < half
+unfolding orderOf
+order-place bytes sheet n p e = place-below bytes (sheetLines bytes sheet) (finding (sheetOf sheet) (readings bytes)) n p (refl, (refl, tt)) e

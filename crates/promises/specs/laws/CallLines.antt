@@ -10,7 +10,7 @@ use lib.Dec.{eqb, ltb, leb→le, le→leb}
 use lib.IntN.{ℤ, pos, negsuc}
 use lib.ListN.{length}
 use lib.Signed.{_≤ℤ_, leZ-yes}
-use borrow.Author.Tests.{eqb-true, eqb-false, eq-eqb, ltb-true, ltb-false, lt-ltb, le-ltb, not-true, not-false}
+use borrow.Author.Tests.{eqb-true, eqb-false, eq-eqb, ne-eqb, ltb-true, ltb-false, lt-ltb, le-ltb, not-true, not-false}
 use Rattle.number.specs.Axis.{axis, whole, OfAxis}
 use Rattle.number.specs.Least.{least}
 use Rattle.number.specs.laws.Least.{least-holds, least-first}
@@ -18,7 +18,7 @@ use Rattle.number.specs.laws.Order.{less-or-not}
 use Rattle.refusal.specs.Outcome.{Line, line, NoneMeets}
 use Rattle.recording.specs.Condition.{pick, someOf}
 use Rattle.recording.specs.Reading.{top, curveOf}
-use Rattle.recording.specs.Recording.{records, readings, recordingLines, noRecord, Accepted}
+use Rattle.recording.specs.Recording.{records, readings, recordingLines, noRecord, mostPigments, Accepted}
 use Rattle.recording.specs.Output.{outputLine}
 use Rattle.runset.specs.Runs.{runCount, setBytes}
 use Rattle.runset.specs.laws.Runs.{runCount-ext, setBytes-length}
@@ -30,7 +30,7 @@ use Rattle.grammar.specs.inner.Parse.{parsed}
 use Rattle.grammar.specs.Size.{nodes, openAt, tooDeep, mostBytes, mostNodes, mostOpen}
 use Rattle.text.specs.Told.{badLength, noReading, tooLarge, textLines}
 use Rattle.meaning.specs.Alike.{Same}
-use Rattle.number.specs.laws.Boolean.{clash, same, or-left, or-right, or-none, none-left, none-right, so-or}
+use Rattle.number.specs.laws.Boolean.{clash, by-test, same, or-left, or-right, or-none, none-left, none-right, so-or}
 use Rattle.meaning.specs.inner.Coded.{coded}
 use Rattle.meaning.specs.Meaning.{Holds}
 use Rattle.meaning.specs.Overfull.{IsSet, Overfull, TooManyTops as OverTops}
@@ -47,7 +47,9 @@ use Rattle.band.specs.laws.Meant.{test-extreme, one-alone}
 use Rattle.pair.specs.Pair.{pairLines, acceptedLines}
 use Rattle.thin.specs.Thin.{keptBytes}
 use Rattle.marks.specs.Marks.{marksOf, mostMarks, latestMark, marksLine}
-use Rattle.promises.specs.Table.{Request, question, degree, pair, thin, recordingIn, textIn, OpenTooDeep, acceptedOrder, order, band, OneExtreme}
+use Rattle.sheet.specs.Sheet.{mostLines, noPigment}
+use Rattle.sheet.specs.Call.{sheetLines, orderLines}
+use Rattle.promises.specs.Table.{Request, question, degree, pair, thin, recordingIn, textIn, OpenTooDeep, acceptedOrder, order, band, OneExtreme, ordering}
 use Rattle.promises.specs.laws.Table.{Agrees, Agree, agree-recording}
 
 -- ---- tests
@@ -311,17 +313,16 @@ agree-pair bytes curve target =
 
 -- ---- the thinning call
 
-some-there : (ks : List ℕ) → someOf (ltb latestMark) ks ≡ true → (k : ℕ) × List·Memᴰ k ks × (latestMark < k)
-some-there [] e = absurd (false≢true e)
-some-there (k ∷ ks) e =
-    ⊎-elim (λ h. (k, List·Memᴰ·head refl, ltb-true latestMark k h)) (λ h. let r = some-there ks h in (r .0, List·Memᴰ·tail (r .1), r .2))
-    (or-true (ltb latestMark k) (someOf (ltb latestMark) ks) e)
+some-there : (P : ℕ → Bool) (ks : List ℕ) → someOf P ks ≡ true → (k : ℕ) × List·Memᴰ k ks × (P k ≡ true)
+some-there P [] e = absurd (false≢true e)
+some-there P (k ∷ ks) e =
+    ⊎-elim (λ h. (k, List·Memᴰ·head refl, h)) (λ h. let r = some-there P ks h in (r .0, List·Memᴰ·tail (r .1), r .2)) (or-true (P k) (someOf P ks) e)
 
-there-some : (ks : List ℕ) (k : ℕ) → List·Memᴰ k ks → latestMark < k → someOf (ltb latestMark) ks ≡ true
-there-some [] k m h = absurd (List·Memᴰ·not-nil m)
-there-some (j ∷ ks) k m h = ⊎-elim
-    (λ (e : k ≡ j). or-left (ltb latestMark j) (someOf (ltb latestMark) ks) (lt-ltb latestMark j (omega arith)))
-    (λ i. or-right (ltb latestMark j) (someOf (ltb latestMark) ks) (there-some ks k i h)) (List·Memᴰ·cases-cons m)
+there-some : (P : ℕ → Bool) (ks : List ℕ) (k : ℕ) → List·Memᴰ k ks → P k ≡ true → someOf P ks ≡ true
+there-some P [] k m h = absurd (List·Memᴰ·not-nil m)
+there-some P (j ∷ ks) k m h = ⊎-elim
+    (λ (e : k ≡ j). or-left (P j) (someOf P ks) (ap P (sym e) ∙ h))
+    (λ i. or-right (P j) (someOf P ks) (there-some P ks k i h)) (List·Memᴰ·cases-cons m)
 
 pub agree-marks : (bytes marks : List ℕ) (room : ℕ) → Agrees (thin bytes marks room) (marksLine marks) 11
 agree-marks bytes marks room = record {
@@ -329,14 +330,14 @@ agree-marks bytes marks room = record {
   named = refl;
   placed = refl;
   met = λ e. ⊎-elim (λ h. inl (λ z. clash (eq-eqb (length marks % 4) 0 z) (not-true _ h)))
-      (λ h. inr (⊎-elim (λ i. inl (ltb-true mostMarks (length marks / 4) i)) (λ i. inr (some-there (marksOf marks) i))
+      (λ h. inr (⊎-elim (λ i. inl (ltb-true mostMarks (length marks / 4) i)) (λ i. inr (let t = some-there (ltb latestMark) (marksOf marks) i in (t .0, t .1, ltb-true latestMark (t .0) (t .2))))
       (or-true (ltb mostMarks (length marks / 4)) (someOf (ltb latestMark) (marksOf marks)) h)))
       (or-true (not (eqb (length marks % 4) 0)) (ltb mostMarks (length marks / 4) || someOf (ltb latestMark) (marksOf marks)) e);
   unmet = λ e p m.
       let o = both-off (not (eqb (length marks % 4) 0)) (ltb mostMarks (length marks / 4) || someOf (ltb latestMark) (marksOf marks)) e in
       let i = both-off (ltb mostMarks (length marks / 4)) (someOf (ltb latestMark) (marksOf marks)) (o .1) in
       ⊎-elim (λ h. h (eqb-true (length marks % 4) 0 (not-false _ (o .0))))
-      (λ h. ⊎-elim (λ n. clash (lt-ltb mostMarks (length marks / 4) n) (i .0)) (λ t. clash (there-some (marksOf marks) (t .0) (t .1) (t .2)) (i .1)) h) m;
+      (λ h. ⊎-elim (λ n. clash (lt-ltb mostMarks (length marks / 4) n) (i .0)) (λ t. clash (there-some (ltb latestMark) (marksOf marks) (t .0) (t .1) (lt-ltb latestMark (t .0) (t .2))) (i .1)) h) m;
 }
 
 pub agree-thin : (bytes marks : List ℕ) (room : ℕ)
@@ -395,3 +396,46 @@ agree-band bytes text e =
         λ seventeen. tt,
       ),
     ))))
+
+-- ---- the order call
+
+-- 13: a number that is that of a pigment
+is-pigment : (k : ℕ) → (noPigment k ≡ false) ↔ ((1 ≤ k) × (k ≤ mostPigments))
+is-pigment k = (
+  λ e. let o = both-off (eqb k 0) (ltb mostPigments k) e in (some k (eqb-false k 0 (o .0)), ltb-false mostPigments k (o .1)),
+  λ h. or-none (ne-eqb k 0 (λ z. let l = h .0 in omega arith)) (le-ltb mostPigments k (h .1)),
+)
+  where
+    some : (k : ℕ) → ¬ (k ≡ 0) → 1 ≤ k
+    some k n = ⊎-elim (λ h. absurd (n (omega arith))) (λ h. h) (less-or-not k 1)
+
+pub agree-order : (bytes sheet : List ℕ) → Agree (ordering bytes sheet) (orderLines bytes sheet) (order (ordering bytes sheet))
+agree-order bytes sheet =
+    agree-recording (ordering bytes sheet) (sheetLines bytes sheet) (4 ∷ 13 ∷ []) (λ a. (
+      record {
+        number = refl;
+        named = refl;
+        placed = refl;
+        met = λ e. eqb-true (length (records bytes)) 0 e;
+        unmet = λ e p m. clash (eq-eqb (length (records bytes)) 0 m) e;
+      },
+      λ four. (
+        record {
+          number = refl;
+          named = refl;
+          placed = refl;
+          met = λ e. ⊎-elim (λ h. inl (λ z. clash (eq-eqb (length sheet % 2) 0 z) (not-true _ h)))
+              (λ h. inr (⊎-elim (λ i. inl (ltb-true mostLines (length sheet / 2) i))
+              (λ i. inr (let t = some-there noPigment sheet i in (t .0, t .1, λ k. clash (t .2) (is-pigment (t .0) .1 k))))
+              (or-true (ltb mostLines (length sheet / 2)) (someOf noPigment sheet) h)))
+              (or-true (not (eqb (length sheet % 2) 0)) (ltb mostLines (length sheet / 2) || someOf noPigment sheet) e);
+          unmet = λ e p m.
+              let o = both-off (not (eqb (length sheet % 2) 0)) (ltb mostLines (length sheet / 2) || someOf noPigment sheet) e in
+              let i = both-off (ltb mostLines (length sheet / 2)) (someOf noPigment sheet) (o .1) in
+              ⊎-elim (λ h. h (eqb-true (length sheet % 2) 0 (not-false _ (o .0))))
+              (λ h. ⊎-elim (λ n. clash (lt-ltb mostLines (length sheet / 2) n) (i .0))
+              (λ t. clash (there-some noPigment sheet (t .0) (t .1) (by-test (noPigment (t .0)) (λ f. t .2 (is-pigment (t .0) .0 f)))) (i .1)) h) m;
+        },
+        λ thirteen. tt,
+      ),
+    ))

@@ -3,7 +3,7 @@ use Prim.Native.Nat.{ℕ, suc, _+_, _*_, _-_, _/_, _%_, _≤_, _<_}
 use native.Mathlib.Omega.{arith}
 use mathlib.Core.Path.{_≡_, refl, sym, ap, ap₂, subst, _∙_}
 use mathlib.Core.Bool.{Bool, true, false, cond, false≢true, true≢false}
-use mathlib.Core.Logic.{_↔_, ⊎-elim}
+use mathlib.Core.Logic.{_↔_, inl, inr, ⊎-elim}
 use mathlib.Core.List.{List, [], _∷_, _++_, map, List·Memᴰ, List·Memᴰ·head, List·Memᴰ·tail, List·Memᴰ·not-nil, List·Memᴰ·cases-cons}
 use lib.Dec.{eqb, ltb, leb→le}
 use lib.IntN.{ℤ, pos, negsuc}
@@ -50,6 +50,11 @@ use Rattle.number.specs.Words.{signed, bits}
 use Rattle.number.specs.laws.Words.{bits-small, signed-bits}
 use Rattle.meaning.specs.laws.Whole.{stands-whole, le-index}
 use Rattle.pair.specs.Pair.{Given, times, none, firstPair, pairLines, pairOf}
+use Rattle.sheet.specs.Sheet.{sheetOf}
+use Rattle.sheet.specs.Finding.{Finding, allMet, brokenAt, TrueFinding}
+use Rattle.sheet.specs.inner.Found.{finding}
+use Rattle.sheet.specs.Call.{orderLines, orderOf}
+use Rattle.sheet.specs.laws.Finding.{finding-true}
 use Rattle.thin.specs.Thin.{keptBytes, thinOf}
 use Rattle.marks.specs.Marks.{marksOf, marksLine, AcceptedMarks}
 use Rattle.thin.specs.Book.{Call, Left, leftBy, thinned, heldNext, calls, heldAfter, entry, joinNext, book, joinAfter}
@@ -58,18 +63,18 @@ use Rattle.thin.specs.Cut.{wholeFrom, CutBetween, LongEnough, allWritten}
 use Rattle.thin.specs.laws.Cut.{as-the-whole}
 use Rattle.reply.specs.Reply.{half, packed, InHalf, numberIn, lowIn, unpacked}
 use Rattle.reply.specs.laws.Unpacked.{Numbered, number-result, low-result, number-refused, low-refused, unpacked-packed}
-use Rattle.mill.specs.Boundary.{Writes, Degrees, QuestionCall, DegreeCall, PairCall, ThinCall, valueTold, distanceAfter, degreeAfter, pairTold, earlierAfter, laterAfter, BandCall, filled, bandTold, lowAfter, highAfter, certainIn, possibleIn, InBands}
-use Rattle.mill.specs.laws.Boundary.{thin-in-half, question-in-half, degree-place, pair-place, band-place}
-use Rattle.promises.specs.Table.{Request, question, degree, pair, thin, order, acceptedOrder, NoneMet, FirstMet, band}
+use Rattle.mill.specs.Boundary.{Writes, Degrees, QuestionCall, DegreeCall, PairCall, ThinCall, valueTold, distanceAfter, degreeAfter, pairTold, earlierAfter, laterAfter, BandCall, filled, bandTold, lowAfter, highAfter, certainIn, possibleIn, InBands, OrderCall, findingTold, timeAfter, lineAfter, Orders}
+use Rattle.mill.specs.laws.Boundary.{thin-in-half, question-in-half, degree-place, pair-place, band-place, order-place}
+use Rattle.promises.specs.Table.{Request, question, degree, pair, thin, order, acceptedOrder, NoneMet, FirstMet, band, ordering}
 use Rattle.promises.specs.laws.Table.{number-bounds, Agree, AsTable, met-there, judged-told}
-use Rattle.promises.specs.laws.CallLines.{InPlace, in-its-place, answer-is, agree-asked, agree-question, agree-degree, agree-pair, agree-marks, agree-thin, agree-band}
+use Rattle.promises.specs.laws.CallLines.{InPlace, in-its-place, answer-is, agree-asked, agree-question, agree-degree, agree-pair, agree-marks, agree-thin, agree-band, agree-order}
 use Rattle.promises.specs.laws.Operator.{unwritten-flat}
 use Rattle.promises.specs.StandIn.{StandIn}
 use Rattle.promises.specs.Selection.{Selection}
 use Rattle.promises.specs.laws.Selection.{kept-selection}
-use Rattle.promises.specs.laws.StandIn.{stand-same, stand-question, stand-band, kept-stands, kept-accepted, selection-stands}
+use Rattle.promises.specs.laws.StandIn.{stand-same, stand-question, stand-band, stand-order, kept-stands, kept-accepted, selection-stands}
 use Rattle.promises.specs.CallsMade.{Returned, readOff, CallsMade, heldAt, takenFrom}
-use Rattle.promises.specs.Demands.{ByTheTable, OneAnswer, Demand1, Fixed, SetWritten, Demand2, AskedOfKept, RightOf, EveryList, CutWhole, KeptLikeFull, Demand3, Demands, InRun, End, RunTold, BandTold}
+use Rattle.promises.specs.Demands.{ByTheTable, OneAnswer, Demand1, Fixed, SetWritten, Demand2, AskedOfKept, RightOf, EveryList, CutWhole, KeptLikeFull, Demand3, Demands, InRun, End, RunTold, BandTold, OrderTold}
 use Rattle.recording.specs.Reading.{curveOf}
 
 -- ---- DEMAND 1: the number that is returned
@@ -217,6 +222,27 @@ band-answered bytes text e low high lowest highest r a b c d w =
       refusal-writes-nothing = λ k. let f = w .first-place in let g = w .second-place in let u = w .third-place in let v = w .fourth-place in λ j. f j ∷ g j ∷ u j ∷ v j ∷ [];
     }
 
+order-judged : (bytes sheet : List ℕ) → AsTable (ordering bytes sheet) (order (ordering bytes sheet)) (orderOf bytes sheet)
+unfolding orderOf
+order-judged bytes sheet =
+    judged-told (ordering bytes sheet) (orderLines bytes sheet) (order (ordering bytes sheet)) (finding (sheetOf sheet) (readings bytes)) (agree-order bytes sheet)
+
+-- the two places of the order call
+order-answered : (bytes sheet : List ℕ) (time line r first second : ℕ) → OrderCall bytes sheet time line r first second
+    → OneAnswer (ordering bytes sheet) r (time ∷ line ∷ []) (first ∷ second ∷ [])
+order-answered bytes sheet time line r first second w = go (orderOf bytes sheet) refl (order-judged bytes sheet) w
+  where
+    q : Request
+    q = ordering bytes sheet
+
+    go : (o : Outcome Finding) → orderOf bytes sheet ≡ o → AsTable q (order q) o → Orders o time line r first second → OneAnswer q r (time ∷ line ∷ []) (first ∷ second ∷ [])
+    go (result allMet) e t w = record { result-or-refusal = judged-number q (order q) (result 0) r (w .returned) (omega arith) t; refusal-writes-nothing = λ k. absurd (k (ap numberIn (w .returned))) }
+    go (result (brokenAt u k)) e t w = record { result-or-refusal = judged-number q (order q) (result 1) r (w .returned) (omega arith) t; refusal-writes-nothing = λ k. absurd (k (ap numberIn (w .returned))) }
+    go (refused n i) e t w = record {
+      result-or-refusal = judged-number q (order q) (refused n i) r (w .returned) (order-place bytes sheet n i e) t;
+      refusal-writes-nothing = λ k. ap₂ (λ (x y : ℕ). x ∷ y ∷ []) (w .first-place) (w .second-place);
+    }
+
 demand-1 : Demand1
 demand-1 = record {
   of-question = λ {recording} {text} {out} {r} {after} w.
@@ -227,6 +253,7 @@ demand-1 = record {
       writes-answered (thin recording marks (length out)) (thinOf recording marks (length out)) out r after (thin-told recording marks (length out)) (thin-in-half recording marks (length out)) w;
   of-band = λ {recording} {text} {e} {low} {high} {lowest} {highest} {r} {low-after} {high-after} {lowest-after} {highest-after} w.
       band-answered recording text e low high lowest highest r low-after high-after lowest-after highest-after w;
+  of-order = λ {recording} {sheet} {time} {line} {r} {time-after} {line-after} w. order-answered recording sheet time line r time-after line-after w;
 }
 
 -- ---- DEMAND 2
@@ -397,6 +424,38 @@ band-meaning recording text e low high lowest highest r a b c d w z =
               (then (part-run lowest highest c d (x .possible) (o .1) (w .third-place) (w .fourth-place) (k .0)) (t .means .possible (k .0) (k .1))));
         }
 
+-- ---- DEMAND 2, of the order call
+
+-- a finding that is given is the one of the sheet
+given-finding : (bytes sheet : List ℕ) (f : Finding) → orderOf bytes sheet ≡ result f → finding (sheetOf sheet) (readings bytes) ≡ f
+unfolding orderOf
+given-finding bytes sheet f e = result-none (orderLines bytes sheet) (finding (sheetOf sheet) (readings bytes)) f e .1
+
+order-meaning : (bytes sheet : List ℕ) (time line r first second : ℕ) → OrderCall bytes sheet time line r first second → numberIn r ≡ 0
+    → OrderTold bytes sheet time line r first second
+order-meaning bytes sheet time line r first second w z = go (orderOf bytes sheet) refl w
+  where
+    true-of : (f : Finding) → orderOf bytes sheet ≡ result f → TrueFinding (readings bytes) (sheetOf sheet) f
+    true-of f e = subst (TrueFinding (readings bytes) (sheetOf sheet)) (given-finding bytes sheet f e) (finding-true (readings bytes) (sheetOf sheet))
+
+    go : (o : Outcome Finding) → orderOf bytes sheet ≡ o → Orders o time line r first second → OrderTold bytes sheet time line r first second
+    go (result allMet) e w =
+        let z = ap lowIn (w .returned) in
+        record { met-or-broken = inl z; met = λ h. (true-of allMet e, w .first-place, w .second-place); broken = λ h. absurd (omega arith) }
+    go (result (brokenAt t k)) e w =
+        let z = ap lowIn (w .returned) in
+        record {
+          met-or-broken = inr z;
+          met = λ h. absurd (omega arith);
+          broken = λ h. subst (TrueFinding (readings bytes) (sheetOf sheet)) (sym (ap₂ brokenAt (w .first-place) (w .second-place))) (true-of (brokenAt t k) e);
+        }
+    go (refused n i) e w =
+        let q : Request = ordering bytes sheet in
+        let k = number-refused n i (order-place bytes sheet n i e) in
+        let b = told-numbered q (order q) (refused n i) (subst (AsTable q (order q)) e (order-judged bytes sheet)) in
+        let h = ap numberIn (w .returned) in
+        absurd (omega arith)
+
 -- ---- DEMAND 3: lists of calls
 
 -- what a call leaves is what the definition of thinning gives
@@ -499,6 +558,10 @@ module _ (marks recording text : List ℕ) (a : Accepted recording) (l : AskedOf
   selected-band held s e =
       stand-band marks recording held (selection-stands (marksOf marks) recording held a s) a text (λ n. asked-plain marks text l (read text) (read-reads text (n .1 .0))) e
 
+-- and to the order call
+selected-order : (marks recording : List ℕ) → Accepted recording → (held : List ℕ) → Selection (marksOf marks) recording held → (sheet : List ℕ) → orderOf held sheet ≡ orderOf recording sheet
+selected-order marks recording a held s sheet = stand-order marks recording held (selection-stands (marksOf marks) recording held a s) a sheet
+
 -- two calls alike in all but their outputs, which have one length
 same-written : (recording text out out′ : List ℕ) (r r′ : ℕ) (after after′ : List ℕ) → length out ≡ length out′ → QuestionCall recording text out r after
     → QuestionCall recording text out′ r′ after′ → (r ≡ r′) × (numberIn r ≡ 0 → take (lowIn r) after ≡ take (lowIn r) after′)
@@ -600,6 +663,8 @@ demand-3 marks = record {
   least-selection = kept-selection (marksOf marks);
   band-as-full = λ fine recording held text a s l e {low} {high} {lowest} {highest} {r} {low-after} {high-after} {lowest-after} {highest-after} w.
       subst (λ (o : Outcome Bands). InBands o low high lowest highest r low-after high-after lowest-after highest-after) (selected-band marks recording text a l held s e) w;
+  order-as-full = λ fine recording held sheet a s {time} {line} {r} {time-after} {line-after} w.
+      subst (λ (o : Outcome Finding). Orders o time line r time-after line-after) (selected-order marks recording a held s sheet) w;
   beyond = λ fine cs xs t {text} l {out} {r} {after} w.
       let ks : List ℕ = marksOf marks in
       let join : List ℕ = joinAfter ks [] cs in
@@ -620,6 +685,7 @@ demands = record {
     degree-told = λ {recording} {text} target {distance} {value} {r} {distance-after} {value-after} d z. degree-meant recording text target distance value r distance-after value-after d z;
     band-told = λ {recording} {text} e {low} {high} {lowest} {highest} {r} {low-after} {high-after} {lowest-after} {highest-after} w z.
         band-meaning recording text e low high lowest highest r low-after high-after lowest-after highest-after w z;
+    order-told = λ {recording} {sheet} {time} {line} {r} {time-after} {line-after} w z. order-meaning recording sheet time line r time-after line-after w z;
   };
   three = demand-3;
 }

@@ -1,4 +1,4 @@
--- A stand-in answers as the recording does: the question, the degree, the band and the pair call. The kept readings are a stand-in.
+-- A stand-in answers as the recording does: the question, the degree, the band, the pair and the order call. The kept readings are a stand-in.
 use Prim.Native.Nat.{ℕ, _<_}
 use native.Mathlib.Omega.{arith}
 use native.Mathlib.Decide.{decLt}
@@ -41,6 +41,10 @@ use Rattle.band.specs.laws.Same.{text-same}
 use Rattle.leaves.specs.laws.Coding.{length-coded}
 use Rattle.recording.specs.laws.Record.{length-records}
 use Rattle.pair.specs.Pair.{Given, pairsOf, firstApart, firstPair, badTarget, acceptedLines, pairOf}
+use Rattle.sheet.specs.Sheet.{sheetOf, badSheet}
+use Rattle.sheet.specs.Finding.{Finding}
+use Rattle.sheet.specs.Call.{sheetLines, orderOf}
+use Rattle.sheet.specs.laws.Same.{same-finding}
 use Rattle.kept.specs.Kept.{keptFor}
 use Rattle.kept.specs.Selection.{flagsFrom, flags, select, Includes}
 use Rattle.marks.specs.Marks.{marksOf}
@@ -186,9 +190,18 @@ module _ (marks full held : List ℕ) (s : StandIn (marksOf marks) full held) (a
         ∙ ap₂ (λ (ls : List Line) (o : Given). judged ls o) same-lines same-pair
         ∙ sym (judged-pass (recordingLines full) (acceptedLines full curve target) _ accepted)
 
+  -- THE ORDER CALL: met, the same time and line, or the same refusal, for the additions have the same times
+  pub stand-order : (sheet : List ℕ) → orderOf held sheet ≡ orderOf full sheet
+  unfolding orderOf
+  stand-order sheet =
+      judged-pass (recordingLines held) (sheetLines held sheet) _ (s .accepted)
+      ∙ ap₂ (λ (l : Line) (f : Finding). judged (l ∷ badSheet sheet ∷ []) f) (same-noRecord (marksOf marks) full held s)
+      (same-finding (sheetOf sheet) full held accepted (s .accepted) (s .alike .additions))
+      ∙ sym (judged-pass (recordingLines full) (sheetLines full sheet) _ accepted)
+
   -- A STAND-IN GIVES THE SAME ANSWERS
   pub stand-answers : SameAnswers marks held full
-  stand-answers = record { question = stand-question; degree = stand-degree; pair = stand-pair; band = stand-band }
+  stand-answers = record { question = stand-question; degree = stand-degree; pair = stand-pair; band = stand-band; ordering = stand-order }
 
 -- ---- kept readings
 

@@ -13,7 +13,7 @@ use Rattle.number.specs.laws.Least.{least-le, least-holds, least-first, least-i
 use Rattle.refusal.specs.Outcome.{Outcome, result, refused, Line, line, judged, NoneMeets}
 use Rattle.refusal.specs.Numbers.{numberOf, placeOf}
 use Rattle.refusal.specs.declared.Refusal.{Refusal}
-use Rattle.refusal.specs.declared.Refusal.the-variants.{PartialRecord, TooManyRecords, BadRecord, NoRecord, TextLength, NoReading, TextTooLarge, TooManyRuns, TooManyTops, ShortOutput, BadMarks, BadTarget, BadBand, NotBandQuestion}
+use Rattle.refusal.specs.declared.Refusal.the-variants.{PartialRecord, TooManyRecords, BadRecord, NoRecord, TextLength, NoReading, TextTooLarge, TooManyRuns, TooManyTops, ShortOutput, BadMarks, BadTarget, BadSheet, BadBand, NotBandQuestion}
 use Rattle.recording.specs.Recording.{Raw, records, readings, lawful, firstBad, mostRecords, recordingLines, noRecord, Accepted}
 use Rattle.recording.specs.laws.Outcome.{no-result}
 use Rattle.promises.specs.Table.{Request, recordingIn, textIn, FirstBroken, Met, NoneMet, FirstMet}
@@ -35,7 +35,8 @@ refusalOf n p =
     (cond (eqb n 10) ShortOutput
     (cond (eqb n 11) BadMarks
     (cond (eqb n 12) BadTarget
-    (cond (eqb n 16) BadBand NotBandQuestion))))))))))))
+    (cond (eqb n 13) BadSheet
+    (cond (eqb n 16) BadBand NotBandQuestion)))))))))))))
 
 refusal-back : (x : Refusal) → refusalOf (numberOf x) (placeOf x) ≡ x
 refusal-back PartialRecord = refl
@@ -50,6 +51,7 @@ refusal-back TooManyTops = refl
 refusal-back ShortOutput = refl
 refusal-back BadMarks = refl
 refusal-back BadTarget = refl
+refusal-back BadSheet = refl
 refusal-back BadBand = refl
 refusal-back NotBandQuestion = refl
 
@@ -66,6 +68,7 @@ number-bounds TooManyTops = (omega arith, omega arith)
 number-bounds ShortOutput = (omega arith, omega arith)
 number-bounds BadMarks = (omega arith, omega arith)
 number-bounds BadTarget = (omega arith, omega arith)
+number-bounds BadSheet = (omega arith, omega arith)
 number-bounds BadBand = (omega arith, omega arith)
 number-bounds NotBandQuestion = (omega arith, omega arith)
 

@@ -1,0 +1,5 @@
+pub mod Sheet
+pub mod Finding
+pub mod Call
+pub mod inner
+pub mod laws
