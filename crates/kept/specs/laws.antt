@@ -1,6 +1,7 @@
 pub mod Examples
 pub mod Stability
 pub mod Rule
+pub mod Turn
 pub mod On
 pub mod Kept
 pub mod Limit

@@ -16,7 +16,7 @@ ghost use Rattle.tops.specs.inner.Events.{eventOf, Known};
 use tops::Event;
 
 // The most events of one kind: half of the records.
-const MOST_EDGES: usize = recording::MOST_RECORDS / 2;
+const MOST_EVENTS: usize = recording::MOST_RECORDS / 2;
 
 // Shifts the first n times to their indices on the axis.
 fn shift(times: &mut [u32], n: usize)
@@ -45,7 +45,7 @@ pub fn events(rec: &[u8], event: Event, set: &mut [u32]) -> bool
     requires { ⌜ Accepted (now rec) × Known event × (length (now set) ≡ slotWords) ⌝ }
     ensures { λ r. ⌜ Makes (λ v. truth (timesOf (eventOf event)) (coded (now (rec .entry))) v) (now (set .exit)) r ⌝ }
 {
-    let mut times = [0u32; MOST_EDGES];
+    let mut times = [0u32; MOST_EVENTS];
     let n = stamps(rec, event, &mut times);
     differences::moments(&times[..n], set)
 }

@@ -1,4 +1,4 @@
--- Document 01, "Listed questions", and Papers 1 and 3: asked alone, each of the nine questions that have a formula equals it, asked alone, in set and in refusal 8.
+-- Document 01, "Listed questions", and Papers 1, 3 and 5: asked alone, each of the nine questions that have a formula equals it, asked alone, in set and in refusal 8.
 -- Here of the calls. The formulas are those of `Formula`; that the calls agree is `formulas-asked` (laws/FormulasAsked).
 use Prim.Native.Nat.{ℕ}
 use Prim.Native.String.{String}
@@ -49,9 +49,9 @@ writtenFormulas =
     ∷ "low(A)" equals "F(A<=v)"
     ∷ "lowafter(A,40)" equals "F(T>40&A<=v)"
     ∷ "capafter(A,40)" equals "G(!(T>40)|A<=v)"
-    ∷ "peaks(A)" equals "F(!fall(A)&X(fall(A)&T=v))"
+    ∷ "peaks(A)" equals "F(rise(A)&X(U(!rise(A)&!fall(A),fall(A)&T=v)))"
     ∷ "cross" equals "F(A>B&X(A<=B&T=v))"
-    ∷ "dips(A)" equals "F(!rise(A)&X(rise(A)&T=v))"
+    ∷ "dips(A)" equals "F(fall(A)&X(U(!fall(A)&!rise(A),rise(A)&T=v)))"
     ∷ "crossup" equals "F(A<=B&X(A>B&T=v))"
     ∷ "dose(3)" equals "F(P=3&T=v)"
     ∷ []

@@ -1,4 +1,4 @@
--- Document 01, "Recording R1" and "Four lines on promises", and Papers 1 and 3: the marked lines of R1 as one list, over its bytes and the texts as they are
+-- Document 01, "Recording R1" and "Four lines on promises", and Papers 1, 3 and 5: the marked lines of R1 as one list, over its bytes and the texts as they are
 -- written, and lines of R2 and R3 beside them, for R1 keeps all its readings and has no additions. That each of them holds is `marked-hold`, `R2-hold` and
 -- `R3-hold` (laws/MarkedLines).
 use Prim.Native.Nat.{ℕ, _<_}
@@ -48,10 +48,11 @@ markedLines =
 -- LINES OF R2, which keeps some of its readings, and more of them with a mark
 abbrev pub R2Lines : List MarkedLine
 R2Lines =
-    asks (bytes "peaks(A)") (just 40 ∷ just 60 ∷ [])
+    asks (bytes "peaks(A)") (just 40 ∷ [])
     ∷ asks (bytes "dips(A)") []
-    ∷ keeps [] (0 ∷ 30 ∷ 40 ∷ 50 ∷ 60 ∷ 80 ∷ [])
-    ∷ keeps (10 ∷ []) (0 ∷ 20 ∷ 30 ∷ 40 ∷ 50 ∷ 60 ∷ 80 ∷ [])
+    ∷ keeps [] (0 ∷ 10 ∷ 30 ∷ 40 ∷ 60 ∷ 80 ∷ [])
+    ∷ keeps (40 ∷ []) (0 ∷ 10 ∷ 30 ∷ 40 ∷ 50 ∷ 60 ∷ 80 ∷ [])
+    ∷ keeps (10 ∷ []) (0 ∷ 10 ∷ 20 ∷ 30 ∷ 40 ∷ 60 ∷ 80 ∷ [])
     ∷ []
 
 -- LINES OF R3, which has additions: of pigment 7 at T 20, which is kept for it alone, and of pigment 16 at T 40
@@ -63,7 +64,7 @@ R3Lines =
     ∷ asks (bytes "P=7") []
     ∷ asks (bytes "X(X(P=7))") ((Lo to Hi) ∷ [])
     ∷ asks (bytes "F(P=7&T=v)") (just 20 ∷ [])
-    ∷ keeps [] (0 ∷ 20 ∷ 30 ∷ 40 ∷ 50 ∷ 60 ∷ 80 ∷ [])
+    ∷ keeps [] (0 ∷ 10 ∷ 20 ∷ 30 ∷ 40 ∷ 60 ∷ 80 ∷ [])
     ∷ []
 
 -- the bytes of runs: low and high of each, as signed numbers of 32 bits

@@ -3,3 +3,4 @@ pub mod Record
 pub mod Acceptance
 pub mod Outcome
 pub mod Pigment
+pub mod Turn

@@ -1,5 +1,6 @@
 pub mod Scan
-pub mod Edge
+pub mod Turn
 pub mod Pick
 pub mod Event
 pub mod Addition
+pub mod Examples

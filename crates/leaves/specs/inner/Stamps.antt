@@ -6,9 +6,9 @@ use lib.ListN.{length, getD, take}
 use Rattle.number.specs.Axis.{origin}
 use Rattle.recording.specs.Recording.{latest}
 
--- the most tops of a curve, and the most crossings: half of the records
-abbrev pub mostEdges : ℕ
-mostEdges = 2048
+-- the most events of one kind: half of the records
+abbrev pub mostEvents : ℕ
+mostEvents = 2048
 
 -- the index of a time
 abbrev pub indexOf : ℕ → ℕ

@@ -12,7 +12,7 @@ use lib.Seq.{take-all, ext-getD, getD-take, length-take-le, getD-set-same, getD-
 use Rattle.number.specs.Axis.{axis}
 use Rattle.number.specs.laws.Order.{less-or-not}
 use Rattle.recording.specs.Condition.{pick}
-use Rattle.recording.specs.Reading.{Event, event, edge, added}
+use Rattle.recording.specs.Reading.{Event, event, turn, added}
 use Rattle.recording.specs.Recording.{readings, mostRecords, Accepted}
 use Rattle.recording.specs.laws.Acceptance.{accepted-sound}
 use Rattle.tops.specs.Tops as raw
@@ -20,7 +20,7 @@ use Rattle.tops.specs.inner.Scan.{Scanned}
 use Rattle.tops.specs.laws.Scan.{scanned-at}
 use Rattle.tops.specs.laws.Event.{events-half}
 use Rattle.tops.specs.laws.Addition.{additions-few}
-use Rattle.meaning.specs.inner.Coded.{codedSign, codedAdds, codedTimes, codedAdditions}
+use Rattle.meaning.specs.inner.Coded.{codedFrom, codedTo, codedAdds, codedTimes, codedAdditions}
 use Rattle.meaning.specs.laws.Recorded.{accepted-recorded}
 use Rattle.meaning.specs.laws.Pick.{map-map}
 use Rattle.meaning.specs.laws.Listed.{all-settled, event-code, additions-code}
@@ -28,7 +28,7 @@ use Rattle.differences.specs.inner.Times.{Times}
 use Rattle.differences.specs.laws.Times.{picked-times}
 use Rattle.meaning.specs.inner.Coded.{coded}
 use Rattle.leaves.specs.laws.Coding.{length-readings}
-use Rattle.leaves.specs.inner.Stamps.{mostEdges, indexOf, Early, Shifted, Stamped}
+use Rattle.leaves.specs.inner.Stamps.{mostEvents, indexOf, Early, Shifted, Stamped}
 
 -- ---- from times to indices
 
@@ -107,9 +107,9 @@ module _ (rec : List ℕ) (a : Accepted rec) where
       ∙ sym (map-map raw.recordedTime indexOf (pick (event e) (readings rec)))
 
   pub event-times : (e : Event) → Times (codedTimes e (coded rec))
-  event-times e = picked-times (readings rec) (accepted-recorded rec a) (edge (codedSign e))
+  event-times e = picked-times (readings rec) (accepted-recorded rec a) (turn (codedFrom e) (codedTo e))
 
-  pub events-few : (e : Event) → length (codedTimes e (coded rec)) ≤ mostEdges
+  pub events-few : (e : Event) → length (codedTimes e (coded rec)) ≤ mostEvents
   events-few e =
       let s = ap length (event-stamps e) ∙ length-map (raw.eventTimes e (readings rec)) indexOf in
       omega (arith, events-half e (readings rec), few)

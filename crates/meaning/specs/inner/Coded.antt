@@ -7,7 +7,7 @@ use lib.IntN.{ℤ, pos, negsuc}
 use Rattle.number.specs.Axis.{origin}
 use Rattle.recording.specs.Condition.{Condition, pick}
 use Rattle.recording.specs.Recording.{readings}
-use Rattle.recording.specs.Reading.{Reading, Curve, A, B, Event, a-top, a-dip, a-crossing, an-upcrossing, edge, nothing}
+use Rattle.recording.specs.Reading.{Reading, Curve, A, B, Event, a-top, a-dip, a-crossing, an-upcrossing, turn, nothing}
 
 -- the index of a whole number of the axis
 abbrev pub index : ℤ → ℕ
@@ -67,19 +67,25 @@ codedAdds (suc k) x = eqb (x .pigment) (suc k)
 abbrev pub codedAfter : ℕ → Coded → Bool
 codedAfter k x = ltb k (x .time)
 
--- an event is an edge of its sign
-abbrev pub codedSign : Event → Coded → Bool
-codedSign (a-top c) x = codedFalls c x
-codedSign (a-dip c) x = codedRises c x
-codedSign a-crossing x = codedCrossed x
-codedSign an-upcrossing x = not (codedCrossed x)
+-- each event is a turn: of what it turns from, and to
+abbrev pub codedFrom : Event → Coded → Bool
+codedFrom (a-top c) x = codedRises c x
+codedFrom (a-dip c) x = codedFalls c x
+codedFrom a-crossing x = not (codedCrossed x)
+codedFrom an-upcrossing x = not (not (codedCrossed x))
+
+abbrev pub codedTo : Event → Coded → Bool
+codedTo (a-top c) x = codedFalls c x
+codedTo (a-dip c) x = codedRises c x
+codedTo a-crossing x = codedCrossed x
+codedTo an-upcrossing x = not (codedCrossed x)
 
 -- the times of the records of which the condition holds
 abbrev pub timesOf : Condition Coded → List Coded → List ℕ
 timesOf ρ r = map (λ (x : Coded). x .time) (pick ρ r)
 
 abbrev pub codedTimes : Event → List Coded → List ℕ
-codedTimes e r = timesOf (edge (codedSign e)) r
+codedTimes e r = timesOf (turn (codedFrom e) (codedTo e)) r
 
 -- the times of the additions of pigment k
 abbrev pub codedAdditions : ℕ → List Coded → List ℕ

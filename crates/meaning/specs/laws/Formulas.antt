@@ -5,25 +5,26 @@ use Prim.Native.Nat.{ℕ, zero, suc, _-_, _≤_, _<_, min}
 use native.Mathlib.Omega.{arith}
 use native.Mathlib.Nat.{le-refl}
 use mathlib.Core.Path.{_≡_, refl, sym, ap, _∙_}
-use mathlib.Core.Bool.{Bool, true, false, _&&_, _||_, not, true≢false}
-use mathlib.Core.Logic.{_↔_, _⊎_, inl, inr}
+use mathlib.Core.Bool.{Bool, true, false, _&&_, _||_, not, cond, and-false, true≢false}
+use mathlib.Core.Logic.{_↔_, _⊎_, inl, inr, ⊎-elim}
 use mathlib.Core.List.{List, [], _∷_, map}
 use lib.Dec.{ltb, leb, eqb}
 use lib.ListN.{length, getD, drop}
-use borrow.Author.Tests.{ltb-true, lt-ltb, le-ltb, leb-true, leb-false, eqb-true}
+use borrow.Author.Tests.{ltb-true, lt-ltb, le-ltb, leb-true, leb-false, eqb-true, ne-eqb}
 use Rattle.number.specs.Axis.{axis, whole}
 use Rattle.runset.specs.Runs.{runCount, mostRuns}
 use Rattle.recording.specs.Condition.{pick, pickFrom, when, someOf}
-use Rattle.recording.specs.Reading.{Reading, Curve, edge}
-use Rattle.grammar.specs.Syntax.{of, T, ge, le, gt, eq, v, number, Atom, compare, A-to-B, fall, rise, pigment, Listed, dose, Text, atom, listed, or, and, neg, finally, globally, next}
+use Rattle.recording.specs.Reading.{Reading, Curve, lastOfThose, turn}
+use Rattle.recording.specs.laws.Turn.{Exclusive, exclusive-swap, oneOf, turn-is, not-exclusive}
+use Rattle.grammar.specs.Syntax.{of, T, ge, le, gt, eq, v, number, Atom, compare, A-to-B, fall, rise, pigment, Listed, dose, Text, atom, listed, or, and, neg, finally, globally, next, until}
 use Rattle.meaning.specs.Meaning.{Holds}
 use Rattle.meaning.specs.Overfull.{Overfull}
 use Rattle.grammar.specs.Size.{temporal}
 use Rattle.meaning.specs.inner.Recorded.{Increasing, Recorded}
 use Rattle.meaning.specs.Formulas.{Formula, of-high, of-low, of-lowafter, of-capafter, of-peaks, of-cross, of-dips, of-crossup, of-dose}
-use Rattle.meaning.specs.inner.Coded.{Coded, code, blank, codedValue, codedFalls, codedRises, codedCrossed, codedAdds, codedAfter, codedAdditions}
-use Rattle.meaning.specs.inner.Truth.{allOf, among, truth, lastCoded, codedAt, atomVal, finallyFrom, globallyFrom, val, runsAt, largeAt, someNode, overAt, someBelow, refused8}
-use Rattle.number.specs.laws.Boolean.{same, then, back, or-cases, or-none, none-left, and-right}
+use Rattle.meaning.specs.inner.Coded.{Coded, code, blank, codedValue, codedSlope, codedFalls, codedRises, codedCrossed, codedAdds, codedAfter, codedAdditions}
+use Rattle.meaning.specs.inner.Truth.{allOf, among, truth, lastCoded, codedAt, atomVal, finallyFrom, globallyFrom, untilFrom, val, runsAt, largeAt, someNode, overAt, someBelow, refused8}
+use Rattle.number.specs.laws.Boolean.{same, then, back, or-left, or-cases, or-none, none-left, and-right}
 use Rattle.meaning.specs.laws.Run.{starts, run-count, starts-ext, runs-ext, Convex, Up, Down, up-convex, down-convex, const-convex, const-up, and-convex, point-convex, or-up, and-up, or-down, ray-up, ray-down, convex-few, more-starts}
 use Rattle.meaning.specs.laws.Truth.{val-holds}
 use Rattle.meaning.specs.laws.Overfull.{eight-overfull, below-find, below-at}
@@ -63,9 +64,17 @@ all-same : (f g : ℕ → Bool) → ((j : ℕ) → f j ≡ g j) → (d i : ℕ) 
 all-same f g h zero i = h i
 all-same f g h (suc d) i = let a = h i in let b = all-same f g h d (suc i) in cc
 
+until-same : (f g f′ g′ : ℕ → Bool) → ((j : ℕ) → f j ≡ f′ j) → ((j : ℕ) → g j ≡ g′ j) → (d i : ℕ) → untilFrom f g d i ≡ untilFrom f′ g′ d i
+until-same f g f′ g′ h k zero i = k i
+until-same f g f′ g′ h k (suc d) i = let a = h i in let b = k i in let c = until-same f g f′ g′ h k d (suc i) in λ j. b j || (a j && c j)
+
 or-false : (e : Bool) → e ≡ (e || false)
 or-false true = refl
 or-false false = refl
+
+or-off : (e f : Bool) → f ≡ false → (e || f) ≡ e
+or-off true f h = refl
+or-off false f h = h
 
 and-true : (e : Bool) → e ≡ (e && true)
 and-true true = refl
@@ -90,36 +99,115 @@ module _ (P : Coded → Bool) where
       ∙ all-list y r in
       λ i. a i && b i
 
--- ---- edges: P holds next and not now, and n is the next time
+-- ---- turns: P holds now, and of the next record of which P or Q holds Q does, and n is its time
 
-abbrev step-at : (Coded → Bool) → ℕ → List Coded → ℕ → Bool
-step-at P n r i = not (P (codedAt r i)) && (P (codedAt r (suc i)) && eqb n (codedAt r (suc i) .time))
+-- from record i on, where the last record is d further, the next record of which P or Q holds is one of which Q holds, and n is its time
+abbrev soon-at : (P Q : Coded → Bool) → ℕ → List Coded → ℕ → ℕ → Bool
+soon-at P Q n r d i = untilFrom (λ j. not (P (codedAt r j)) && not (Q (codedAt r j))) (λ j. Q (codedAt r j) && eqb n (codedAt r j .time)) d i
 
--- n is the time of an edge of r, before which stands b
-abbrev hits : (Coded → Bool) → List Coded → List Coded → ℕ → Bool
-hits P b r n = someOf (λ x. eqb n (x .time)) (pickFrom (edge P) b r)
+abbrev step-at : (P Q : Coded → Bool) → ℕ → List Coded → ℕ → Bool
+step-at P Q n r i = P (codedAt r i) && soon-at P Q n r (lastCoded r - min (suc i) (lastCoded r)) (min (suc i) (lastCoded r))
 
-never-now : (e f : Bool) → (not e && (e && f)) ≡ false
-never-now true f = refl
-never-now false f = refl
+-- the same along the list
+abbrev soon : (P Q : Coded → Bool) → List Coded → ℕ → Bool
+soon P Q [] n = false
+soon P Q (x ∷ r) n = (Q x && eqb n (x .time)) || ((not (P x) && not (Q x)) && soon P Q r n)
 
-one-step : (p y e : Bool) (x : Coded) (l : List Coded) (n : ℕ) → eqb n (x .time) ≡ e
-    → ((not p && (y && e)) || someOf (λ x. eqb n (x .time)) l) ≡ someOf (λ x. eqb n (x .time)) (when (y && not p) x l)
-one-step true true e x l n h = refl
-one-step true false e x l n h = refl
-one-step false false e x l n h = refl
-one-step false true e x l n h = cc
+-- n is the time to which one of the records leads
+abbrev turns : (P Q : Coded → Bool) → List Coded → ℕ → Bool
+turns P Q [] n = false
+turns P Q (x ∷ r) n = (P x && soon P Q r n) || turns P Q r n
 
-module _ (P : Coded → Bool) (n : ℕ) where
-  edge-list : (b : List Coded) (x : Coded) (r : List Coded) → finallyFrom (step-at P n (x ∷ r)) (length r) 0 ≡ hits P (x ∷ b) r n
-  edge-list b x [] =
-      rw (at-end x 0, at-end x 1) (never-now (P x) (eqb n (x .time)))
-  edge-list b x (y ∷ r) =
-      let a : step-at P n (x ∷ y ∷ r) 0 ≡ (not (P x) && (P y && eqb n (y .time))) = rw (at-zero x (y ∷ r), at-suc x y r 0, at-zero y r) in
-      let s = some-shift (step-at P n (x ∷ y ∷ r)) (length r) 0
-      ∙ some-same (λ i. step-at P n (x ∷ y ∷ r) (suc i)) (step-at P n (y ∷ r)) (λ i. rw (at-suc x y r i, at-suc x y r (suc i))) (length r) 0
-      ∙ edge-list (x ∷ b) y r in
-      (λ i. a i || s i) ∙ one-step (P x) (P y) (eqb n (y .time)) y (pickFrom (edge P) (y ∷ x ∷ b) r) n refl
+-- n is the time of a turn among the records r, before which stand b
+abbrev hits : (P Q : Coded → Bool) → List Coded → List Coded → ℕ → Bool
+hits P Q b r n = someOf (λ x. eqb n (x .time)) (pickFrom (turn P Q) b r)
+
+module _ (P Q : Coded → Bool) (never : Exclusive P Q) (n : ℕ) where
+  soon-suc : (x y : Coded) (r : List Coded) (d i : ℕ) → soon-at P Q n (x ∷ y ∷ r) d (suc i) ≡ soon-at P Q n (y ∷ r) d i
+  soon-suc x y r zero i = ap (λ (z : Coded). Q z && eqb n (z .time)) (at-suc x y r i)
+  soon-suc x y r (suc d) i =
+      let e = at-suc x y r i in let s = soon-suc x y r d (suc i) in
+      λ k. (Q (e k) && eqb n (e k .time)) || ((not (P (e k)) && not (Q (e k))) && s k)
+
+  soon-list : (x : Coded) (r : List Coded) → soon-at P Q n (x ∷ r) (length r) 0 ≡ soon P Q (x ∷ r) n
+  soon-list x [] = ap (λ (z : Coded). Q z && eqb n (z .time)) (at-zero x []) ∙ last (Q x && eqb n (x .time)) (not (P x) && not (Q x))
+    where
+      last : (e f : Bool) → e ≡ (e || (f && false))
+      last true f = refl
+      last false true = refl
+      last false false = refl
+  soon-list x (y ∷ r) =
+      let e = at-zero x (y ∷ r) in let s = soon-suc x y r (length r) 0 ∙ soon-list y r in
+      λ k. (Q (e k) && eqb n (e k .time)) || ((not (P (e k)) && not (Q (e k))) && s k)
+
+  step-suc : (x y : Coded) (r : List Coded) (i : ℕ) → step-at P Q n (x ∷ y ∷ r) (suc i) ≡ step-at P Q n (y ∷ r) i
+  step-suc x y r i =
+      let j : min (suc (suc i)) (lastCoded (x ∷ y ∷ r)) ≡ suc (min (suc i) (lastCoded (y ∷ r))) = omega arith in
+      let d : lastCoded (x ∷ y ∷ r) - suc (min (suc i) (lastCoded (y ∷ r))) ≡ lastCoded (y ∷ r) - min (suc i) (lastCoded (y ∷ r)) = omega arith in
+      let e = at-suc x y r i in
+      let s = ap (λ (j : ℕ). soon-at P Q n (x ∷ y ∷ r) (lastCoded (x ∷ y ∷ r) - j) j) j
+      ∙ ap (λ (d : ℕ). soon-at P Q n (x ∷ y ∷ r) d (suc (min (suc i) (lastCoded (y ∷ r))))) d
+      ∙ soon-suc x y r (lastCoded (y ∷ r) - min (suc i) (lastCoded (y ∷ r))) (min (suc i) (lastCoded (y ∷ r))) in
+      λ k. P (e k) && s k
+
+  -- at the last record P leads nowhere, for the next record is the last again
+  step-last : (x : Coded) → step-at P Q n (x ∷ []) 0 ≡ false
+  step-last x =
+      let j : min 1 (lastCoded (x ∷ [])) ≡ 0 = omega arith in
+      let d : lastCoded (x ∷ []) - 0 ≡ 0 = omega arith in
+      let e = at-zero x [] in
+      let s = ap (λ (j : ℕ). soon-at P Q n (x ∷ []) (lastCoded (x ∷ []) - j) j) j ∙ ap (λ (d : ℕ). soon-at P Q n (x ∷ []) d 0) d
+      ∙ ap (λ (z : Coded). Q z && eqb n (z .time)) e in
+      (λ k. P (e k) && s k) ∙ both (P x) (Q x) (eqb n (x .time)) (never x)
+    where
+      both : (p q e : Bool) → (p ≡ true → q ≡ false) → (p && (q && e)) ≡ false
+      both true q e h = ap (λ (b : Bool). b && e) (h refl)
+      both false q e h = refl
+
+  step-first : (x y : Coded) (r : List Coded) → step-at P Q n (x ∷ y ∷ r) 0 ≡ (P x && soon P Q (y ∷ r) n)
+  step-first x y r =
+      let j : min 1 (lastCoded (x ∷ y ∷ r)) ≡ 1 = omega arith in
+      let d : lastCoded (x ∷ y ∷ r) - 1 ≡ length r = omega arith in
+      let e = at-zero x (y ∷ r) in
+      let s = ap (λ (j : ℕ). soon-at P Q n (x ∷ y ∷ r) (lastCoded (x ∷ y ∷ r) - j) j) j
+      ∙ ap (λ (d : ℕ). soon-at P Q n (x ∷ y ∷ r) d 1) d
+      ∙ soon-suc x y r (length r) 0 ∙ soon-list y r in
+      λ k. P (e k) && s k
+
+  turns-list : (x : Coded) (r : List Coded) → finallyFrom (step-at P Q n (x ∷ r)) (length r) 0 ≡ turns P Q (x ∷ r) n
+  turns-list x [] = step-last x ∙ nowhere (P x)
+    where
+      nowhere : (p : Bool) → false ≡ ((p && false) || false)
+      nowhere true = refl
+      nowhere false = refl
+  turns-list x (y ∷ r) =
+      let a = step-first x y r in
+      let s = some-shift (step-at P Q n (x ∷ y ∷ r)) (length r) 0
+      ∙ some-same (λ i. step-at P Q n (x ∷ y ∷ r) (suc i)) (step-at P Q n (y ∷ r)) (step-suc x y r) (length r) 0
+      ∙ turns-list y r in
+      λ i. a i || s i
+
+  -- THE TIMES OF TURNS: those to which one of the records leads, and the next one, where P holds of the last record before of which one of the two holds
+  hits-turns : (b r : List Coded) → hits P Q b r n ≡ ((lastOfThose (oneOf P Q) P b && soon P Q r n) || turns P Q r n)
+  hits-turns b [] = sym (or-off (lastOfThose (oneOf P Q) P b && false) false refl ∙ and-false (lastOfThose (oneOf P Q) P b))
+  hits-turns b (y ∷ r) =
+      ap (λ (e : Bool). someOf (λ x. eqb n (x .time)) (when e y (pickFrom (turn P Q) (y ∷ b) r))) (turn-is P Q never b y r)
+      ∙ go (P y) (Q y) (lastOfThose (oneOf P Q) P b) (never y) (hits-turns (y ∷ b) r)
+    where
+      go : (p q a : Bool) → (p ≡ true → q ≡ false) → hits P Q (y ∷ b) r n ≡ ((cond (p || q) p a && soon P Q r n) || turns P Q r n)
+          → someOf (λ x. eqb n (x .time)) (when (q && a) y (pickFrom (turn P Q) (y ∷ b) r))
+          ≡ ((a && ((q && eqb n (y .time)) || ((not p && not q) && soon P Q r n))) || ((p && soon P Q r n) || turns P Q r n))
+      go true true a h e = absurd (true≢false (h refl))
+      go true false true h e = e
+      go true false false h e = e
+      go false true true h e = ap (λ (k : Bool). eqb n (y .time) || k) e ∙ rest (eqb n (y .time)) (turns P Q r n)
+        where
+          rest : (e f : Bool) → (e || f) ≡ ((e || false) || f)
+          rest true f = refl
+          rest false f = refl
+      go false true false h e = e
+      go false false true h e = e
+      go false false false h e = e
 
 -- ---- THE SET
 
@@ -133,37 +221,31 @@ gt-not m n = go (leb m n) refl
 last-of : (x : Coded) (r : List Coded) → lastCoded (x ∷ r) - 0 ≡ length r
 last-of x r = omega arith
 
--- AN EDGE OF P AS A TEXT: `was` says that P does not hold now, `is` that P holds, next, and no node of either is over
-pub record Edging (P : Coded → Bool) (was is : Text) : Type 0 where
-  pub not-now : (r : List Coded) (n i : ℕ) → val r n was i ≡ not (P (codedAt r i))
-  pub now : (r : List Coded) (n i : ℕ) → val r n is i ≡ P (codedAt r i)
+-- A TURN FROM P TO Q AS A TEXT: `was` says that P holds, `will` that of the next record of which P or Q holds Q does, at the time put in; no node of either is over
+pub record TurnText (P Q : Coded → Bool) (was will : Text) : Type 0 where
+  pub never : Exclusive P Q
+  pub now : (r : List Coded) (n i : ℕ) → val r n was i ≡ P (codedAt r i)
+  pub later : (r : List Coded) (n i : ℕ) → val r n will i ≡ soon-at P Q n r (lastCoded r - i) i
   pub quiet-was : (r : List Coded) (i : ℕ) → overAt r was i ≡ false
-  pub quiet-is : (r : List Coded) (i : ℕ) → overAt r is i ≡ false
+  pub quiet-will : (r : List Coded) (i : ℕ) → overAt r will i ≡ false
 
-abbrev edge-text : Text → Text → Text
-edge-text was is = and was (next (and is (atom (compare T eq v))))
-
-edge-body : {P : Coded → Bool} {was is : Text} → Edging P was is → (r : List Coded) (n i : ℕ) → val r n (edge-text was is) i ≡ step-at P n r i
+turn-body : {P Q : Coded → Bool} {was will : Text} → TurnText P Q was will → (r : List Coded) (n i : ℕ) → val r n (and was (next will)) i ≡ step-at P Q n r i
 unfolding val
-edge-body {P} e r n i =
-    let j : ℕ = min (suc i) (lastCoded r) in
-    let a = e .not-now r n i in
-    let b = e .now r n j in
-    (λ k. a k && (b k && eqb n (codedAt r j .time)))
-    ∙ ap (λ (y : Coded). not (P (codedAt r i)) && (P y && eqb n (y .time))) (at-next r i)
+turn-body t r n i = let a = t .now r n i in let b = t .later r n (min (suc i) (lastCoded r)) in λ k. a k && b k
 
 times-some : (n : ℕ) (l : List Coded) → among n (map (λ (x : Coded). x .time) l) ≡ someOf (λ x. eqb n (x .time)) l
 times-some n [] = refl
 times-some n (x ∷ l) = ap (λ (e : Bool). eqb n (x .time) || e) (times-some n l)
 
-module _ (P : Coded → Bool) (p : Text) (body : (r : List Coded) (n i : ℕ) → val r n p i ≡ step-at P n r i) where
-  edge-set : (x : Coded) (r : List Coded) (n : ℕ) → val (x ∷ r) n (finally p) 0 ≡ among n (map (λ (x : Coded). x .time) (pick (edge P) (x ∷ r)))
-  unfolding val
-  edge-set x r n =
-      some-same _ (step-at P n (x ∷ r)) (body (x ∷ r) n) (lastCoded (x ∷ r) - 0) 0
-      ∙ ap (λ (d : ℕ). finallyFrom (step-at P n (x ∷ r)) d 0) (last-of x r)
-      ∙ edge-list P n [] x r
-      ∙ sym (times-some n (pick (edge P) (x ∷ r)))
+turn-set : {P Q : Coded → Bool} {was will : Text} → TurnText P Q was will → (x : Coded) (r : List Coded) (n : ℕ)
+    → val (x ∷ r) n (finally (and was (next will))) 0 ≡ among n (map (λ (x : Coded). x .time) (pick (turn P Q) (x ∷ r)))
+unfolding val
+turn-set {P} {Q} t x r n =
+    some-same _ (step-at P Q n (x ∷ r)) (turn-body t (x ∷ r) n) (lastCoded (x ∷ r) - 0) 0
+    ∙ ap (λ (d : ℕ). finallyFrom (step-at P Q n (x ∷ r)) d 0) (last-of x r)
+    ∙ turns-list P Q (t .never) n x r
+    ∙ sym (hits-turns P Q (t .never) n [] (x ∷ r))
+    ∙ sym (times-some n (pick (turn P Q) (x ∷ r)))
 
 -- ---- nodes of at most one run
 
@@ -179,56 +261,116 @@ few-down f h = convex-few f (down-convex f h)
 few-const : (e : Bool) → ltb mostRuns (runCount (λ n. e)) ≡ false
 few-const e = convex-few (λ n. e) (const-convex e)
 
--- ---- the four edges: c falls, c rises, A ≤ B, A > B
+few-as : (f g : ℕ → Bool) → ((n : ℕ) → f n ≡ g n) → Convex g → ltb mostRuns (runCount f) ≡ false
+few-as f g h c = ap (ltb mostRuns) (runs-ext f g (λ n l. h n)) ∙ few g c
 
-quiet-const : (r : List Coded) (i : ℕ) (k : Atom) (e : Bool) → ((n : ℕ) → atomVal k (codedAt r i) n ≡ e) → overAt r (atom k) i ≡ false
-unfolding someNode val
-quiet-const r i k e h = ap (ltb mostRuns) (runs-ext (λ n. atomVal k (codedAt r i) n) (λ n. e) (λ n l. h n)) ∙ few-const e
+point : (e : Bool) (t : ℕ) → Convex (λ n. e && eqb n t)
+point e t = and-convex (λ n. e) (λ n. eqb n t) (const-convex e) (point-convex t)
 
-quiet-not : (r : List Coded) (i : ℕ) (k : Atom) (e : Bool) → ((n : ℕ) → atomVal k (codedAt r i) n ≡ e) → overAt r (neg (atom k)) i ≡ false
-unfolding someNode val
-quiet-not r i k e h =
-    or-none (ap (ltb mostRuns) (runs-ext (λ n. not (atomVal k (codedAt r i) n)) (λ n. not e) (λ n l. ap not (h n))) ∙ few-const (not e)) (quiet-const r i k e h)
+-- the next record of which P or Q holds is one, so there is at most one number
+soon-convex : (P Q : Coded → Bool) (r : List Coded) (d i : ℕ) → Convex (λ n. soon-at P Q n r d i)
+soon-convex P Q r zero i = point (Q (codedAt r i)) (codedAt r i .time)
+soon-convex P Q r (suc d) i = go (P (codedAt r i)) (Q (codedAt r i)) (soon-convex P Q r d (suc i))
+  where
+    sole : (e : Bool) → (e || false) ≡ true → e ≡ true
+    sole true h = refl
+    sole false h = h
 
-a-fall : (c : Curve) → Edging (codedFalls c) (neg (atom (fall c))) (atom (fall c))
-unfolding val
-a-fall c = record {
-  not-now = λ r n i. refl;
-  now = λ r n i. refl;
-  quiet-was = λ r i. quiet-not r i (fall c) (codedFalls c (codedAt r i)) (λ n. refl);
-  quiet-is = λ r i. quiet-const r i (fall c) (codedFalls c (codedAt r i)) (λ n. refl);
-}
+    go : (p q : Bool) → Convex (λ n. soon-at P Q n r d (suc i))
+        → Convex (λ n. (q && eqb n (codedAt r i .time)) || ((not p && not q) && soon-at P Q n r d (suc i)))
+    go true true rest a b c h k u w = or-left (eqb b (codedAt r i .time)) _ (point-convex (codedAt r i .time) a b c h k (sole _ u) (sole _ w))
+    go true false rest a b c h k u w = u
+    go false true rest a b c h k u w = or-left (eqb b (codedAt r i .time)) _ (point-convex (codedAt r i .time) a b c h k (sole _ u) (sole _ w))
+    go false false rest a b c h k u w = rest a b c h k u w
 
-a-rise : (c : Curve) → Edging (codedRises c) (neg (atom (rise c))) (atom (rise c))
-unfolding val
-a-rise c = record {
-  not-now = λ r n i. refl;
-  now = λ r n i. refl;
-  quiet-was = λ r i. quiet-not r i (rise c) (codedRises c (codedAt r i)) (λ n. refl);
-  quiet-is = λ r i. quiet-const r i (rise c) (codedRises c (codedAt r i)) (λ n. refl);
-}
+-- ---- the four turns: c turns from rising to falling, from falling to rising, A > B to A ≤ B, A ≤ B to A > B
 
-below : Edging codedCrossed (atom (A-to-B gt)) (atom (A-to-B le))
-unfolding val
-below = record {
-  not-now = λ r n i. gt-not (codedAt r i .a) (codedAt r i .b);
-  now = λ r n i. refl;
-  quiet-was = λ r i. quiet-const r i (A-to-B gt) (ltb (codedAt r i .b) (codedAt r i .a)) (λ n. refl);
-  quiet-is = λ r i. quiet-const r i (A-to-B le) (codedCrossed (codedAt r i)) (λ n. refl);
-}
+module _ (r : List Coded) (i : ℕ) (k : Atom) (e : Bool) (is : (n : ℕ) → atomVal k (codedAt r i) n ≡ e) where
+  quiet-const : overAt r (atom k) i ≡ false
+  unfolding someNode val
+  quiet-const = few-as (λ n. atomVal k (codedAt r i) n) (λ n. e) is (const-convex e)
+
+  quiet-not : overAt r (neg (atom k)) i ≡ false
+  unfolding someNode val
+  quiet-not = or-none (few-as (λ n. not (atomVal k (codedAt r i) n)) (λ n. not e) (λ n. ap not (is n)) (const-convex (not e))) quiet-const
+
+  -- with the time put in
+  quiet-time : overAt r (and (atom k) (atom (compare T eq v))) i ≡ false
+  unfolding someNode val
+  quiet-time =
+      or-none (few-as (λ n. atomVal k (codedAt r i) n && eqb n (codedAt r i .time)) (λ n. e && eqb n (codedAt r i .time))
+      (λ n. ap (λ (b : Bool). b && eqb n (codedAt r i .time)) (is n)) (point e (codedAt r i .time)))
+      (or-none quiet-const (few (λ n. eqb n (codedAt r i .time)) (point-convex (codedAt r i .time))))
+
+abbrev until-text : Atom → Atom → Text
+until-text j k = until (and (neg (atom j)) (neg (atom k))) (and (atom k) (atom (compare T eq v)))
+
+-- two atoms that say P and Q, whatever number is put in
+module _ (P Q : Coded → Bool) (excl : Exclusive P Q) (j k : Atom) (p : (x : Coded) (n : ℕ) → atomVal j x n ≡ P x) (q : (x : Coded) (n : ℕ) → atomVal k x n ≡ Q x) where
+  past-flat : TurnText P Q (atom j) (until-text j k)
+  unfolding someNode val
+  past-flat = record {
+    never = excl;
+    now = λ r n i. p (codedAt r i) n;
+    later = λ r n i. until-same _ _ _ _ (λ m. both r m n) (λ m. ap (λ (b : Bool). b && eqb n (codedAt r m .time)) (q (codedAt r m) n)) (lastCoded r - i) i;
+    quiet-was = λ r i. quiet-const r i j (P (codedAt r i)) (p (codedAt r i));
+    quiet-will = quiet;
+  }
+    where
+      both : (r : List Coded) (m n : ℕ) → (not (atomVal j (codedAt r m) n) && not (atomVal k (codedAt r m) n)) ≡ (not (P (codedAt r m)) && not (Q (codedAt r m)))
+      both r m n = let a = p (codedAt r m) n in let b = q (codedAt r m) n in λ i. not (a i) && not (b i)
+
+      quiet : (r : List Coded) (i : ℕ) → overAt r (until-text j k) i ≡ false
+      quiet r i =
+          or-none (few-as _ (λ n. soon-at P Q n r (lastCoded r - i) i)
+          (λ n. until-same _ _ _ _ (λ m. both r m n) (λ m. ap (λ (b : Bool). b && eqb n (codedAt r m .time)) (q (codedAt r m) n)) (lastCoded r - i) i)
+          (soon-convex P Q r (lastCoded r - i) i))
+          (or-none (or-none (few-as _ (λ n. not (P (codedAt r i)) && not (Q (codedAt r i))) (λ n. both r i n) (const-convex (not (P (codedAt r i)) && not (Q (codedAt r i)))))
+          (or-none (quiet-not r i j (P (codedAt r i)) (p (codedAt r i))) (quiet-not r i k (Q (codedAt r i)) (q (codedAt r i)))))
+          (quiet-time r i k (Q (codedAt r i)) (q (codedAt r i))))
+
+-- and where of every record one of the two holds, the next record is that one
+module _ (S : Coded → Bool) (j k : Atom) (p : (x : Coded) (n : ℕ) → atomVal j x n ≡ not (S x)) (q : (x : Coded) (n : ℕ) → atomVal k x n ≡ S x) where
+  at-once : TurnText (λ x. not (S x)) S (atom j) (and (atom k) (atom (compare T eq v)))
+  unfolding val
+  at-once = record {
+    never = not-exclusive S;
+    now = λ r n i. p (codedAt r i) n;
+    later = λ r n i. ap (λ (b : Bool). b && eqb n (codedAt r i .time)) (q (codedAt r i) n) ∙ here r n (lastCoded r - i) i;
+    quiet-was = λ r i. quiet-const r i j (not (S (codedAt r i))) (p (codedAt r i));
+    quiet-will = λ r i. quiet-time r i k (S (codedAt r i)) (q (codedAt r i));
+  }
+    where
+      here : (r : List Coded) (n d i : ℕ) → (S (codedAt r i) && eqb n (codedAt r i .time)) ≡ soon-at (λ x. not (S x)) S n r d i
+      here r n zero i = refl
+      here r n (suc d) i = go (S (codedAt r i)) (eqb n (codedAt r i .time)) (soon-at (λ x. not (S x)) S n r d (suc i))
+        where
+          go : (e f g : Bool) → (e && f) ≡ ((e && f) || ((not (not e) && not e) && g))
+          go true true g = refl
+          go true false g = refl
+          go false f g = refl
+
+rises-falls : (c : Curve) → Exclusive (codedRises c) (codedFalls c)
+rises-falls c x h = ne-eqb (codedSlope c x) 0 (λ e. two (codedSlope c x) (eqb-true (codedSlope c x) 2 h) e)
+  where
+    two : (s : ℕ) → s ≡ 2 → s ≡ 0 → ⊥
+    two s p q = omega arith
+
+a-top-text : (c : Curve) → TurnText (codedRises c) (codedFalls c) (atom (rise c)) (until-text (rise c) (fall c))
+a-top-text c = past-flat (codedRises c) (codedFalls c) (rises-falls c) (rise c) (fall c) (λ x n. refl) (λ x n. refl)
+
+a-dip-text : (c : Curve) → TurnText (codedFalls c) (codedRises c) (atom (fall c)) (until-text (fall c) (rise c))
+a-dip-text c = past-flat (codedFalls c) (codedRises c) (exclusive-swap {P = codedRises c} {Q = codedFalls c} (rises-falls c)) (fall c) (rise c) (λ x n. refl) (λ x n. refl)
+
+down-text : TurnText (λ x. not (codedCrossed x)) codedCrossed (atom (A-to-B gt)) (and (atom (A-to-B le)) (atom (compare T eq v)))
+down-text = at-once codedCrossed (A-to-B gt) (A-to-B le) (λ x n. gt-not (x .a) (x .b)) (λ x n. refl)
 
 twice-not : (e : Bool) → e ≡ not (not e)
 twice-not true = refl
 twice-not false = refl
 
-above : Edging (λ x. not (codedCrossed x)) (atom (A-to-B le)) (atom (A-to-B gt))
-unfolding val
-above = record {
-  not-now = λ r n i. twice-not (codedCrossed (codedAt r i));
-  now = λ r n i. gt-not (codedAt r i .a) (codedAt r i .b);
-  quiet-was = λ r i. quiet-const r i (A-to-B le) (codedCrossed (codedAt r i)) (λ n. refl);
-  quiet-is = λ r i. quiet-const r i (A-to-B gt) (ltb (codedAt r i .b) (codedAt r i .a)) (λ n. refl);
-}
+up-text : TurnText (λ x. not (not (codedCrossed x))) (λ x. not (codedCrossed x)) (atom (A-to-B le)) (and (atom (A-to-B gt)) (atom (compare T eq v)))
+up-text = at-once (λ x. not (codedCrossed x)) (A-to-B le) (A-to-B gt) (λ x n. twice-not (codedCrossed x)) (λ x n. gt-not (x .a) (x .b))
 
 -- ---- additions
 
@@ -257,14 +399,14 @@ formula-set (of-lowafter {c = c} {k = k}) x r n =
 formula-set (of-capafter {c = c} {k = k}) x r n =
     ap (λ (d : ℕ). globallyFrom (λ i. not (codedAfter k (codedAt (x ∷ r) i)) || leb (codedValue c (codedAt (x ∷ r) i)) n) d 0) (last-of x r)
     ∙ all-list (λ y. not (codedAfter k y) || leb (codedValue c y) n) x r
-formula-set (of-peaks {c = c}) x r n = edge-set (codedFalls c) (edge-text (neg (atom (fall c))) (atom (fall c))) (edge-body (a-fall c)) x r n
-formula-set of-cross x r n = edge-set codedCrossed (edge-text (atom (A-to-B gt)) (atom (A-to-B le))) (edge-body below) x r n
-formula-set (of-dips {c = c}) x r n = edge-set (codedRises c) (edge-text (neg (atom (rise c))) (atom (rise c))) (edge-body (a-rise c)) x r n
+formula-set (of-peaks {c = c}) x r n = turn-set (a-top-text c) x r n
+formula-set of-cross x r n = turn-set down-text x r n
+formula-set (of-dips {c = c}) x r n = turn-set (a-dip-text c) x r n
 formula-set (of-dose {k = k}) x r n =
     ap (λ (d : ℕ). finallyFrom (λ i. codedAdds k (codedAt (x ∷ r) i) && eqb n (codedAt (x ∷ r) i .time)) d 0) (last-of x r)
     ∙ some-list (λ y. codedAdds k y && eqb n (y .time)) x r
     ∙ sym (additions-some k n (x ∷ r))
-formula-set of-crossup x r n = edge-set (λ x. not (codedCrossed x)) (edge-text (atom (A-to-B le)) (atom (A-to-B gt))) (edge-body above) x r n
+formula-set of-crossup x r n = turn-set up-text x r n
 
 -- ---- REFUSAL 8
 
@@ -320,41 +462,26 @@ module _ (r : List Coded) (i : ℕ) where
       body : (i : ℕ) → Up (λ n. not (codedAfter k (codedAt r i)) || leb (codedValue c (codedAt r i)) n)
       body i = or-up (λ n. not (codedAfter k (codedAt r i))) (λ n. leb (codedValue c (codedAt r i)) n) (const-up (not (codedAfter k (codedAt r i)))) (ray-up (codedValue c (codedAt r i)))
 
-point : (e : Bool) (t : ℕ) → Convex (λ n. e && eqb n t)
-point e t = and-convex (λ n. e) (λ n. eqb n t) (const-convex e) (point-convex t)
-
--- below F, the nodes of an edge are all, nothing or one number
-inner-edge : {P : Coded → Bool} {was is : Text} → Edging P was is → (r : List Coded) (i : ℕ) → overAt r (edge-text was is) i ≡ false
+-- below F, the nodes of a turn are all, nothing or one number
+inner-turn : {P Q : Coded → Bool} {was will : Text} → TurnText P Q was will → (r : List Coded) (i : ℕ) → overAt r (and was (next will)) i ≡ false
 unfolding someNode val
-inner-edge {P} {was} {is} e r i =
-    or-none (few-as (λ n. val r n was i && later n) (λ n. not (P x) && (P y && eqb n (y .time)))
-    (λ n. let a = e .not-now r n i in let b = after n in λ k. a k && b k)
-    (and-convex (λ n. not (P x)) (λ n. P y && eqb n (y .time)) (const-convex (not (P x))) (point (P y) (y .time))))
-    (or-none (e .quiet-was r i)
-    (or-none (few-as later (λ n. P y && eqb n (y .time)) after (point (P y) (y .time)))
-    (or-none (few-as (λ n. val r n is i && eqb n (x .time)) (λ n. P x && eqb n (x .time)) (λ n. ap (λ (b : Bool). b && eqb n (x .time)) (e .now r n i)) (point (P x) (x .time)))
-    (or-none (e .quiet-is r i) (few (λ n. eqb n (x .time)) (point-convex (x .time)))))))
+inner-turn {P} {Q} t r i =
+    or-none (few-as _ (λ n. step-at P Q n r i) (λ n. turn-body t r n i) (and-convex (λ n. P (codedAt r i)) (λ n. soon-at P Q n r (lastCoded r - j) j) (const-convex (P (codedAt r i))) (soon-convex P Q r (lastCoded r - j) j)))
+    (or-none (t .quiet-was r i)
+    (or-none (few-as _ (λ n. soon-at P Q n r (lastCoded r - j) j) (λ n. t .later r n j) (soon-convex P Q r (lastCoded r - j) j)) (t .quiet-will r i)))
   where
-    x : Coded
-    x = codedAt r i
-
-    y : Coded
-    y = codedAt r (min (suc i) (lastCoded r))
-
-    later : ℕ → Bool
-    later n = val r n is (min (suc i) (lastCoded r)) && eqb n (y .time)
-
-    after : (n : ℕ) → later n ≡ (P y && eqb n (y .time))
-    after n = ap (λ (b : Bool). b && eqb n (y .time)) (e .now r n (min (suc i) (lastCoded r)))
-
-    few-as : (f g : ℕ → Bool) → ((n : ℕ) → f n ≡ g n) → Convex g → ltb mostRuns (runCount f) ≡ false
-    few-as f g h c = ap (ltb mostRuns) (runs-ext f g (λ n l. h n)) ∙ few g c
+    j : ℕ
+    j = min (suc i) (lastCoded r)
 
 -- times strictly increase
 abbrev Rising : List Coded → Type 0
 Rising [] = Unit {0}
 Rising (x ∷ []) = Unit {0}
 Rising (x ∷ (y ∷ r)) = (x .time < y .time) × Rising (y ∷ r)
+
+tail-rises : (x : Coded) (r : List Coded) → Rising (x ∷ r) → Rising r
+tail-rises x [] h = tt
+tail-rises x (y ∷ r) h = h .1
 
 rising-code : (r : List Reading) → Increasing r → Rising (map code r)
 rising-code [] h = tt
@@ -383,51 +510,54 @@ fewer-later S g n x (y ∷ r) inc (suc i) h =
     omega (arith, fewer-later S g n y r (inc .1) i (omega arith), grow (S (y ∷ r)) (S (x ∷ y ∷ r)) (g x y r inc) n)
 
 -- the set of F at record i
-abbrev from : (Coded → Bool) → List Coded → ℕ → ℕ → Bool
-from P r i n = finallyFrom (step-at P n r) (lastCoded r - i) i
+abbrev from : (P Q : Coded → Bool) → List Coded → ℕ → ℕ → Bool
+from P Q r i n = finallyFrom (step-at P Q n r) (lastCoded r - i) i
 
-module _ (P : Coded → Bool) where
-  from-suc : (x y : Coded) (r : List Coded) (i n : ℕ) → from P (x ∷ y ∷ r) (suc i) n ≡ from P (y ∷ r) i n
+module _ (P Q : Coded → Bool) (never : Exclusive P Q) where
+  from-suc : (x y : Coded) (r : List Coded) (i n : ℕ) → from P Q (x ∷ y ∷ r) (suc i) n ≡ from P Q (y ∷ r) i n
   from-suc x y r i n =
       let e : lastCoded (x ∷ y ∷ r) - suc i ≡ lastCoded (y ∷ r) - i = omega arith in
-      ap (λ (d : ℕ). finallyFrom (step-at P n (x ∷ y ∷ r)) d (suc i)) e
-      ∙ some-shift (step-at P n (x ∷ y ∷ r)) (lastCoded (y ∷ r) - i) i
-      ∙ some-same (λ i. step-at P n (x ∷ y ∷ r) (suc i)) (step-at P n (y ∷ r)) (λ i. rw (at-suc x y r i, at-suc x y r (suc i))) (lastCoded (y ∷ r) - i) i
+      ap (λ (d : ℕ). finallyFrom (step-at P Q n (x ∷ y ∷ r)) d (suc i)) e
+      ∙ some-shift (step-at P Q n (x ∷ y ∷ r)) (lastCoded (y ∷ r) - i) i
+      ∙ some-same (λ i. step-at P Q n (x ∷ y ∷ r) (suc i)) (step-at P Q n (y ∷ r)) (step-suc P Q never n x y r) (lastCoded (y ∷ r) - i) i
 
-  from-zero : (b : List Coded) (x : Coded) (r : List Coded) (n : ℕ) → from P (x ∷ r) 0 n ≡ hits P (x ∷ b) r n
-  from-zero b x r n = ap (λ (d : ℕ). finallyFrom (step-at P n (x ∷ r)) d 0) (last-of x r) ∙ edge-list P n b x r
-
-  -- edges lie after the reading before them
-  later-hits : (b : List Coded) (x : Coded) (r : List Coded) → Rising (x ∷ r) → (n : ℕ) → hits P (x ∷ b) r n ≡ true → x .time < n
-  later-hits b x [] inc n h = absurd (true≢false (sym h))
-  later-hits b x (y ∷ r) inc n h = go (P y && not (P x)) (λ k. later-hits (x ∷ b) y r (inc .1) n k) h
-    where
-      go : (e : Bool) → (someOf (λ x. eqb n (x .time)) (pickFrom (edge P) (y ∷ x ∷ b) r) ≡ true → y .time < n)
-          → someOf (λ x. eqb n (x .time)) (when e y (pickFrom (edge P) (y ∷ x ∷ b) r)) ≡ true → x .time < n
-      go true i k = or-cases (eqb n (y .time)) _ k (λ q. omega (arith, eqb-true n (y .time) q, inc .0)) (λ q. omega (arith, i q, inc .0))
-      go false i k = omega (arith, i k, inc .0)
-
-  -- the set of F from the first record of a recording on
-  abbrev edges : List Coded → ℕ → Bool
-  edges r n = from P r 0 n
-
-  from-drop : (x : Coded) (r : List Coded) (i : ℕ) → i < length (x ∷ r) → (n : ℕ) → from P (x ∷ r) i n ≡ edges (drop i (x ∷ r)) n
-  from-drop x r zero h n = refl
+  from-drop : (x : Coded) (r : List Coded) (i : ℕ) → i < length (x ∷ r) → (n : ℕ) → from P Q (x ∷ r) i n ≡ turns P Q (drop i (x ∷ r)) n
+  from-drop x r zero h n = ap (λ (d : ℕ). finallyFrom (step-at P Q n (x ∷ r)) d 0) (last-of x r) ∙ turns-list P Q never n x r
   from-drop x [] (suc i) h n = absurd (omega arith)
   from-drop x (y ∷ r) (suc i) h n = from-suc x y r i n ∙ from-drop y r i (omega arith) n
 
-  edges-grow : Growing edges
-  edges-grow x y r inc = go (P y && not (P x)) refl
+  -- what the records r lead to lies after the record before them
+  soon-later : (x : Coded) (r : List Coded) → Rising (x ∷ r) → (n : ℕ) → soon P Q r n ≡ true → x .time < n
+  soon-later x [] inc n h = absurd (true≢false (sym h))
+  soon-later x (y ∷ r) inc n h =
+      or-cases (Q y && eqb n (y .time)) _ h (λ k. omega (arith, eqb-true n (y .time) (and-right (Q y) _ k), inc .0))
+      (λ k. omega (arith, soon-later y r (inc .1) n (and-right (not (P y) && not (Q y)) _ k), inc .0))
+
+  turns-later : (x : Coded) (r : List Coded) → Rising (x ∷ r) → (n : ℕ) → turns P Q r n ≡ true → x .time < n
+  turns-later x [] inc n h = absurd (true≢false (sym h))
+  turns-later x (y ∷ r) inc n h =
+      or-cases (P y && soon P Q r n) _ h (λ k. omega (arith, soon-later y r (inc .1) n (and-right (P y) _ k), inc .0))
+      (λ k. omega (arith, turns-later y r (inc .1) n k, inc .0))
+
+  -- the next turn is one number, below all others to which the records lead, or none
+  abbrev First : List Coded → Type 0
+  First r = ((n : ℕ) → soon P Q r n ≡ false) ⊎ ((t : ℕ) × ((n : ℕ) → turns P Q r n ≡ true → t < n) × ((n : ℕ) → soon P Q r n ≡ eqb n t))
+
+  soon-first : (r : List Coded) → Rising r → First r
+  soon-first [] inc = inl (λ n. refl)
+  soon-first (y ∷ r) inc = go (P y) (Q y) refl refl (soon-first r (tail-rises y r inc))
     where
-      before : (n : ℕ) → edges (y ∷ r) n ≡ hits P (y ∷ x ∷ []) r n
-      before n = from-zero (x ∷ []) y r n
+      go : (p q : Bool) → P y ≡ p → Q y ≡ q → First r → First (y ∷ r)
+      go true q u w rest = inl (λ n. rw (never y u, u))
+      go false true u w rest = inr (y .time, (λ n h. turns-later y r inc n (rw u at h)), λ n. rw (w, u) (sym (or-false (eqb n (y .time)))))
+      go false false u w rest = ⊎-elim (λ none. inl (λ n. rw (w, u) (none n))) (λ one. inr (one .0, (λ n h. one .1 n (rw u at h)), λ n. rw (w, u) (one .2 n))) rest
 
-      now : (e : Bool) → (P y && not (P x)) ≡ e → (n : ℕ) → edges (x ∷ y ∷ r) n ≡ someOf (λ x. eqb n (x .time)) (when e y (pickFrom (edge P) (y ∷ x ∷ []) r))
-      now e h n = from-zero [] x (y ∷ r) n ∙ ap (λ (e : Bool). someOf (λ x. eqb n (x .time)) (when e y (pickFrom (edge P) (y ∷ x ∷ []) r))) h
-
-      go : (e : Bool) → (P y && not (P x)) ≡ e → Grown (edges (y ∷ r)) (edges (x ∷ y ∷ r))
-      go true h = inr (y .time, (λ n k. later-hits (x ∷ []) y r (inc .1) n (sym (before n) ∙ k)), λ n. now true h n ∙ ap (λ (b : Bool). eqb n (y .time) || b) (sym (before n)))
-      go false h = inl (λ n. now false h n ∙ sym (before n))
+  turns-grow : Growing (turns P Q)
+  turns-grow x y r inc = go (P x) refl
+    where
+      go : (p : Bool) → P x ≡ p → Grown (turns P Q (y ∷ r)) (turns P Q (x ∷ y ∷ r))
+      go false u = inl (λ n. rw u)
+      go true u = ⊎-elim (λ none. inl (λ n. rw (u, none n))) (λ one. inr (one .0, one .1, λ n. rw (u, one .2 n))) (soon-first (y ∷ r) (inc .1))
 
 -- the times of the records of which Q holds
 module _ (Q : Coded → Bool) where
@@ -483,10 +613,6 @@ module _ {q : Listed} {p : Text} (f : Formula q p) (x : Coded) (r : List Coded) 
   unfolding someNode
   quiet = below-none (overAt (x ∷ r) p) nowhere (length (x ∷ r)) ∙ sym head ∙ alone f x r
 
-or-off : (e f : Bool) → f ≡ false → (e || f) ≡ e
-or-off true f h = refl
-or-off false f h = h
-
 -- a formula F(p) where p is over nowhere, and the set of F(p) grows at its low end
 module _ {q : Listed} (p : Text) (f : Formula q (finally p)) (S : List Coded → ℕ → Bool) (g : Growing S) (x : Coded) (r : List Coded) (inc : Rising (x ∷ r))
     (set : (i : ℕ) → i < length (x ∷ r) → (n : ℕ) → val (x ∷ r) n (finally p) i ≡ S (drop i (x ∷ r)) n) (inner : (i : ℕ) → overAt (x ∷ r) p i ≡ false) where
@@ -510,14 +636,14 @@ module _ {q : Listed} (p : Text) (f : Formula q (finally p)) (S : List Coded →
       ∙ is-large 0
       ∙ alone f x r
 
--- an edge, so
-at-edge : {P : Coded → Bool} {was is : Text} → Edging P was is → {q : Listed} → Formula q (finally (edge-text was is))
-    → (x : Coded) (r : List Coded) → Rising (x ∷ r) → someBelow (overAt (x ∷ r) (finally (edge-text was is))) (length (x ∷ r)) ≡ overAt (x ∷ r) (listed q) 0
+-- a turn, so
+at-turn : {P Q : Coded → Bool} {was will : Text} → TurnText P Q was will → {q : Listed} → Formula q (finally (and was (next will)))
+    → (x : Coded) (r : List Coded) → Rising (x ∷ r) → someBelow (overAt (x ∷ r) (finally (and was (next will)))) (length (x ∷ r)) ≡ overAt (x ∷ r) (listed q) 0
 unfolding val
-at-edge {P} {was} {is} e f x r inc =
-    at-first (edge-text was is) f (edges P) (edges-grow P) x r inc
-    (λ i h n. some-same (val (x ∷ r) n (edge-text was is)) (step-at P n (x ∷ r)) (edge-body e (x ∷ r) n) (lastCoded (x ∷ r) - i) i ∙ from-drop P x r i h n)
-    (inner-edge e (x ∷ r))
+at-turn {P} {Q} {was} {will} t f x r inc =
+    at-first (and was (next will)) f (turns P Q) (turns-grow P Q (t .never)) x r inc
+    (λ i h n. some-same (val (x ∷ r) n (and was (next will))) (step-at P Q n (x ∷ r)) (turn-body t (x ∷ r) n) (lastCoded (x ∷ r) - i) i ∙ from-drop P Q (t .never) x r i h n)
+    (inner-turn t (x ∷ r))
 
 -- and additions
 abbrev dose-text : ℕ → Text
@@ -555,10 +681,10 @@ formula-eight (of-lowafter {c = c} {k = k}) x r inc =
     quiet of-lowafter x r (λ i. over-lowafter (x ∷ r) i c k) (root-few (λ t. largeAt (x ∷ r) t 0) _ (over-lowafter (x ∷ r) 0 c k))
 formula-eight (of-capafter {c = c} {k = k}) x r inc =
     quiet of-capafter x r (λ i. over-capafter (x ∷ r) i c k) (root-few-all (λ t. largeAt (x ∷ r) t 0) _ (over-capafter (x ∷ r) 0 c k))
-formula-eight (of-peaks {c = c}) x r inc = at-edge (a-fall c) of-peaks x r inc
-formula-eight of-cross x r inc = at-edge below of-cross x r inc
-formula-eight (of-dips {c = c}) x r inc = at-edge (a-rise c) of-dips x r inc
-formula-eight of-crossup x r inc = at-edge above of-crossup x r inc
+formula-eight (of-peaks {c = c}) x r inc = at-turn (a-top-text c) of-peaks x r inc
+formula-eight of-cross x r inc = at-turn down-text of-cross x r inc
+formula-eight (of-dips {c = c}) x r inc = at-turn (a-dip-text c) of-dips x r inc
+formula-eight of-crossup x r inc = at-turn up-text of-crossup x r inc
 formula-eight (of-dose {k = k}) x r inc = at-dose k x r inc
 
 -- ---- in the words of the meaning

@@ -12,16 +12,17 @@ use lib.Signed.{_≤ℤ_}
 use borrow.Author.Tests.{leb-true}
 use Rattle.number.specs.Axis.{origin, whole}
 use Rattle.recording.specs.Condition.{Condition, pickFrom, someOf}
-use Rattle.recording.specs.Reading.{Reading, Curve, A, B, value, falls, rises, crossed, top, dip, crossing, upcrossing, edge, Event, a-top, a-dip, a-crossing, an-upcrossing, event, adds, added, nothing}
+use Rattle.recording.specs.Reading.{Reading, Curve, A, B, value, falls, rises, crossed, top, turn, Event, a-top, a-dip, a-crossing, an-upcrossing, event, adds, added, nothing}
+use Rattle.recording.specs.laws.Turn.{turnsFrom, turnsTo, event-turn}
 use Rattle.recording.specs.Recording.{inRange}
 use Rattle.grammar.specs.Syntax.{Listed, high, low, lowafter, capafter, peaks, dips, cross, crossup, dose, ampl, gaps, steps, lag}
 use Rattle.meaning.specs.Listed.{recordAt, SomeRecord, EachRecord, TimeOf, timeOf, After, between, Says}
 use Rattle.meaning.specs.inner.Recorded.{InRange}
-use Rattle.meaning.specs.inner.Coded.{Coded, code, index, codedValue, codedFalls, codedRises, codedCrossed, codedAfter, codedSign, codedAdds, timesOf, codedTimes, codedAdditions}
+use Rattle.meaning.specs.inner.Coded.{Coded, code, index, codedValue, codedFalls, codedRises, codedCrossed, codedAfter, codedFrom, codedTo, codedAdds, timesOf, codedTimes, codedAdditions}
 use Rattle.meaning.specs.inner.Truth.{allOf, somePair, someStep, among, apart, truth}
 use Rattle.number.specs.laws.Boolean.{same, then, both, so-and, and-left, imp-or, or-imp}
 use Rattle.meaning.specs.laws.Whole.{Stands, stands-whole, le-test, le-index, lt-index, eq-index, apart-index, wide-index}
-use Rattle.meaning.specs.laws.Pick.{some-at, some-find, all-at, all-make, keysOf, key-find, key-at, pair-find, pair-at, step-find, step-at, Each, each-make, pick-map, edge-map, map-map}
+use Rattle.meaning.specs.laws.Pick.{some-at, some-find, all-at, all-make, keysOf, key-find, key-at, pair-find, pair-at, step-find, step-at, Each, each-make, pick-map, turn-map, map-map}
 
 -- ---- a coded reading holds the indices of its numbers
 
@@ -76,13 +77,22 @@ times-code : (ρ : Condition Reading) (σ : Condition Coded) (r : List Reading) 
 times-code ρ σ r s turned =
     ap (map (λ (x : Coded). x .time)) (pick-map Settled code ρ σ turned [] r tt s) ∙ map-map code (λ x. x .time) (pickFrom ρ [] r)
 
+from-code : (e : Event) (x : Reading) → Settled x → codedFrom e (code x) ≡ turnsFrom e x
+from-code (a-top c) x s = rises-code c x
+from-code (a-dip c) x s = falls-code c x
+from-code a-crossing x s = ap not (crossed-code x s)
+from-code an-upcrossing x s = ap (λ (e : Bool). not (not e)) (crossed-code x s)
+
+to-code : (e : Event) (x : Reading) → Settled x → codedTo e (code x) ≡ turnsTo e x
+to-code (a-top c) x s = falls-code c x
+to-code (a-dip c) x s = rises-code c x
+to-code a-crossing x s = crossed-code x s
+to-code an-upcrossing x s = ap not (crossed-code x s)
+
 pub event-code : (e : Event) (r : List Reading) → AllSettled r → codedTimes e (map code r) ≡ keysOf stamp (event e) [] r
-event-code (a-top c) r s = times-code (top c) (edge (codedSign (a-top c))) r s (edge-map Settled code (falls c) (codedFalls c) (λ x h. falls-code c x))
-event-code (a-dip c) r s = times-code (dip c) (edge (codedSign (a-dip c))) r s (edge-map Settled code (rises c) (codedRises c) (λ x h. rises-code c x))
-event-code a-crossing r s = times-code crossing (edge (codedSign a-crossing)) r s (edge-map Settled code crossed codedCrossed crossed-code)
-event-code an-upcrossing r s =
-    times-code upcrossing (edge (codedSign an-upcrossing)) r s
-    (edge-map Settled code (λ x. not (crossed x)) (λ x. not (codedCrossed x)) (λ x h. ap not (crossed-code x h)))
+event-code e r s =
+    times-code (turn (turnsFrom e) (turnsTo e)) (turn (codedFrom e) (codedTo e)) r s (turn-map Settled code (turnsFrom e) (turnsTo e) (codedFrom e) (codedTo e) (from-code e) (to-code e))
+    ∙ ap (λ (ρ : Condition Reading). keysOf stamp ρ [] r) (sym (event-turn e))
 
 pub adds-code : (k : ℕ) (x : Reading) → codedAdds k (code x) ≡ adds k x
 adds-code zero x = refl

@@ -3,11 +3,12 @@ use Prim.Native.Nat.{ℕ, zero, suc, _<_}
 use native.Mathlib.Omega.{arith}
 use native.Mathlib.Nat.{le-of-suc-le-suc, not-suc-le-zero}
 use mathlib.Core.Path.{_≡_, refl, ap, _∙_}
-use mathlib.Core.Bool.{Bool, true, false, _&&_, not, false≢true}
+use mathlib.Core.Bool.{Bool, true, false, _&&_, _||_, not, cond, false≢true}
 use mathlib.Core.List.{List, [], _∷_, map, reverseAux}
 use lib.ListN.{length, getD, take, drop}
 use Rattle.recording.specs.Condition.{Condition, when, pickFrom, someOf}
-use Rattle.recording.specs.Reading.{edge}
+use Rattle.recording.specs.Reading.{lastOfThose, turn}
+use Rattle.recording.specs.laws.Turn.{oneOf}
 use Rattle.meaning.specs.inner.Truth.{allOf, somePair, someStep}
 use Rattle.number.specs.laws.Boolean.{or-left, or-right, or-cases, and-left, and-right, and-make, clash}
 
@@ -217,10 +218,14 @@ module _ {X Y : Type 0} (G : X → Type 0) (g : X → Y) (ρ : Condition X) (σ 
       go true e = λ i. g x ∷ e i
       go false e = e
 
-module _ {X Y : Type 0} (G : X → Type 0) (g : X → Y) (P : X → Bool) (Q : Y → Bool) (turned : (x : X) → G x → Q (g x) ≡ P x) where
-  pub edge-map : (b : List X) (x : X) (a : List X) → Each G b → G x → edge Q (map g b) (g x) (map g a) ≡ edge P b x a
-  edge-map [] x a gb gx = refl
-  edge-map (p ∷ b) x a gb gx = let h = turned x gx in let k = turned p (gb .0) in λ i. h i && not (k i)
+module _ {X Y : Type 0} (G : X → Type 0) (g : X → Y) (P Q : X → Bool) (P′ Q′ : Y → Bool) (from : (x : X) → G x → P′ (g x) ≡ P x) (to : (x : X) → G x → Q′ (g x) ≡ Q x) where
+  last-map : (b : List X) → Each G b → lastOfThose (oneOf P′ Q′) P′ (map g b) ≡ lastOfThose (oneOf P Q) P b
+  last-map [] gb = refl
+  last-map (y ∷ b) gb = let p = from y (gb .0) in let q = to y (gb .0) in let l = last-map b (gb .1) in λ i. cond (p i || q i) (p i) (l i)
+
+  pub turn-map : (b : List X) (x : X) (a : List X) → Each G b → G x → turn P′ Q′ (map g b) (g x) (map g a) ≡ turn P Q b x a
+  turn-map [] x a gb gx = refl
+  turn-map (y ∷ b) x a gb gx = let h = to x gx in let k = to y (gb .0) in let l = last-map (y ∷ b) gb in λ i. h i && (not (k i) && l i)
 
 module _ {X Y Z : Type 0} (f : X → Y) (g : Y → Z) where
   pub map-map : (l : List X) → map g (map f l) ≡ map (λ x. g (f x)) l

@@ -3,7 +3,7 @@ use Prim.Native.Nat.{ℕ, _<_}
 use mathlib.Core.Path.{_≡_, refl}
 use mathlib.Core.List.{List, [], _∷_, map, List·Memᴰ, List·Memᴰ·not-nil}
 use lib.IntN.{pos}
-use lib.Signed.{leZ-yes, ltZ-yes}
+use lib.Signed.{leZ-yes}
 use Rattle.number.specs.Axis.{axis}
 use Rattle.recording.specs.Condition.{someOf}
 use Rattle.recording.specs.Reading.{Reading, A, B, value, nothing}
@@ -25,7 +25,7 @@ R2 = r2 0 10 2 ∷ r2 10 9 2 ∷ r2 20 8 1 ∷ r2 30 7 1 ∷ r2 40 6 0 ∷ r2 50
 
 abbrev pub lines : List Example
 lines =
-    listed (peaks A) is (just 40 ∷ just 60 ∷ [])
+    listed (peaks A) is (just 40 ∷ [])
     ∷ listed (dips A) is []
     ∷ []
 
@@ -33,9 +33,9 @@ r2-in-range : InRange R2
 r2-in-range i h A = all-at nothing (λ x. inRange (value A x)) R2 refl i h
 r2-in-range i h B = all-at nothing (λ x. inRange (value B x)) R2 refl i h
 
-peaks-set : (n : ℕ) → n < axis → val (map code R2) n (listed (peaks A)) 0 ≡ someOf (within n) (just 40 ∷ just 60 ∷ [])
+peaks-set : (n : ℕ) → n < axis → val (map code R2) n (listed (peaks A)) 0 ≡ someOf (within n) (just 40 ∷ [])
 unfolding val truth
-peaks-set n h = ones (40 ∷ 60 ∷ []) n
+peaks-set n h = ones (40 ∷ []) n
 
 dips-set : (n : ℕ) → n < axis → val (map code R2) n (listed (dips A)) 0 ≡ someOf (within n) []
 unfolding val truth
@@ -44,6 +44,6 @@ dips-set n h = refl
 -- THE LINES HOLD OF R2
 pub lines-hold : (l : Example) → List·Memᴰ l lines → Holding R2 l
 lines-hold l =
-    told R2 r2-in-range (listed (peaks A) is (just 40 ∷ just 60 ∷ [])) ((refl, refl), ((refl, refl), tt)) peaks-set (leZ-yes tt, ltZ-yes tt, leZ-yes tt)
+    told R2 r2-in-range (listed (peaks A) is (just 40 ∷ [])) ((refl, refl), tt) peaks-set (leZ-yes tt)
     also told R2 r2-in-range (listed (dips A) is []) tt dips-set tt
     also (λ m. absurd (List·Memᴰ·not-nil m))

@@ -2,7 +2,7 @@
 use Prim.Native.Nat.{ℕ, suc, _-_, min}
 use native.Mathlib.Omega.{arith}
 use mathlib.Core.Path.{_≡_, refl, sym, ap, ap₂, _∙_, subst}
-use mathlib.Core.Bool.{Bool, true, false, _&&_, not, So}
+use mathlib.Core.Bool.{Bool, true, false, _&&_, _||_, not, cond, So}
 use lib.Dec.{eqb}
 use mathlib.Core.Logic.{_↔_}
 use mathlib.Core.List.{List, [], _∷_, map, List·Memᴰ, List·Memᴰ·head, List·Memᴰ·tail}
@@ -11,7 +11,7 @@ use lib.IntN.{ℤ, _+ℤ_}
 use lib.Signed.{_≤ℤ_}
 use Rattle.number.specs.Axis.{whole}
 use Rattle.recording.specs.Condition.{Condition, when, pickFrom, pick, someOf}
-use Rattle.recording.specs.Reading.{Reading, Curve, A, B, value, slope, falls, rises, crossed, edge, top, Event, a-top, a-dip, a-crossing, an-upcrossing, event, nothing}
+use Rattle.recording.specs.Reading.{Reading, Curve, A, B, value, slope, falls, rises, crossed, edge, lastOfThose, turn, top, Event, a-top, a-dip, a-crossing, an-upcrossing, event, nothing}
 use Rattle.grammar.specs.Syntax.{of, T, Atom, compare, A-to-B, fall, rise, pigment, Listed, high, low, lowafter, capafter, peaks, dips, cross, crossup, dose, ampl, gaps, steps, lag, Text, atom, listed, or, and, neg, finally, globally, next, until, weakUntil}
 use Rattle.meaning.specs.Listed.{recordAt, SomeRecord, EachRecord, TimeOf, After, Says}
 use Rattle.meaning.specs.Meaning.{lastOf, readingAt, operand, Relates, AtomSays, Finally, Globally, Until, WeakUntil, Holds}
@@ -41,9 +41,24 @@ edge-blind : (P : Reading → Bool) → ((x : Reading) → P (bare x) ≡ P x) �
 edge-blind P h [] x a = refl
 edge-blind P h (y ∷ b) x a = ap₂ (λ (e f : Bool). e && not f) (h x) (h y)
 
+module _ (P Q : Reading → Bool) (p : (x : Reading) → P (bare x) ≡ P x) (q : (x : Reading) → Q (bare x) ≡ Q x) where
+  last-blind : (b : List Reading) → lastOfThose (λ y. P y || Q y) P (map bare b) ≡ lastOfThose (λ y. P y || Q y) P b
+  last-blind [] = refl
+  last-blind (y ∷ b) = λ i. cond (p y i || q y i) (p y i) (last-blind b i)
+
+  turn-blind : Blind (turn P Q)
+  turn-blind [] x a = refl
+  turn-blind (y ∷ b) x a = λ i. q x i && (not (q y i) && last-blind (y ∷ b) i)
+
+falls-blind : (c : Curve) (x : Reading) → falls c (bare x) ≡ falls c x
+falls-blind c x = ap (λ (s : ℕ). eqb s 0) (bare-slope c x)
+
+rises-blind : (c : Curve) (x : Reading) → rises c (bare x) ≡ rises c x
+rises-blind c x = ap (λ (s : ℕ). eqb s 2) (bare-slope c x)
+
 event-blind : (e : Event) → Blind (event e)
-event-blind (a-top c) = edge-blind (falls c) (λ x. ap (λ (s : ℕ). eqb s 0) (bare-slope c x))
-event-blind (a-dip c) = edge-blind (rises c) (λ x. ap (λ (s : ℕ). eqb s 2) (bare-slope c x))
+event-blind (a-top c) = turn-blind (rises c) (falls c) (rises-blind c) (falls-blind c)
+event-blind (a-dip c) = turn-blind (falls c) (rises c) (falls-blind c) (rises-blind c)
 event-blind a-crossing = edge-blind crossed (λ x. refl)
 event-blind an-upcrossing = edge-blind (λ x. not (crossed x)) (λ x. refl)
 

@@ -394,7 +394,10 @@ R2-hold =
           thinned R2 R2-accepted _ _ refl (refl, tt) refl,
           (
             thinned R2 R2-accepted _ _ refl (refl, tt) refl,
-            tt,
+            (
+              thinned R2 R2-accepted _ _ refl (refl, tt) refl,
+              tt,
+            ),
           ),
         ),
       ),
