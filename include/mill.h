@@ -20,11 +20,14 @@
 **   offset 14   the pigment added here, 1 to MILL_MAX_PIGMENT; 0 for none
 **   offset 15   zero
 **
-** A top of a curve is a record after the first whose slope falls while the
-** record before does not fall; a dip is one that rises while the record before
-** does not rise. A crossing is a record with A <= B after one with A > B, an
-** upward crossing one with A > B after one with A <= B. An addition is a record
-** with a pigment; pigments are numbered as the tin's label counts them.
+** A top of a curve is a falling record, the record before it not falling, whose
+** last record before it that is not flat rises, however far back. A dip is the
+** mirror: a rising record, the record before it not rising, whose last record
+** before it that is not flat falls. So falling, flat, falling is no top, and the
+** first record is neither but may be the rise or the fall of one. A crossing is a
+** record with A <= B after one with A > B, an upward crossing one with A > B after
+** one with A <= B. An addition is a record with a pigment; pigments are numbered
+** as the tin's label counts them.
 **
 **
 ** TEXT. A question in 1 to MILL_MAX_TEXT bytes, without blanks and without a
@@ -243,17 +246,26 @@ uint64_t mill_pair(const uint8_t *recording, size_t recording_len, uint32_t curv
 ** and unaltered: the first and the last record; for each curve the first
 ** record of the greatest and of the least value; the same among the records
 ** with T > k for each mark k; each top, each dip, each crossing and each upward
-** crossing, and the record before it; each addition, by itself. Writes them
-** into out and returns how many bytes they are: at most 2 * (tops of A + tops of
-** B + dips of A + dips of B + crossings + upward crossings) + 6 + 4 * marks +
-** additions records, and never more than the recording.
+** crossing, and the record before it; the last rising record before each top and
+** the last falling one before each dip; for each curve the last record of all
+** that is not flat; each addition, by itself. Writes them into out and returns how
+** many bytes they are: at most 3 * (tops of A + tops of B + dips of A + dips of B)
+** + 2 * (crossings + upward crossings) + 8 + 4 * marks + additions records, and
+** never more than the recording.
 **
 ** Kept readings answer as the recording does: every question that writes none
 ** of F, G, X, U and W and whose after-times (the k of lowafter and capafter)
 ** are among the marks gets the same bytes or the same refusal, in mill_degree
 ** and mill_band too; mill_pair gives the same two times, and mill_order the same
 ** time and line. Other questions may be asked of kept readings and are answered of
-** those alone.
+** those alone. Take five readings at the times 0 to 4, all of one value, A flat,
+** rising, flat, flat and falling: kept are those at 0, 1, 3 and 4. peaks(A) is 4
+** of these as of the five; but F(T=v), which is 0 to 4 of the five, lacks 2.
+**
+** Readings that were kept by a version in which a top needed no rise carry no such
+** assurance: they may lack the rise. Of the five above the first version kept
+** those at 0, 3 and 4, and of these peaks(A) is empty. Where the full recording
+** is still there, thin it again; the bytes of a list do not tell how it was kept.
 **
 ** A recording may be thinned piece by piece, cut between readings: hand in the
 ** readings held with the next piece behind them, under the same marks. What is

@@ -196,9 +196,11 @@ fn kept(records: &[Record], marks: &[i32]) -> Vec<bool> {
     let last = records.len() - 1;
     kept[0] = true;
     kept[last] = true;
-    // From the last record to the first: the first greatest and the first least of each curve so far.
+    // From the last record to the first: the first greatest and the first least of each curve so far, and its first record that
+    // is not flat, with the slope; flat while there is none.
     let mut most = [last; 2];
     let mut least = [last; 2];
+    let mut moving = [(last, FLAT); 2];
     let mut marks = marks.iter().rev().skip_while(|mark| records[last].time <= **mark).peekable();
     for i in (0..=last).rev() {
         let here = &records[i];
@@ -215,11 +217,23 @@ fn kept(records: &[Record], marks: &[i32]) -> Vec<bool> {
             if here.value[curve] <= records[least[curve]].value[curve] {
                 least[curve] = i;
             }
+            let slope = here.slope[curve];
+            if slope != FLAT {
+                let (next, next_slope) = std::mem::replace(&mut moving[curve], (i, slope));
+                if slope != next_slope {
+                    // The last that is not flat, of all or before a top or a dip.
+                    kept[i] = true;
+                    if next_slope != FLAT {
+                        kept[next - 1] = true;
+                        kept[next] = true;
+                    }
+                }
+            }
         }
         if here.pigment != 0 {
             kept[i] = true;
         }
-        if i > 0 && is_event(&records[i - 1], here) {
+        if i > 0 && above(&records[i - 1]) != above(here) {
             kept[i] = true;
             kept[i - 1] = true;
         }
@@ -230,31 +244,31 @@ fn kept(records: &[Record], marks: &[i32]) -> Vec<bool> {
     kept
 }
 
-/// A top or a dip of a curve, or a crossing either way.
-fn is_event(before: &Record, here: &Record) -> bool {
-    let turn = |curve: usize| here.slope[curve] != before.slope[curve] && here.slope[curve] != FLAT;
-    turn(0) || turn(1) || above(here) != above(before)
-}
-
 fn above(record: &Record) -> bool {
     record.value[0] > record.value[1]
 }
 
-fn is_top(before: &Record, here: &Record, curve: usize) -> bool {
-    here.slope[curve] == FALLING && before.slope[curve] != FALLING
+/// The times of the curve's tops, where it goes over from rising to falling, or of its dips, where `to` is rising.
+fn turns(records: &[Record], curve: usize, to: u8) -> impl Iterator<Item = i32> + '_ {
+    let mut before = to;
+    let turn = move |record: &&Record| {
+        let slope = record.slope[curve];
+        let turn = slope == to && before != to;
+        if slope != FLAT {
+            before = slope;
+        }
+        turn
+    };
+    records.iter().filter(turn).map(|record| record.time)
 }
 
-fn is_dip(before: &Record, here: &Record, curve: usize) -> bool {
-    here.slope[curve] == RISING && before.slope[curve] != RISING
-}
-
-/// The times of the records that stand so to the record before.
-fn times<'a>(records: &'a [Record], is: impl Fn(&Record, &Record) -> bool + 'a) -> impl Iterator<Item = i32> + 'a {
-    records.windows(2).filter(move |two| is(&two[0], &two[1])).map(|two| two[1].time)
+/// The times of the records with A above B where `up`, else of those with A not above B, each after one of the other kind.
+fn crossings(records: &[Record], up: bool) -> impl Iterator<Item = i32> + '_ {
+    records.windows(2).filter(move |two| above(&two[0]) != up && above(&two[1]) == up).map(|two| two[1].time)
 }
 
 fn tops(records: &[Record], curve: usize) -> Vec<i32> {
-    times(records, move |before, here| is_top(before, here, curve)).collect()
+    turns(records, curve, FALLING).collect()
 }
 
 fn few_tops(records: &[Record], curve: usize) -> Result<Vec<i32>, Refused> {
@@ -454,10 +468,10 @@ fn listed_set(records: &[Record], listed: Op, out: &mut Set) {
         Op::Low(curve) => out.push((values(curve, -1).min().unwrap(), HIGH)),
         Op::LowAfter(curve, k) => out.extend(values(curve, k).min().map(|least| (least, HIGH))),
         Op::CapAfter(curve, k) => out.push((values(curve, k).max().unwrap_or(LOW), HIGH)),
-        Op::Peaks(curve) => out.extend(times(records, |before, here| is_top(before, here, curve)).map(single)),
-        Op::Dips(curve) => out.extend(times(records, |before, here| is_dip(before, here, curve)).map(single)),
-        Op::Cross => out.extend(times(records, |before, here| above(before) && !above(here)).map(single)),
-        Op::Crossup => out.extend(times(records, |before, here| !above(before) && above(here)).map(single)),
+        Op::Peaks(curve) => out.extend(turns(records, curve, FALLING).map(single)),
+        Op::Dips(curve) => out.extend(turns(records, curve, RISING).map(single)),
+        Op::Cross => out.extend(crossings(records, false).map(single)),
+        Op::Crossup => out.extend(crossings(records, true).map(single)),
         // Neighbours among these times join.
         Op::Dose(k) => records.iter().filter(|record| record.pigment == k).for_each(|record| add(out, single(record.time))),
         Op::Ampl(curve) => out.push((LOW, values(curve, -1).max().unwrap() - values(curve, -1).min().unwrap())),

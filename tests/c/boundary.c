@@ -1,6 +1,7 @@
 /*
 ** Covers: mill.h as a C99 program uses it. R1's lines, R2's and R3's, every refusal, null with length 0, memory that stays as it was,
-** and thinning piece by piece. Exits with 1 and says why if anything differs.
+** thinning piece by piece, and plateaus: what the header says of five readings, and one that fills a recording. Exits with 1 and says
+** why if anything differs.
 */
 #include "mill.h"
 
@@ -122,7 +123,8 @@ static void questions(void)
     EXPECT(answers("dips(A)", 1, dips_a));
     EXPECT(answers("dips(B)", 0, NULL));
     EXPECT(answers("crossup", 2, crossup));
-    EXPECT(answers("F(!rise(A)&X(rise(A)&T=v))", 1, dips_a));
+    EXPECT(answers("F(rise(A)&X(U(!rise(A)&!fall(A),fall(A)&T=v)))", 2, peaks_a));
+    EXPECT(answers("F(fall(A)&X(U(!fall(A)&!rise(A),rise(A)&T=v)))", 1, dips_a));
     EXPECT(answers("F(A<=B&X(A>B&T=v))", 2, crossup));
     EXPECT(answers("lag", 0, NULL));
     EXPECT(answers("dose(1)", 0, NULL));
@@ -252,7 +254,7 @@ static void first_of_several_pairs(void)
     for (i = 0; i < 2; i++)
         put_record(recording + MILL_RECORD_BYTES * i, (uint32_t)i, 0, 0, MILL_FLAT, MILL_FLAT);
     for (i = 0; i < 4; i++) {
-        put_record(recording + MILL_RECORD_BYTES * (2 * i + 2), tops[i] - 1, 0, 0, MILL_FLAT, MILL_FLAT);
+        put_record(recording + MILL_RECORD_BYTES * (2 * i + 2), tops[i] - 1, 0, 0, MILL_RISING, MILL_FLAT);
         put_record(recording + MILL_RECORD_BYTES * (2 * i + 3), tops[i], 0, 0, MILL_FALLING, MILL_FLAT);
     }
     EXPECT(mill_pair(recording, sizeof recording, MILL_CURVE_A, 30, &earlier, &later) == MILL_PAIR);
@@ -279,8 +281,25 @@ static void make_dips(uint32_t dips)
     uint32_t i;
     for (i = 0; i < MILL_MAX_RECORDS; i++) {
         int here = i % 2 == 1 && i / 2 < dips;
-        put_record(large + MILL_RECORD_BYTES * i, i, here, 0, here ? MILL_RISING : MILL_FLAT, MILL_FLAT);
+        put_record(large + MILL_RECORD_BYTES * i, i, here, 0, here ? MILL_RISING : MILL_FALLING, MILL_FLAT);
     }
+}
+
+/* MILL_MAX_RECORDS records, falling and flat by turns: 2,048 falls, and no top. */
+static void make_shoulders(void)
+{
+    uint32_t i;
+    for (i = 0; i < MILL_MAX_RECORDS; i++)
+        put_record(large + MILL_RECORD_BYTES * i, i, 0, 0, i % 2 == 0 ? MILL_FALLING : MILL_FLAT, MILL_FLAT);
+}
+
+/* MILL_MAX_RECORDS records, the first rising, the last falling, and all between them flat. */
+static void make_plateau(void)
+{
+    uint32_t i;
+    for (i = 0; i < MILL_MAX_RECORDS; i++)
+        put_record(large + MILL_RECORD_BYTES * i, i, 0, 0, i == 0 ? MILL_RISING : i + 1 < MILL_MAX_RECORDS ? MILL_FLAT : MILL_FALLING,
+                   MILL_FLAT);
 }
 
 /* MILL_MAX_RECORDS records, so many of them with pigment 1, every so many records from the first on. */
@@ -345,6 +364,9 @@ static void refused_questions(void)
     EXPECT(refused(large, sizeof large - MILL_RECORD_BYTES, "gaps(A)") == 0);
     make_tops(MILL_MAX_TOPS + 1);
     EXPECT(refused(large, sizeof large - MILL_RECORD_BYTES, "steps(A)") == MILL_TOO_MANY_TOPS);
+    make_shoulders();
+    EXPECT(answers_of(large, sizeof large - MILL_RECORD_BYTES, "peaks(A)|dips(A)", 0, NULL));
+    EXPECT(answers_of(large, sizeof large - MILL_RECORD_BYTES, "gaps(A)|steps(A)|lag", 0, NULL));
     EXPECT(MILL_NUMBER(ask("peaks(A)", out, sizeof out)) == MILL_SHORT_OUTPUT);
 }
 
@@ -470,7 +492,7 @@ static void thinning_of_r1(void)
 
 static void thinning_of_r2(void)
 {
-    static const uint32_t plain[] = {0, 30, 40, 50, 60, 80}, marked[] = {0, 20, 30, 40, 50, 60, 80};
+    static const uint32_t plain[] = {0, 10, 30, 40, 60, 80}, marked[] = {0, 10, 20, 30, 40, 60, 80};
     static const uint8_t right_after[] = "F(A=9&X(A=v))";
     uint8_t mark[MILL_MARK_BYTES], out[R2_BYTES], held[2 * R2_BYTES], set[MILL_SET_BYTES];
     size_t readings;
@@ -479,7 +501,7 @@ static void thinning_of_r2(void)
     EXPECT(times(out, (size_t)mill_thin(r2, R2_BYTES, NULL, 0, out, sizeof out), plain, 6));
     EXPECT(out[96] == 0xA5 && out[127] == 0xA5);
     EXPECT(mill_question(r2, R2_BYTES, right_after, sizeof right_after - 1, set, sizeof set) == MILL_RUN_BYTES && number_at(set) == 8);
-    EXPECT(mill_question(out, 96, right_after, sizeof right_after - 1, set, sizeof set) == 0);
+    EXPECT(mill_question(out, 96, right_after, sizeof right_after - 1, set, sizeof set) == MILL_RUN_BYTES && number_at(set) == 7);
     EXPECT(times(out, (size_t)mill_thin(r2, R2_BYTES, mark, sizeof mark, out, sizeof out), marked, 7));
     for (readings = 1; readings <= R2_RECORDS; readings++) {
         EXPECT(times(held, thin_in_pieces(r2, R2_BYTES, readings, NULL, 0, held), plain, 6));
@@ -490,13 +512,13 @@ static void thinning_of_r2(void)
 /* Each addition is kept, without the record before it, and what is kept answers as the whole. */
 static void thinning_of_r3(void)
 {
-    static const uint32_t plain[] = {0, 20, 30, 40, 50, 60, 80};
+    static const uint32_t plain[] = {0, 10, 20, 30, 40, 60, 80};
     const int64_t dose_7[] = {20, 20}, dose_16[] = {40, 40};
     uint8_t out[R2_BYTES], held[2 * R2_BYTES];
     size_t readings;
     EXPECT(MILL_NUMBER(mill_thin(r3, R2_BYTES, NULL, 0, out, 111)) == MILL_SHORT_OUTPUT);
     EXPECT(times(out, (size_t)mill_thin(r3, R2_BYTES, NULL, 0, out, 112), plain, 7));
-    EXPECT(out[14] == 0 && out[MILL_RECORD_BYTES + 14] == 7 && out[3 * MILL_RECORD_BYTES + 14] == MILL_MAX_PIGMENT);
+    EXPECT(out[14] == 0 && out[2 * MILL_RECORD_BYTES + 14] == 7 && out[4 * MILL_RECORD_BYTES + 14] == MILL_MAX_PIGMENT);
     EXPECT(answers_of(out, 112, "dose(7)", 1, dose_7));
     EXPECT(answers_of(out, 112, "dose(16)", 1, dose_16));
     for (readings = 1; readings <= R2_RECORDS; readings++)
@@ -504,6 +526,30 @@ static void thinning_of_r3(void)
     make_additions(MILL_MAX_RECORDS, 1);
     EXPECT(mill_thin(large, sizeof large - MILL_RECORD_BYTES, NULL, 0, thinned, sizeof thinned) == sizeof thinned);
     EXPECT(memcmp(thinned, large, sizeof thinned) == 0);
+}
+
+/* The five readings of the header: flat, rising, flat, flat, falling. */
+static void thinning_of_a_plateau(void)
+{
+    static const uint8_t slope[] = {MILL_FLAT, MILL_RISING, MILL_FLAT, MILL_FLAT, MILL_FALLING};
+    static const uint32_t kept_times[] = {0, 1, 3, 4}, long_times[] = {0, MILL_MAX_RECORDS - 2, MILL_MAX_RECORDS - 1};
+    static const size_t before[] = {0, 3, 4};
+    const int64_t top[] = {4, 4}, all[] = {0, 4}, left[] = {0, 1, 3, 4}, last[] = {MILL_MAX_RECORDS - 1, MILL_MAX_RECORDS - 1};
+    uint8_t five[5 * MILL_RECORD_BYTES], kept[sizeof five], old[3 * MILL_RECORD_BYTES], held[2 * R2_BYTES];
+    size_t i;
+    for (i = 0; i < 5; i++)
+        put_record(five + MILL_RECORD_BYTES * i, (uint32_t)i, 7, 7, slope[i], MILL_FLAT);
+    for (i = 0; i < 3; i++)
+        memcpy(old + MILL_RECORD_BYTES * i, five + MILL_RECORD_BYTES * before[i], MILL_RECORD_BYTES);
+    EXPECT(times(kept, (size_t)mill_thin(five, sizeof five, NULL, 0, kept, sizeof kept), kept_times, 4));
+    EXPECT(answers_of(five, sizeof five, "peaks(A)", 1, top) && answers_of(kept, 64, "peaks(A)", 1, top));
+    EXPECT(answers_of(five, sizeof five, "F(T=v)", 1, all) && answers_of(kept, 64, "F(T=v)", 2, left));
+    EXPECT(answers_of(old, sizeof old, "peaks(A)", 0, NULL));
+    for (i = 1; i <= 5; i++)
+        EXPECT(times(held, thin_in_pieces(five, sizeof five, i, NULL, 0, held), kept_times, 4));
+    make_plateau();
+    EXPECT(times(thinned, (size_t)mill_thin(large, sizeof thinned, NULL, 0, thinned, sizeof thinned), long_times, 3));
+    EXPECT(answers_of(large, sizeof thinned, "peaks(A)", 1, last) && answers_of(thinned, 48, "peaks(A)", 1, last));
 }
 
 int main(void)
@@ -525,6 +571,7 @@ int main(void)
     thinning_of_r1();
     thinning_of_r2();
     thinning_of_r3();
+    thinning_of_a_plateau();
     printf("boundary.c: %d failures\n", failures);
     return failures == 0 ? 0 : 1;
 }

@@ -12,6 +12,7 @@ fn main() {
     thinning();
     thinning_of_all_events();
     thinning_of_additions();
+    thinning_of_plateaus();
     thinning_of_fewer();
     listed();
     doses();
@@ -56,6 +57,15 @@ fn thinning_of_additions() {
     }
 }
 
+/// Rises and falls by turns, so many flat readings between them: the cost is that of the readings, however long the plateaus.
+fn thinning_of_plateaus() {
+    for flat in [14, 62, RECORDS - 2] {
+        let recording = bytes(&with_plateaus(flat));
+        let name = format!("thin, plateaus of {flat} readings, 0 marks");
+        writing(&name, 1.2, |out| mill::thin_into(&recording, &[], out), |out| plain::thin(&recording, &[], out));
+    }
+}
+
 /// The cost grows with the records: a quarter and half of them.
 fn thinning_of_fewer() {
     for records in [RECORDS / 4, RECORDS / 2] {
@@ -71,6 +81,9 @@ fn listed() {
         let readings = with_tops(&evenly(tops, RECORDS), &[]);
         question(&format!("peaks(A), {tops} tops"), 1.2, &readings, "peaks(A)");
         question(&format!("dips(A), {tops} dips"), 1.2, &readings, "dips(A)");
+    }
+    for flat in [14, 62, RECORDS - 2] {
+        question(&format!("peaks(A), plateaus of {flat} readings"), 1.2, &with_plateaus(flat), "peaks(A)");
     }
     let (many, by) = (evenly(256, RECORDS), |step: usize| (0..256).map(|i| 1 + step * i).collect::<Vec<_>>());
     question("gaps(A), 64 tops evenly", 1.0, &with_tops(&evenly(64, RECORDS), &[]), "gaps(A)");
@@ -269,6 +282,20 @@ fn with_tops(of_a: &[usize], of_b: &[usize]) -> Vec<Reading> {
         pigment: 0,
     };
     (0..RECORDS).map(reading).collect()
+}
+
+/// The same values, both curves flat but for a rise or a fall by turns behind each `flat` readings; the first rises.
+fn with_plateaus(flat: usize) -> Vec<Reading> {
+    let mut readings = with_tops(&[], &[]);
+    for (index, reading) in readings.iter_mut().enumerate() {
+        let slope = match (index % (flat + 1), index / (flat + 1) % 2) {
+            (0, 0) => Slope::Rising,
+            (0, _) => Slope::Falling,
+            _ => Slope::Flat,
+        };
+        (reading.slope_a, reading.slope_b) = (slope, slope);
+    }
+    readings
 }
 
 /// 64 tops of A, and so many additions of pigment 1, evenly spaced.

@@ -82,12 +82,12 @@ fn inputs_may_overlap() {
     let mut out = [0u8; 144];
     // SAFETY: the pointers lie within R2 and the output.
     unsafe {
-        // The second record's time as the only mark, then that of the last but one with its A as two.
+        // The second record's time as the only mark, then that of the fifth with its A as two.
         let length = mill_thin(r2.as_ptr(), 144, r2.as_ptr().add(16), 4, out.as_mut_ptr(), 144);
         let expected = mill::thin(&r2, &[10]).unwrap();
         assert_eq!((out[..length as usize].to_vec(), length), (expected, 7 * 16));
-        let length = mill_thin(r2.as_ptr(), 144, r2.as_ptr().add(112), 8, out.as_mut_ptr(), 144);
-        let expected = mill::thin(&r2, &[70, 3]).unwrap();
+        let length = mill_thin(r2.as_ptr(), 144, r2.as_ptr().add(64), 8, out.as_mut_ptr(), 144);
+        let expected = mill::thin(&r2, &[40, 6]).unwrap();
         assert_eq!((out[..length as usize].to_vec(), length), (expected, 7 * 16));
     }
 }

@@ -6,7 +6,11 @@ use crate::support::cases::begin;
 use crate::support::r1::{r1_bytes, RIGHT_AFTER};
 use crate::support::r2::{self, r2_bytes};
 use crate::support::r3::{self, r3_bytes};
-use crate::support::recordings::{flat, with_additions, with_crossings, with_dips, with_tops, with_tops_at, with_values};
+use crate::support::r4::{self, r4_bytes};
+use crate::support::recordings::{flat, plateau, upside_down, with_additions, with_crossings, with_dips, with_most_tops};
+use crate::support::recordings::{with_slopes, with_tops, with_tops_at, with_values};
+use crate::support::slopes::{every, written, TURNS};
+use crate::support::texts::turns;
 use mill::reference::recording::{bytes, Record, FALLING, FLAT, RISING};
 use mill::reference::set::{HIGH, LOW};
 use mill::Run;
@@ -41,7 +45,8 @@ fn r1_keeps_what_comes_right_after() {
 
 #[test]
 fn what_is_not_kept_is_lost() {
-    for (recording, length, lost) in [(r2_bytes(), 96, &r2::LOST[..]), (r3_bytes(), 128, &r3::LOST)] {
+    for (recording, length, lost) in [(r2_bytes(), 96, &r2::LOST[..]), (r3_bytes(), 128, &r3::LOST), (r4_bytes(), 64, &r4::LOST)]
+    {
         assert_eq!(thin(&recording, &[], length), 0);
         assert_eq!(thin(&recording, &[], length - 1), 10);
         let kept = mill::thin(&recording, &[]).unwrap();
@@ -65,8 +70,8 @@ fn two_hundred_and_fifty_six_runs_and_one_more() {
         assert_eq!(refused(&tops(256), &format!("!peaks({curve})")), 8);
         assert_eq!(refused(&tops(256), &format!("!!peaks({curve})")), 8);
         assert_eq!(runs(&tops(255), &format!("!peaks({curve})")).len(), 256);
-        assert_eq!(refused(&tops(256), &format!("F(!fall({curve})&X(fall({curve})&T=v))")), 0);
-        assert_eq!(refused(&tops(257), &format!("F(!fall({curve})&X(fall({curve})&T=v))")), 8);
+        assert_eq!(refused(&tops(256), &turns("rise", "fall", curve)), 0);
+        assert_eq!(refused(&tops(257), &turns("rise", "fall", curve)), 8);
         assert_eq!(degree(&tops(256), format!("peaks({curve})").as_bytes(), 9), 0);
         assert_eq!(degree(&tops(257), format!("peaks({curve})").as_bytes(), 9), 8);
         // The other curve has none.
@@ -79,7 +84,7 @@ fn two_hundred_and_fifty_six_runs_and_one_more() {
 fn two_hundred_and_fifty_six_dips_and_one_more() {
     for (curve, other) in [("A", "B"), ("B", "A")] {
         let dips = |count: usize| bytes(&with_dips(4096, if curve == "A" { [count, 0] } else { [0, count] }));
-        let (text, formula) = (format!("dips({curve})"), format!("F(!rise({curve})&X(rise({curve})&T=v))"));
+        let (text, formula) = (format!("dips({curve})"), turns("fall", "rise", curve));
         let every: Vec<(i64, i64)> = (0..256).map(|i| 1 + i * 4095 / 256).map(|time| (time, time)).collect();
         assert_eq!(runs(&dips(256), &text), every);
         assert_eq!(runs(&dips(256), &formula), every);
@@ -94,7 +99,8 @@ fn two_hundred_and_fifty_six_dips_and_one_more() {
         assert_eq!(runs(&dips(255), &format!("!dips({curve})")).len(), 256);
         assert_eq!(runs(&dips(257), &format!("dips({other})")), []);
         // 9 is not for dips.
-        assert_eq!(refused(&dips(4096 / 2), &text), 8);
+        let most = upside_down(with_most_tops(usize::from(curve == "B"), 4096));
+        assert_eq!(refused(&bytes(&most), &text), 8);
     }
 }
 
@@ -203,12 +209,12 @@ fn the_atom_of_a_pigment() {
     for (text, expected) in r3::ANSWERS {
         assert_eq!(runs(&r3, text), expected, "{text}");
     }
-    assert_eq!(runs(&r3, "X(X(P=3&T=v))"), [(20, 20)]);
-    assert_eq!(runs(&r3, "U(!P=16,P=16&T=v)"), [(70, 70)]);
-    assert_eq!(runs(&r3, "W(P=3,T=v)"), [(0, 0), (10, 10)]);
+    assert_eq!(runs(&r3, "X(X(P=7&T=v))"), [(20, 20)]);
+    assert_eq!(runs(&r3, "U(!P=16,P=16&T=v)"), [(40, 40)]);
+    assert_eq!(runs(&r3, "W(!P=7,T=v)"), [(0, 0), (10, 10), (20, 20)]);
     assert_eq!(runs(&r3, "G(!P=1)"), [(LOW, HIGH)]);
-    assert_eq!(runs(&r3, "F(P=3&rise(A)&T=v)"), [(0, 0)]);
-    assert_eq!(runs(&r3, "P=3&high(A)"), [(LOW, 10)]);
+    assert_eq!(runs(&r3, "F(P=16&fall(A)&T=v)"), [(40, 40)]);
+    assert_eq!(runs(&r3, "!P=7&high(A)"), [(LOW, 10)]);
     // A of 3, T of 3 and a slope of 2 are no pigments.
     let records = [Record { time: 3, value: [3, 3], slope: [RISING, RISING], pigment: 1 }];
     for k in 1..=16 {
@@ -281,10 +287,10 @@ fn four_thousand_and_ninety_six_records_and_one_more() {
     let mut bad = most.clone();
     bad[65_535] = 1;
     assert_eq!(refused(&bad, ""), 3);
-    let mut top = flat(4096);
-    top[4095].slope = [FALLING, FLAT];
+    let mut top = plateau(0, 0, 4094);
     top[4095].value = [5, 0];
     assert_eq!(runs(&bytes(&top), "peaks(A)|high(A)&A<v"), [(1, 5), (4095, 4095)]);
+    assert_eq!(runs(&bytes(&top), &turns("rise", "fall", "A")), [(4095, 4095)]);
 }
 
 #[test]
@@ -519,28 +525,117 @@ fn the_last_record_repeats() {
     assert_eq!(runs(&r1, "F(fall(A)&!X(!fall(A))&T=v)"), [(30, 30), (70, 70)]);
 }
 
+/// The runs of these times.
+fn singles(times: &[i64]) -> Vec<(i64, i64)> {
+    times.iter().map(|time| (*time, *time)).collect()
+}
+
 #[test]
-fn tops_by_the_recorded_slopes() {
-    let slopes = |slopes: &[u8]| {
-        let record = |(time, slope): (usize, &u8)| Record {
-            time: time as i64,
-            value: [time as i64, 0],
-            slope: [*slope, FLAT],
-            pigment: 0,
-        };
-        bytes(&slopes.iter().enumerate().map(record).collect::<Vec<_>>())
-    };
-    assert_eq!(runs(&slopes(&[FALLING, FALLING]), "peaks(A)"), []);
-    assert_eq!(runs(&slopes(&[FALLING, FLAT, FALLING]), "peaks(A)"), [(2, 2)]);
-    assert_eq!(runs(&slopes(&[FLAT, FALLING]), "peaks(A)"), [(1, 1)]);
-    assert_eq!(runs(&slopes(&[RISING, FALLING, RISING, FALLING]), "peaks(A)"), [(1, 1), (3, 3)]);
-    assert_eq!(runs(&slopes(&[RISING, FLAT, RISING]), "peaks(A)"), []);
-    assert_eq!(runs(&slopes(&[RISING, RISING]), "dips(A)"), []);
-    assert_eq!(runs(&slopes(&[RISING, FLAT, RISING]), "dips(A)"), [(2, 2)]);
-    assert_eq!(runs(&slopes(&[FLAT, RISING]), "dips(A)"), [(1, 1)]);
-    assert_eq!(runs(&slopes(&[FALLING, RISING, FALLING, RISING]), "dips(A)"), [(1, 1), (3, 3)]);
-    assert_eq!(runs(&slopes(&[FALLING, FLAT, FALLING]), "dips(A)"), []);
-    assert_eq!(runs(&slopes(&[FALLING, FLAT, FLAT, RISING, RISING]), "dips(A)"), [(3, 3)]);
+fn tops_and_dips_by_the_recorded_slopes() {
+    for (slopes, tops, dips) in TURNS {
+        for (curve, name, other) in [(0, "A", "B"), (1, "B", "A")] {
+            let up = with_slopes(curve, &written(slopes));
+            let down = upside_down(up.clone());
+            for (recording, tops, dips) in [(bytes(&up), tops, dips), (bytes(&down), dips, tops)] {
+                for text in [format!("peaks({name})"), turns("rise", "fall", name)] {
+                    assert_eq!(runs(&recording, &text), singles(tops), "{slopes}");
+                }
+                for text in [format!("dips({name})"), turns("fall", "rise", name)] {
+                    assert_eq!(runs(&recording, &text), singles(dips), "{slopes}");
+                }
+                assert_eq!(runs(&recording, &format!("peaks({other})|dips({other})")), [], "{slopes}");
+            }
+        }
+    }
+}
+
+/// The names and their formulas, of every list of up to seven slopes.
+#[test]
+fn turns_of_every_seven_slopes() {
+    for slopes in every(7) {
+        let recording = bytes(&with_slopes(0, &slopes));
+        assert_eq!(runs(&recording, "peaks(A)"), runs(&recording, &turns("rise", "fall", "A")), "{slopes:?}");
+        assert_eq!(runs(&recording, "dips(A)"), runs(&recording, &turns("fall", "rise", "A")), "{slopes:?}");
+    }
+}
+
+/// Falling, flat, falling: 2,047 shoulders, and no top for any question on tops.
+#[test]
+fn shoulders_are_no_tops() {
+    for (curve, name) in [(0, "A"), (1, "B")] {
+        let shoulders = bytes(&with_slopes(curve, &[FALLING, FLAT].repeat(2048)));
+        for text in ["peaks(c)", "dips(c)", "gaps(c)", "steps(c)", "lag"] {
+            assert_eq!(runs(&shoulders, &text.replace('c', name)), [], "{text}");
+        }
+        assert_eq!(runs(&shoulders, &turns("rise", "fall", name)), []);
+        // A rise before them all makes the first of them one.
+        let one = bytes(&with_slopes(curve, &[&[RISING][..], &[FLAT, FALLING].repeat(2047), &[FLAT]].concat()));
+        assert_eq!(runs(&one, &format!("peaks({name})")), [(2, 2)]);
+        assert_eq!(runs(&one, &turns("rise", "fall", name)), [(2, 2)]);
+        assert_eq!(runs(&one, &format!("gaps({name})|dips({name})")), []);
+    }
+}
+
+/// One plateau, as long as there can be, and two behind each other.
+#[test]
+fn long_plateaus() {
+    for (curve, name) in [(0, "A"), (1, "B")] {
+        let (peaks, dips) = (format!("peaks({name})"), format!("dips({name})"));
+        let one = plateau(curve, 0, 4094);
+        for text in [&peaks, &turns("rise", "fall", name)] {
+            assert_eq!(runs(&bytes(&one), text), [(4095, 4095)]);
+            assert_eq!(runs(&bytes(&upside_down(one.clone())), text), []);
+        }
+        for text in [&dips, &turns("fall", "rise", name)] {
+            assert_eq!(runs(&bytes(&upside_down(one.clone())), text), [(4095, 4095)]);
+            assert_eq!(runs(&bytes(&one), text), []);
+        }
+        let flat = vec![FLAT; 2046];
+        let two = bytes(&with_slopes(curve, &[&[RISING][..], &flat, &[FALLING], &flat, &[RISING]].concat()));
+        assert_eq!((runs(&two, &peaks), runs(&two, &dips)), (vec![(2047, 2047)], vec![(4094, 4094)]));
+        // Flat to the end: no top comes.
+        assert_eq!(runs(&bytes(&one[..4095]), &format!("{peaks}|{dips}")), []);
+    }
+}
+
+/// Gaps, steps, lag and number 9 count the tops that have a rise, and no other.
+#[test]
+fn differences_of_tops_with_a_rise() {
+    // A: tops at 3, 9, 20 and a shoulder at 12; B: a top at 7 and shoulders at 9 and 20.
+    let slopes_a = written("/--\\--/--\\--\\--/----\\---");
+    let slopes_b = written("-/-----\\-\\----------\\---");
+    let mut records = with_slopes(0, &slopes_a);
+    records.iter_mut().zip(&slopes_b).for_each(|(record, slope)| record.slope[1] = *slope);
+    let recording = bytes(&records);
+    assert_eq!(runs(&recording, "peaks(A)"), [(3, 3), (9, 9), (20, 20)]);
+    assert_eq!(runs(&recording, "peaks(B)"), [(7, 7)]);
+    assert_eq!(runs(&recording, "gaps(A)"), [(6, 6), (11, 11), (17, 17)]);
+    assert_eq!(runs(&recording, "steps(A)"), [(6, 6), (11, 11)]);
+    assert_eq!(runs(&recording, "lag"), [(-13, -13), (-2, -2), (4, 4)]);
+    assert_eq!(runs(&recording, "gaps(B)|steps(B)"), []);
+    // 256 tops among 1,024 falls, each after a rise and three flat records; one more is 9.
+    let tops = |count: usize| bytes(&with_slopes(0, &written("/---\\-\\-\\-\\").repeat(count)));
+    assert_eq!(runs(&tops(256), "steps(A)"), [(11, 11)]);
+    assert_eq!(runs(&tops(256), "gaps(A)").len(), 255);
+    assert_eq!(refused(&tops(257), "steps(A)"), 9);
+    assert_eq!(refused(&tops(257), "lag"), 9);
+    assert_eq!(refused(&tops(257), "peaks(A)"), 8);
+    assert_eq!(refused(&tops(257), "gaps(B)"), 0);
+}
+
+/// As many tops as there can be: rise, fall, rise, fall.
+#[test]
+fn two_thousand_and_forty_eight_tops() {
+    for (curve, name, other) in [(0, "A", "B"), (1, "B", "A")] {
+        let most = bytes(&with_most_tops(curve, 4096));
+        for text in [format!("peaks({name})"), turns("rise", "fall", name), turns("fall", "rise", name)] {
+            assert_eq!(refused(&most, &text), 8, "{text}");
+        }
+        for text in [format!("gaps({name})"), format!("steps({name})"), "lag".into(), format!("peaks({name})|lag")] {
+            assert_eq!(refused(&most, &text), 9, "{text}");
+        }
+        assert_eq!(runs(&most, &format!("peaks({other})|gaps({other})")), []);
+    }
 }
 
 #[test]

@@ -1,8 +1,10 @@
-//! Covers: every recording of up to three records over a small field set with all slopes; every way to add two pigments to six
-//! records; every pair of tops of nine records.
+//! Covers: every recording of up to three records over a small field set with all slopes; every list of up to six slopes; every way to
+//! add two pigments to six records; every pair of tops of nine records.
 
 use crate::calls::{degree, pair, question, thin};
 use crate::support::cases::begin;
+use crate::support::recordings::with_slopes;
+use crate::support::slopes::every;
 use mill::reference::recording::{bytes, Record};
 
 /// Every record with A and B out of these, and all slopes.
@@ -75,6 +77,31 @@ fn every_recording_of_three_records() {
     }
 }
 
+/// Slopes of A alone, and those of B the same from behind.
+#[test]
+fn every_list_of_six_slopes() {
+    for (case, slopes) in every(6).enumerate() {
+        begin("every list of six slopes", case as u64);
+        let mut records = with_slopes(0, &slopes);
+        for both in [false, true] {
+            if both {
+                records.iter_mut().zip(slopes.iter().rev()).for_each(|(record, slope)| record.slope[1] = *slope);
+            }
+            let recording = bytes(&records);
+            for text in ["peaks(A)|peaks(B)", "dips(A)|!dips(B)", "gaps(A)|lag", "!steps(B)"] {
+                question(&recording, text.as_bytes(), 64);
+            }
+            degree(&recording, b"peaks(A)", 3);
+            thin(&recording, &[], recording.len());
+            thin(&recording, &[2, 0, 0, 0], recording.len());
+            for gap in 1..=4 {
+                pair(&recording, 0, gap);
+                pair(&recording, 1, gap);
+            }
+        }
+    }
+}
+
 #[test]
 fn every_way_to_add_pigments_to_six_records() {
     let texts = [
@@ -109,8 +136,8 @@ fn every_pair_of_tops_of_nine_records() {
     for code in 0..1 << 9 {
         begin("every pair of tops of nine records", code);
         let falls = |index: u32| (code >> index & 1) as u8;
-        // A falls where the code says, B where it does not.
-        let slope = |index: u32| [2 - 2 * falls(index), falls(index)];
+        // A falls where the code says and rises else; B falls where it does not, and is flat or rises else.
+        let slope = |index: u32| [2 - 2 * falls(index), falls(index) * (1 + (index % 2) as u8)];
         let records: Vec<Record> =
             (0..9).map(|index| Record { time: 0, value: [0, 0], slope: slope(index), pigment: 0 }).collect();
         for times in [[0, 1, 2, 3, 4, 5, 6, 7, 8], [1, 2, 4, 5, 6, 8, 9, 10, 12]] {

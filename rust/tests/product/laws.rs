@@ -1,11 +1,12 @@
 //! Covers: what the library must do whatever the independent implementation says: plain questions answer alike on kept and on
-//! full readings, and each of the nine listed questions that stand for a formula is that formula, in set and in refusal 8.
+//! full readings, and on selections of readings with the kept ones in them, which thin back to these; and each of the nine listed
+//! questions that stand for a formula is that formula, in set and in refusal 8.
 
 use crate::calls::{bytes_of, degree, pair, question, Tally};
 use crate::question::room;
 use crate::support::cases::{begin, cases, one_alone};
 use crate::support::random::Random;
-use crate::support::recordings::{self, with_many_events};
+use crate::support::recordings::{self, with_many_events, with_many_plateaus};
 use crate::support::{sheets, texts};
 use mill::reference::kept::mark_bytes;
 use mill::reference::recording::{bytes, Record};
@@ -103,6 +104,10 @@ fn plain_questions_answer_alike_on_kept_readings() {
         let records = with_many_events(random);
         promises(random, &records);
     });
+    cases("kept as full, plateaus", 1_200, |random| {
+        let records = with_many_plateaus(random);
+        promises(random, &records);
+    });
     cases("kept as full, long", 40, |random| {
         let records = recordings::accepted(random, 4096);
         promises(random, &records);
@@ -113,6 +118,32 @@ fn plain_questions_answer_alike_on_kept_readings() {
         records.iter_mut().for_each(|record| record.pigment = random.between(1, 16) as u8);
         assert_eq!(promises(random, &records), 0);
     });
+}
+
+/// Readings of interest put back among the kept ones: they answer alike, and thin back to exactly the kept ones.
+#[test]
+fn selections_with_the_kept_readings() {
+    let mut put_back = 0;
+    cases("selections with the kept readings", 8_000, |random| {
+        let records = match random.below(12) {
+            0 => with_many_events(random),
+            1..=5 => recordings::any(random),
+            count => recordings::accepted(random, 6 * count),
+        };
+        let full = bytes(&records);
+        let marks = recordings::marks(random, &records);
+        let (_, kept) = bytes_of(&full, &mark_bytes(&marks), full.len(), mill_thin);
+        let seldom = random.pick(&[2, 2, 5, 20]);
+        let mut rest = kept.chunks(16).peekable();
+        let selection: Vec<&[u8]> =
+            full.chunks(16).filter(|record| rest.next_if_eq(record).is_some() || random.once_in(seldom)).collect();
+        let selection = selection.concat();
+        put_back += u64::from(kept.len() < selection.len() && selection.len() < full.len());
+        let (returned, thinned) = bytes_of(&selection, &mark_bytes(&marks), kept.len(), mill_thin);
+        assert_eq!((mill_number(returned), thinned), (0, kept), "marks {marks:?} of {records:?}");
+        same_answers(random, &records, &marks, &selection, &full);
+    });
+    assert!(one_alone() || put_back > 2_000, "readings were put back in {put_back} cases only");
 }
 
 /// What the user buys: a recording is thinned piece by piece, calls that are refused among them, the full one is wiped, and

@@ -6,13 +6,17 @@
 //! ```` ```mill kept 40 50 ```` those with these marks. ```` ```mill degree 51 ```` asks for degrees of this target: `met`,
 //! `distance d, degree g` or `no value`. ```` ```mill band 5 ```` asks within this band: `certain` and a set, `; possible` and a
 //! set. ```` ```mill order ```` checks order sheets, lines `a b` parted by `, `: `met`, or `line k broken at t`.
-//! ```` ```mill R2 ```` and ```` ```mill R3 ````, with any of these behind it, ask R2 and R3.
+//! ```` ```mill R2 ````, ```` ```mill R3 ```` and ```` ```mill R4 ````, with any of these behind it, ask R2, R3 and R4, and
+//! ```` ```mill R4 old ```` the readings that document 01's own rule kept of R4.
 //! Blank lines, and lines that begin with `#`, say nothing. A block ```` ```ask ```` holds lines `$ echo 'text' | ask`, each with
 //! what the program prints below it. Other fenced blocks are not looked at.
 
+use crate::support::old_rule::{kept_by, Rule};
 use crate::support::r1::{self, r1_bytes};
 use crate::support::r2::{self, r2_bytes};
 use crate::support::r3::{self, r3_bytes};
+use crate::support::r4::{self, r4_bytes};
+use mill::reference::recording::{bytes, in_rules};
 use mill::{Degree, Order, Refusal, Run};
 
 /// Of which recording.
@@ -21,6 +25,7 @@ enum Recording {
     R1,
     R2,
     R3,
+    R4,
 }
 
 /// How an example is asked, and its answer written.
@@ -28,6 +33,7 @@ enum Recording {
 enum Asked {
     OfFull,
     OfKept(Vec<u32>),
+    OfOldList,
     Degree(i64),
     Band(i64),
     Order,
@@ -95,12 +101,14 @@ fn block_of(name: &str) -> Result<Block, String> {
     let (recording, how) = match words[..] {
         ["mill", "R2", ref how @ ..] => (Recording::R2, how),
         ["mill", "R3", ref how @ ..] => (Recording::R3, how),
+        ["mill", "R4", ref how @ ..] => (Recording::R4, how),
         ["mill", ref how @ ..] => (Recording::R1, how),
         ["ask"] => return Ok(Block::Examples(Recording::R1, Asked::AtThePrompt)),
         _ => return Ok(Block::Other),
     };
     let asked = match how {
         [] => Asked::OfFull,
+        ["old"] => Asked::OfOldList,
         ["kept", marks @ ..] => {
             let marks: Result<Vec<u32>, _> = marks.iter().map(|mark| mark.parse()).collect();
             Asked::OfKept(marks.map_err(unread)?)
@@ -119,6 +127,7 @@ fn answer(example: &Example) -> String {
         Recording::R1 => r1_bytes(),
         Recording::R2 => r2_bytes(),
         Recording::R3 => r3_bytes(),
+        Recording::R4 => r4_bytes(),
     };
     let text = example.text.as_bytes();
     let written = match &example.asked {
@@ -126,6 +135,10 @@ fn answer(example: &Example) -> String {
         Asked::OfKept(marks) => {
             let kept = mill::thin(&recording, marks).expect("accepted marks");
             mill::question(&kept, text).map(|runs| on_the_page(&runs))
+        }
+        Asked::OfOldList => {
+            let old = kept_by(Rule::Document01, &in_rules(&recording).unwrap(), &[]);
+            mill::question(&bytes(&old), text).map(|runs| on_the_page(&runs))
         }
         Asked::Degree(target) => mill::degree(&recording, text, *target).map(|degree| match degree {
             Degree::Met => "met".into(),
@@ -221,10 +234,11 @@ fn the_page_answers_as_the_library() {
         "U(",
         "W(",
     ];
+    let is = |example: &Example, recording: Recording, wanted: &str| example.recording == recording && example.text == wanted;
     let has = |recording: Recording, full: bool, wanted: &str| {
         examples.iter().any(|example| {
             let asked = if full { matches!(example.asked, Asked::OfFull) } else { matches!(example.asked, Asked::OfKept(_)) };
-            example.recording == recording && asked && example.text == wanted
+            asked && is(example, recording, wanted)
         })
     };
     for (text, _) in r1::ANSWERS {
@@ -241,6 +255,11 @@ fn the_page_answers_as_the_library() {
     for (text, ..) in r3::LOST {
         assert!(has(Recording::R3, true, text) && has(Recording::R3, false, text), "{path} has no two examples {text} of R3");
     }
+    // A list of before Paper 5 that answers otherwise.
+    let (lost, ..) = r4::LOST_BY_01[0];
+    assert!(has(Recording::R4, true, lost) && has(Recording::R4, false, lost), "{path} has no two examples {lost} of R4");
+    let of_old = |example: &Example| matches!(example.asked, Asked::OfOldList) && is(example, Recording::R4, lost);
+    assert!(examples.iter().any(of_old), "{path} has no example {lost} of the old list");
     for name in names {
         assert!(examples.iter().any(|example| example.text.contains(name)), "{path} has no example with {name}");
     }
@@ -280,15 +299,22 @@ high(A) => met
 lag => no value
 ```
 ```mill R2
+peaks(A) => 40
 peaks(A) => 40, 60
-peaks(A) => 30, 70
 ```
 ```mill R2 kept 10
-X(A=v) => 8
+X(A=v) => 9
 ```
 ```mill R3 kept
 dose(16) => 40
 dose(7) => 20, 60
+```
+```mill R4 kept
+peaks(A) => 40
+```
+```mill R4 old
+peaks(A) => empty
+peaks(A) => 40
 ```
 ```mill band 5
 high(A) => certain Lo..85; possible Lo..95
@@ -312,21 +338,22 @@ refused 6 0
 ```
 ";
     let found = examples(page).unwrap();
-    assert_eq!(found.len(), 25);
+    assert_eq!(found.len(), 28);
     let wrong = wrong(&found);
-    assert_eq!(wrong.len(), 8, "{wrong:?}");
+    assert_eq!(wrong.len(), 9, "{wrong:?}");
     assert_eq!(wrong[0], "line 7: A=v|A>90 => 40, and not refused 9 9");
     assert_eq!(wrong[1], "line 22: F(T=v&A=55) => 50, and not empty");
     assert_eq!(wrong[2], "line 26: peaks(A) => distance 19, degree 0.05, and not distance 19, degree 0.06");
-    assert_eq!(wrong[3], "line 32: peaks(A) => 40, 60, and not 30, 70");
+    assert_eq!(wrong[3], "line 32: peaks(A) => 40, and not 40, 60");
     assert_eq!(wrong[4], "line 39: dose(7) => 20, and not 20, 60");
-    assert_eq!(wrong[5], "line 43: high(A) => certain Lo..85; possible Lo..95, and not certain Lo..85; possible Lo..94");
-    assert_eq!(wrong[6], "line 47: 7 16, 16 7 => line 1 broken at 20, and not line 0 broken at 20");
-    assert_eq!(wrong[7], "line 56: lag => runs 0\n, and not runs 1\n");
+    assert_eq!(wrong[5], "line 46: peaks(A) => empty, and not 40");
+    assert_eq!(wrong[6], "line 50: high(A) => certain Lo..85; possible Lo..95, and not certain Lo..85; possible Lo..94");
+    assert_eq!(wrong[7], "line 54: 7 16, 16 7 => line 1 broken at 20, and not line 0 broken at 20");
+    assert_eq!(wrong[8], "line 63: lag => runs 0\n, and not runs 1\n");
     assert!(examples("```mill\nlag\n```\n").is_err());
     assert!(examples("```mill\nlag => empty\n").is_err());
     assert!(examples("```mill keep\n```\n").is_err());
-    assert!(examples("```mill R4\n```\n").is_err());
+    assert!(examples("```mill R5\n```\n").is_err());
     assert!(examples("```mill kept R2\n```\n").is_err());
     assert!(examples("```mill kept x\n```\n").is_err());
     assert!(examples("```mill degree\n```\n").is_err());

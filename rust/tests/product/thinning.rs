@@ -1,11 +1,13 @@
 //! Covers: thinning on random recordings, marks and output lengths; lists of calls, with junk pieces, odd lengths and short
-//! outputs, against the book; cutting a recording anywhere; joins of more than 4,096 records; thinning twice.
+//! outputs, against the book; cutting a recording anywhere, inside plateaus too; joins of more than 4,096 records; thinning twice.
 
 use crate::calls::{bytes_of, thin, thin_as, Tally};
 use crate::support::cases::{self, cases};
 use crate::support::r2::r2_bytes;
 use crate::support::random::Random;
-use crate::support::recordings::{self, damaged, flat, odd_marks, put_top, with_many_events};
+use crate::support::recordings::{self, damaged, flat, kept_of_plateau, odd_marks, plateau, put_top, upside_down};
+use crate::support::recordings::{with_many_events, with_slopes};
+use crate::support::slopes::every;
 use mill::reference::book::Book;
 use mill::reference::kept::mark_bytes;
 use mill::reference::recording::{bytes, Record, MOST_TIME};
@@ -178,6 +180,89 @@ fn cut_anywhere() {
     });
 }
 
+/// Every way to cut every list of up to five slopes of A, those of B going the other way round.
+#[test]
+fn cut_every_five_slopes_anywhere() {
+    for slopes in every(5) {
+        let mut records = with_slopes(0, &slopes);
+        records.iter_mut().zip(slopes.iter().rev()).for_each(|(record, slope)| record.slope[1] = *slope);
+        let whole = bytes(&records);
+        cases::begin("cut every five slopes anywhere", slopes.len() as u64);
+        for cuts in 0..1 << (records.len() - 1) {
+            let mut calls = Calls::begin(&[]);
+            let mut from = 0;
+            for index in 1..=records.len() {
+                if index == records.len() || cuts >> (index - 1) & 1 == 1 {
+                    assert_eq!(calls.call(&whole[16 * from..16 * index], whole.len()), 0, "{slopes:?}");
+                    from = index;
+                }
+            }
+            assert_eq!(Ok(calls.held), reference::thin(&whole, &[], whole.len()), "{slopes:?} cut by {cuts:b}");
+        }
+    }
+}
+
+/// A top whose rise came long before: the pieces between hold flat readings alone. Cut at every place, and twice at every two.
+#[test]
+fn plateaus_cut_inside() {
+    cases::begin("plateaus cut inside", 0);
+    for (curve, before) in [(0, 0), (1, 0), (0, 1), (1, 2)] {
+        let up = plateau(curve, before, 30 - before);
+        for records in [upside_down(up.clone()), up] {
+            let (whole, kept) = (bytes(&records), bytes(&kept_of_plateau(&records, before)));
+            for first in 0..=32 {
+                for second in first..=32 {
+                    let mut calls = Calls::begin(&[]);
+                    for piece in [&whole[..16 * first], &whole[16 * first..16 * second], &whole[16 * second..]] {
+                        assert_eq!(calls.call(piece, whole.len()), 0);
+                    }
+                    assert_eq!(calls.held, kept, "cut at {first} and {second}");
+                }
+            }
+        }
+    }
+}
+
+/// 4,094 flat readings, a rise at the first or the second of all, cut at every place, and handed in one by one.
+#[test]
+fn one_plateau_of_4094_cut_at_every_place() {
+    cases::begin("one plateau of 4,094 cut at every place", 0);
+    for (curve, before) in [(0, 0), (1, 1)] {
+        let records = plateau(curve, before, 4094 - before);
+        let (whole, kept) = (bytes(&records), bytes(&kept_of_plateau(&records, before)));
+        for cut in 1..4096 {
+            let first = mill::thin(&whole[..16 * cut], &[]).unwrap();
+            assert!(first.len() <= 48, "cut at {cut}");
+            assert_eq!(mill::thin(&[&first[..], &whole[16 * cut..]].concat(), &[]).as_ref(), Ok(&kept), "cut at {cut}");
+        }
+        let mut calls = Calls::begin(&[]);
+        for piece in whole.chunks(16 * 64) {
+            assert_eq!(calls.call(piece, 65_536), 0);
+        }
+        assert_eq!(calls.held, kept);
+        let mut held = Vec::new();
+        for reading in whole.chunks(16) {
+            held = mill::thin(&[&held[..], reading].concat(), &[]).unwrap();
+        }
+        assert_eq!(held, kept);
+    }
+}
+
+/// The rise of a top may lie more than 4,096 readings back.
+#[test]
+fn a_plateau_longer_than_a_recording() {
+    cases::begin("a plateau longer than a recording", 0);
+    for before in [0, 5, 4_001] {
+        let records = plateau(1, before, 19_998 - before);
+        let mut calls = Calls::begin(&[]);
+        for piece in bytes(&records).chunks(16 * 4_000) {
+            assert_eq!(calls.call(piece, 65_536), 0);
+        }
+        assert_eq!(calls.held, bytes(&kept_of_plateau(&records, before)));
+        assert_eq!(mill::question(&calls.held, b"peaks(B)"), Ok(vec![mill::Run { low: 19_999, high: 19_999 }]));
+    }
+}
+
 #[test]
 fn one_reading_at_a_time() {
     cases("one reading at a time", 25, |random| {
@@ -197,10 +282,10 @@ fn refused_pieces_are_not_taken() {
     let r2 = r2_bytes();
     let mut calls = Calls::begin(&[]);
     assert_eq!(calls.call(&r2[..17], 1000), 1);
-    assert_eq!(calls.call(&r2[..64], 31), 10);
-    assert_eq!(calls.call(&r2[..64], 32), 0);
-    assert_eq!(calls.call(&[], 31), 10);
-    assert_eq!(calls.call(&[], 32), 0);
+    assert_eq!(calls.call(&r2[..64], 47), 10);
+    assert_eq!(calls.call(&r2[..64], 48), 0);
+    assert_eq!(calls.call(&[], 47), 10);
+    assert_eq!(calls.call(&[], 48), 0);
     assert_eq!(calls.call(&r2[48..], 1000), 3);
     assert_eq!(calls.call(&r2[64..], 95), 10);
     assert_eq!(calls.call(&r2[64..], 96), 0);

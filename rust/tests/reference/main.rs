@@ -5,7 +5,10 @@ mod support;
 
 mod grammar;
 mod kept;
+mod old_lists;
+mod pieces;
 mod plain;
 mod r1;
 mod sets;
 mod truth;
+mod turns;

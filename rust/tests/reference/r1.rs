@@ -1,9 +1,11 @@
-//! Covers: the lines of the recordings R1, R2 and R3, the table's examples and its orders, on the independent implementation.
+//! Covers: the lines of the recordings R1 to R4, the table's examples and its orders, on the independent implementation.
 
 use crate::support::r1::{self, r1, r1_bytes};
 use crate::support::r2::{self, r2_bytes};
 use crate::support::r3::{self, r3_bytes};
-use crate::support::recordings::{flat, with_additions, with_crossings, with_dips, with_tops, with_tops_at};
+use crate::support::r4::{self, r4_bytes};
+use crate::support::recordings::{flat, upside_down, with_additions, with_crossings, with_dips, with_most_tops};
+use crate::support::recordings::{with_slopes, with_tops, with_tops_at};
 use mill::reference::set::{HIGH, LOW};
 use mill::reference::{degree, kept, order, pair, question, recording, thin, Degree, Refused};
 
@@ -75,6 +77,48 @@ fn lines_of_r3() {
         assert_eq!(runs_of(&r3_bytes(), text), on_full, "{text}");
         assert_eq!(runs_of(&kept, text), on_kept, "{text}");
     }
+}
+
+#[test]
+fn lines_of_r4() {
+    assert_eq!(kept_times(&r4_bytes(), &[]), r4::KEPT);
+    let kept = thin(&r4_bytes(), &[], ROOM).unwrap();
+    for (text, on_full, on_kept) in r4::LOST {
+        assert_eq!(runs_of(&r4_bytes(), text), on_full, "{text}");
+        assert_eq!(runs_of(&kept, text), on_kept, "{text}");
+    }
+    for (text, on_full, _) in r4::LOST_BY_01 {
+        assert_eq!(runs_of(&r4_bytes(), text), on_full, "{text}");
+        assert_eq!(runs_of(&kept, text), on_full, "{text}");
+    }
+}
+
+/// 2,047 falls on shoulders are no top, whatever is asked of tops.
+#[test]
+fn shoulders_are_no_tops() {
+    let slopes = [recording::FALLING, recording::FLAT].repeat(2048);
+    let shoulders = recording::bytes(&with_slopes(0, &slopes));
+    for text in ["peaks(A)", "dips(A)", "gaps(A)", "steps(A)", "lag"] {
+        assert_eq!(runs_of(&shoulders, text), [], "{text}");
+    }
+    assert_eq!(pair(&shoulders, 0, 2), Ok(None));
+    assert_eq!(kept_times(&shoulders, &[]), [0, 4094, 4095]);
+}
+
+/// As many tops as there can be.
+#[test]
+fn two_thousand_and_forty_eight_tops() {
+    let most = recording::bytes(&with_most_tops(0, 4096));
+    assert_eq!(question(&most, b"peaks(A)", ROOM), Err(refused(8)));
+    assert_eq!(question(&most, b"gaps(A)", ROOM), Err(refused(9)));
+    assert_eq!(pair(&most, 0, 2), Err(refused(9)));
+    assert_eq!(runs_of(&most, "gaps(B)"), []);
+    assert_eq!(thin(&most, &[], ROOM), Ok(most.clone()));
+    // As many dips and one top less: 9 counts tops alone.
+    let dips = recording::bytes(&upside_down(with_most_tops(0, 514)));
+    assert_eq!(runs_of(&dips, "gaps(A)").len(), 255);
+    assert_eq!(question(&dips, b"dips(A)", ROOM), Err(refused(8)));
+    assert_eq!(runs_of(&dips, "peaks(A)").len(), 256);
 }
 
 /// Bytes 14 and 15 of a record: 17 values of the first are good, and one of the second.

@@ -4,12 +4,15 @@
 pub mod cases;
 pub mod compared;
 pub mod header;
+pub mod old_rule;
 pub mod painted;
 pub mod r1;
 pub mod r2;
 pub mod r3;
+pub mod r4;
 pub mod random;
 pub mod recordings;
 pub mod sheets;
+pub mod slopes;
 pub mod small_stack;
 pub mod texts;

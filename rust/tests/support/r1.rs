@@ -1,4 +1,4 @@
-//! Recording R1 and its lines, as the scope prints them, with those of Paper 1.
+//! Recording R1 and its lines, as the scope prints them, with those of Papers 1 and 5: its tops need their rise, and have it.
 
 use mill::reference::recording::{bytes, Record, FLAT};
 use mill::reference::set::{HIGH, LOW};

@@ -1,4 +1,5 @@
-//! Recording R2, of which not all is kept, and its lines. R1 keeps all its readings, so it can't tell thinning from copying.
+//! Recording R2, of which not all is kept, and its lines. R1 keeps all its readings, so it can't tell thinning from copying. The
+//! fall at 60 stands on a shoulder and is no top; that at 40 has its rise at 10, beyond two flat readings.
 
 use mill::reference::recording::{bytes, Record, FLAT};
 use mill::reference::set::{HIGH, LOW};
@@ -13,22 +14,25 @@ pub fn r2_bytes() -> Vec<u8> {
 }
 
 /// Texts and the runs that they answer.
-pub const ANSWERS: [(&str, &[(i64, i64)]); 6] = [
+pub const ANSWERS: [(&str, &[(i64, i64)]); 7] = [
     ("high(A)", &[(LOW, 10)]),
-    ("peaks(A)", &[(40, 40), (60, 60)]),
+    ("peaks(A)", &[(40, 40)]),
+    ("gaps(A)", &[]),
     ("dips(A)", &[]),
     ("cross|crossup", &[]),
     ("lowafter(A,10)", &[(2, HIGH)]),
     ("capafter(A,10)", &[(8, HIGH)]),
 ];
 
-/// Marks and the times of the readings that are kept. The reading at a mark is not later than it.
-pub const KEPT: [(&[u32], &[i64]); 2] = [(&[], &[0, 30, 40, 50, 60, 80]), (&[10], &[0, 20, 30, 40, 50, 60, 80])];
+/// Marks and the times of the readings that are kept: 10 as the rise of the top, 30 before it, 60 as the last that is not flat. The
+/// reading at a mark is not later than it.
+pub const KEPT: [(&[u32], &[i64]); 3] =
+    [(&[], &[0, 10, 30, 40, 60, 80]), (&[40], &[0, 10, 30, 40, 50, 60, 80]), (&[10], &[0, 10, 20, 30, 40, 60, 80])];
 
 /// Texts, their runs on R2, and their runs on its kept readings without marks.
 pub const LOST: [(&str, &[(i64, i64)], &[(i64, i64)]); 4] = [
-    ("F(A=9&X(A=v))", &[(8, 8)], &[]),
-    ("X(A=v)", &[(9, 9)], &[(7, 7)]),
-    ("U(A>=7,A=v)", &[(6, 10)], &[(6, 7), (10, 10)]),
+    ("F(A=9&X(A=v))", &[(8, 8)], &[(7, 7)]),
+    ("F(A=8&X(A=v))", &[(7, 7)], &[]),
+    ("U(A>=7,A=v)", &[(6, 10)], &[(6, 7), (9, 10)]),
     ("capafter(A,10)", &[(8, HIGH)], &[(7, HIGH)]),
 ];

@@ -27,7 +27,8 @@ pub const ANSWERS: [(&str, &[(i64, i64)]); 9] = [
 ];
 
 /// Marks and the times of the readings that are kept: those of R2, and 20 for its pigment.
-pub const KEPT: [(&[u32], &[i64]); 2] = [(&[], &[0, 20, 30, 40, 50, 60, 80]), (&[10], &[0, 20, 30, 40, 50, 60, 80])];
+pub const KEPT: [(&[u32], &[i64]); 3] =
+    [(&[], &[0, 10, 20, 30, 40, 60, 80]), (&[40], &[0, 10, 20, 30, 40, 50, 60, 80]), (&[10], &[0, 10, 20, 30, 40, 60, 80])];
 
 /// Texts, their runs on R3, and their runs on its kept readings without marks.
-pub const LOST: [(&str, &[(i64, i64)], &[(i64, i64)]); 2] = [("F(X(P=7)&T=v)", &[(10, 10)], &[(0, 0)]), ("X(X(P=7))", &[(LOW, HIGH)], &[])];
+pub const LOST: [(&str, &[(i64, i64)], &[(i64, i64)]); 2] = [("F(P=16&X(T=v))", &[(50, 50)], &[(60, 60)]), ("F(P=16&X(A=v))", &[(5, 5)], &[(4, 4)])];

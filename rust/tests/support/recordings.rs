@@ -9,14 +9,41 @@ pub fn flat(count: usize) -> Vec<Record> {
     (0..count).map(|i| Record { time: i as i64, value: [0, 0], slope: [FLAT, FLAT], pigment: 0 }).collect()
 }
 
-/// Makes record `index` a top of the curve and not the one before; both lie after the first.
+/// Flat records at times 0, 1, .., all values 0, with these slopes of the curve.
+pub fn with_slopes(curve: usize, slopes: &[u8]) -> Vec<Record> {
+    let mut records = flat(slopes.len());
+    records.iter_mut().zip(slopes).for_each(|(record, slope)| record.slope[curve] = *slope);
+    records
+}
+
+/// One plateau of the curve: so many flat records, a rise, so many flat ones, and a fall, which is the last. The first record is kept
+/// whatever it is; so only where some lie before the rise is it kept as a rise.
+pub fn plateau(curve: usize, before: usize, flat: usize) -> Vec<Record> {
+    with_slopes(curve, &[&vec![FLAT; before][..], &[RISING], &vec![FLAT; flat], &[FALLING]].concat())
+}
+
+/// The records of this one that are kept: the first, the rise, the one before the fall, the fall.
+pub fn kept_of_plateau(records: &[Record], before: usize) -> Vec<Record> {
+    let last = records.len() - 1;
+    let mut places = vec![0, before, last - 1, last];
+    places.dedup();
+    places.into_iter().map(|place| records[place]).collect()
+}
+
+/// Makes record `index`, which lies after the first, a top of the curve: the record before it rises.
 pub fn put_top(records: &mut [Record], curve: usize, index: usize) {
     records[index - 1].slope[curve] = RISING;
     records[index].slope[curve] = FALLING;
 }
 
-/// A recording of `count` records with `tops` tops of either curve, evenly spaced.
+/// As many tops of the curve as `count` records can have: rise, fall, rise, fall.
+pub fn with_most_tops(curve: usize, count: usize) -> Vec<Record> {
+    with_slopes(curve, &[RISING, FALLING].repeat(count.div_ceil(2))[..count])
+}
+
+/// A recording of `count` records with `tops` tops of either curve, evenly spaced, at least two records apart.
 pub fn with_tops(count: usize, tops: [usize; 2]) -> Vec<Record> {
+    assert!(tops.iter().all(|tops| 2 * tops < count), "{tops:?} tops in {count} records");
     let mut records = flat(count);
     for (curve, tops) in tops.into_iter().enumerate() {
         for top in 0..tops {
@@ -137,9 +164,9 @@ fn beside(random: &mut Random, values: &[i64]) -> Vec<i64> {
     values.iter().map(|value| (value + random.pick(&[-1, 0, 0, 1])).clamp(-MOST_VALUE, MOST_VALUE)).collect()
 }
 
-/// Slopes that fit the values, that alternate, that seldom change, that last for some records, or any.
+/// Slopes that fit the values, that alternate, that seldom change, that last for some records, that lie flat for long, or any.
 fn slopes(random: &mut Random, values: &[i64]) -> Vec<u8> {
-    let from: &[u8] = match random.below(8) {
+    let from: &[u8] = match random.below(11) {
         0 => return fitting_slopes(values),
         1 => return (0..values.len()).map(|i| if i % 2 == 0 { RISING } else { FALLING }).collect(),
         2 => &[FLAT, FLAT, FLAT, FLAT, FALLING],
@@ -147,6 +174,9 @@ fn slopes(random: &mut Random, values: &[i64]) -> Vec<u8> {
         4 => &[FALLING, FALLING, FLAT],
         5 => &[RISING, RISING, FLAT],
         6 => return lasting_slopes(random, values.len()),
+        7 => &[FLAT, FLAT, FLAT, FLAT, FALLING, RISING],
+        8 => return slopes_on_plateaus(random, values.len(), 3),
+        9 => return slopes_on_plateaus(random, values.len(), values.len()),
         _ => &[FALLING, FLAT, RISING],
     };
     values.iter().map(|_| random.pick(from)).collect()
@@ -162,6 +192,21 @@ fn lasting_slopes(random: &mut Random, count: usize) -> Vec<u8> {
         slope
     };
     (0..count).map(|_| next()).collect()
+}
+
+/// Rises and falls with up to `longest` flat records between them: mostly a fall after a rise and a rise after a fall, else a shoulder.
+fn slopes_on_plateaus(random: &mut Random, count: usize, longest: usize) -> Vec<u8> {
+    let mut slope = random.pick(&[FALLING, RISING]);
+    let mut slopes = vec![FLAT; random.below(longest + 1)];
+    while slopes.len() < count {
+        slopes.push(slope);
+        slopes.extend(vec![FLAT; random.below(longest + 1)]);
+        if !random.once_in(5) {
+            slope = RISING - slope;
+        }
+    }
+    slopes.truncate(count);
+    slopes
 }
 
 fn fitting_slopes(values: &[i64]) -> Vec<u8> {
@@ -291,6 +336,19 @@ pub fn with_many_dips(random: &mut Random) -> Vec<Record> {
     upside_down(with_many_tops(random))
 }
 
+/// A recording with up to some 300 tops and as many dips of either curve on plateaus, shoulders among them.
+pub fn with_many_plateaus(random: &mut Random) -> Vec<Record> {
+    let most = random.pick(&[3, 12, 66, 257, 300]);
+    let longest = random.pick(&[1, 2, 2, 5]);
+    let count = most * (2 + longest) * 5 / 4;
+    let mut records = accepted(random, count);
+    for curve in 0..2 {
+        let slopes = slopes_on_plateaus(random, count, longest);
+        records.iter_mut().zip(slopes).for_each(|(record, slope)| record.slope[curve] = slope);
+    }
+    records
+}
+
 /// A recording with up to some 300 crossings both ways; where A is not above B it is often at B.
 pub fn with_many_crossings(random: &mut Random) -> Vec<Record> {
     let most = random.pick(&[3, 12, 66, 257, 300]);
@@ -320,12 +378,13 @@ pub fn with_many_additions(random: &mut Random) -> Vec<Record> {
     records
 }
 
-/// A recording with many tops, many dips, many crossings both ways or many additions.
+/// A recording with many tops, many dips, many of both on plateaus, many crossings both ways or many additions.
 pub fn with_many_events(random: &mut Random) -> Vec<Record> {
-    match random.below(4) {
+    match random.below(5) {
         0 => with_many_tops(random),
         1 => with_many_dips(random),
-        2 => with_many_additions(random),
+        2 => with_many_plateaus(random),
+        3 => with_many_additions(random),
         _ => with_many_crossings(random),
     }
 }

@@ -210,12 +210,17 @@ pub fn nine(curve: &str, k: i64, pigment: u8) -> [(String, String); 9] {
         (format!("low({curve})"), format!("F({curve}<=v)")),
         (format!("lowafter({curve},{k})"), format!("F(T>{k}&{curve}<=v)")),
         (format!("capafter({curve},{k})"), format!("G(!(T>{k})|{curve}<=v)")),
-        (format!("peaks({curve})"), format!("F(!fall({curve})&X(fall({curve})&T=v))")),
-        (format!("dips({curve})"), format!("F(!rise({curve})&X(rise({curve})&T=v))")),
+        (format!("peaks({curve})"), turns("rise", "fall", curve)),
+        (format!("dips({curve})"), turns("fall", "rise", curve)),
         ("cross".into(), "F(A>B&X(A<=B&T=v))".into()),
         ("crossup".into(), "F(A<=B&X(A>B&T=v))".into()),
         (format!("dose({pigment})"), format!("F(P={pigment}&T=v)")),
     ]
+}
+
+/// The formula of the times at which a curve goes over from one slope to the other: `peaks` from `rise` to `fall`, `dips` its mirror.
+pub fn turns(from: &str, to: &str, curve: &str) -> String {
+    format!("F({from}({curve})&X(U(!{from}({curve})&!{to}({curve}),{to}({curve})&T=v)))")
 }
 
 /// A target near the recording's numbers, anywhere, at the axis ends, or off the axis.
