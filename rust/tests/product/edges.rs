@@ -45,7 +45,7 @@ fn r1_keeps_what_comes_right_after() {
 
 #[test]
 fn what_is_not_kept_is_lost() {
-    for (recording, length, lost) in [(r2_bytes(), 96, &r2::LOST[..]), (r3_bytes(), 128, &r3::LOST), (r4_bytes(), 64, &r4::LOST)]
+    for (recording, length, lost) in [(r2_bytes(), 96, &r2::LOST[..]), (r3_bytes(), 112, &r3::LOST), (r4_bytes(), 64, &r4::LOST)]
     {
         assert_eq!(thin(&recording, &[], length), 0);
         assert_eq!(thin(&recording, &[], length - 1), 10);
