@@ -5,7 +5,7 @@ use mathlib.Core.List.{List, [], _∷_, _++_}
 use lib.Dec.{eqb}
 use Rattle.thin.specs.Book.{Call, Left, heldNext}
 use Rattle.reply.specs.Reply.{numberIn, unpacked}
-use Rattle.mill.specs.Boundary.{ThinCall}
+use Rattle.mill.specs.Calls.{ThinCall}
 
 -- what a call of a list returned, and its output after it
 pub record Returned : Type 0 where

@@ -1,5 +1,5 @@
 -- THE THREE DEMANDS, sentence by sentence, of the calls of the C boundary: of the 64-bit number that a call returns and of the memory that it leaves,
--- for every call that meets its contract (mill/specs/Boundary: QuestionCall, DegreeCall, PairCall, ThinCall, BandCall, OrderCall). Each call of the library is proved to
+-- for every call that meets its contract (mill/specs/Calls: QuestionCall, DegreeCall, PairCall, ThinCall, BandCall, OrderCall). Each call of the library is proved to
 -- meet it, for every input, with no condition. That `Demands` holds is `demands` (laws/Demands).
 use Prim.Native.Nat.{ℕ, _*_, _/_, _%_, _<_}
 use mathlib.Core.Path.{_≡_}
@@ -34,7 +34,8 @@ use Rattle.thin.specs.Thin.{keptBytes}
 use Rattle.thin.specs.Book.{Call, book}
 use Rattle.thin.specs.Cut.{wholeFrom, CutBetween, LongEnough, allWritten}
 use Rattle.reply.specs.Reply.{half, numberIn, lowIn}
-use Rattle.mill.specs.Boundary.{QuestionCall, DegreeCall, PairCall, ThinCall, BandCall, OrderCall, Degrees}
+use Rattle.boundary.specs.Boundary.{Degrees}
+use Rattle.mill.specs.Calls.{QuestionCall, DegreeCall, PairCall, ThinCall, BandCall, OrderCall}
 use Rattle.promises.specs.Selection.{Selection}
 use Rattle.promises.specs.CallsMade.{Returned, readOff, CallsMade, heldAt, takenFrom}
 use Rattle.promises.specs.Table.{Request, question, degree, pair, thin, order, acceptedOrder, NoneMet, FirstMet, band, ordering}

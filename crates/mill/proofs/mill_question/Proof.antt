@@ -4,7 +4,8 @@ use lib.ListN.{length}
 use borrow.Author.Needs.{needs}
 use Rattle.question.specs.Question.{questionOf}
 use Rattle.reply.specs.Reply.{InHalf}
-use Rattle.mill.specs.laws.Boundary.{question-in-half, writes}
+use Rattle.mill.specs.laws.Calls.{question-in-half}
+use Rattle.boundary.specs.laws.Boundary.{writes}
 use Rattle.mill.proofs.mill_question.Statement.{statement}
 use Rattle.mill.proofs.mill_question.Tie as tie
 

@@ -4,7 +4,8 @@ use lib.ListN.{length}
 use borrow.Author.Needs.{needs}
 use Rattle.thin.specs.Thin.{thinOf}
 use Rattle.reply.specs.Reply.{InHalf}
-use Rattle.mill.specs.laws.Boundary.{thin-in-half, writes}
+use Rattle.mill.specs.laws.Calls.{thin-in-half}
+use Rattle.boundary.specs.laws.Boundary.{writes}
 use Rattle.mill.proofs.mill_thin.Statement.{statement}
 use Rattle.mill.proofs.mill_thin.Tie as tie
 

@@ -38,7 +38,7 @@ use Rattle.band.specs.laws.Meant.{band-meant}
 use Rattle.band.specs.laws.Widths.{certain-exact, possible-exact}
 use Rattle.reply.specs.Reply.{packed, numberIn, lowIn}
 use Rattle.reply.specs.laws.Unpacked.{number-result}
-use Rattle.mill.specs.Boundary.{QuestionCall, BandCall}
+use Rattle.mill.specs.Calls.{QuestionCall, BandCall}
 use Rattle.number.specs.Axis.{axis, whole, OfAxis}
 use Rattle.promises.specs.Demands.{Fixed, InRun, BandTold}
 use Rattle.promises.specs.laws.Demands.{demands, band-given}

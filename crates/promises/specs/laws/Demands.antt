@@ -63,8 +63,10 @@ use Rattle.thin.specs.Cut.{wholeFrom, CutBetween, LongEnough, allWritten}
 use Rattle.thin.specs.laws.Cut.{as-the-whole}
 use Rattle.reply.specs.Reply.{half, packed, InHalf, numberIn, lowIn, unpacked}
 use Rattle.reply.specs.laws.Unpacked.{Numbered, number-result, low-result, number-refused, low-refused, unpacked-packed}
-use Rattle.mill.specs.Boundary.{Writes, Degrees, QuestionCall, DegreeCall, PairCall, ThinCall, valueTold, distanceAfter, degreeAfter, pairTold, earlierAfter, laterAfter, BandCall, filled, bandTold, lowAfter, highAfter, certainIn, possibleIn, InBands, OrderCall, findingTold, timeAfter, lineAfter, Orders}
-use Rattle.mill.specs.laws.Boundary.{thin-in-half, question-in-half, degree-place, pair-place, band-place, order-place}
+use Rattle.boundary.specs.Boundary.{Writes, Degrees, valueTold, distanceAfter, degreeAfter, pairTold, earlierAfter, laterAfter, filled, bandTold, lowAfter, highAfter, certainIn, possibleIn, InBands, findingTold, timeAfter, lineAfter, Orders}
+use Rattle.boundary.specs.laws.Boundary.{bands-same, orders-same}
+use Rattle.mill.specs.Calls.{QuestionCall, DegreeCall, PairCall, ThinCall, BandCall, OrderCall}
+use Rattle.mill.specs.laws.Calls.{thin-in-half, question-in-half, degree-in-half, pair-in-half, band-in-half, order-in-half}
 use Rattle.promises.specs.Table.{Request, question, degree, pair, thin, order, acceptedOrder, NoneMet, FirstMet, band, ordering}
 use Rattle.promises.specs.laws.Table.{number-bounds, Agree, AsTable, met-there, judged-told}
 use Rattle.promises.specs.laws.CallLines.{InPlace, in-its-place, answer-is, agree-asked, agree-question, agree-degree, agree-pair, agree-marks, agree-thin, agree-band, agree-order}
@@ -165,7 +167,7 @@ degree-answered bytes text target distance degree′ r first second d =
     go (result (short d k)) e t p f s = record { result-or-refusal = judged-number q (order q) (result 1) r p (omega arith) t; refusal-writes-nothing = λ k. absurd (k (ap numberIn p)) }
     go (result noValue) e t p f s = record { result-or-refusal = judged-number q (order q) (result 2) r p (omega arith) t; refusal-writes-nothing = λ k. absurd (k (ap numberIn p)) }
     go (refused n i) e t p f s =
-        record { result-or-refusal = judged-number q (order q) (refused n i) r p (degree-place bytes text target n i e) t; refusal-writes-nothing = λ k. ap₂ (λ (x y : ℕ). x ∷ y ∷ []) f s }
+        record { result-or-refusal = judged-number q (order q) (refused n i) r p (subst (λ (o : Outcome Value). InHalf (valueTold o)) e (degree-in-half bytes text target)) t; refusal-writes-nothing = λ k. ap₂ (λ (x y : ℕ). x ∷ y ∷ []) f s }
 
 pair-told : (bytes : List ℕ) (curve : ℕ) (target : ℤ) → AsTable (pair bytes curve target) (order (pair bytes curve target)) (pairOf bytes curve target)
 unfolding pairOf
@@ -187,7 +189,7 @@ pair-answered bytes curve target earlier later r first second c =
     go (result (times t u)) e h p f s = record { result-or-refusal = judged-number q (order q) (result 1) r p (omega arith) h; refusal-writes-nothing = λ k. absurd (k (ap numberIn p)) }
     go (result none) e h p f s = record { result-or-refusal = judged-number q (order q) (result 0) r p (omega arith) h; refusal-writes-nothing = λ k. absurd (k (ap numberIn p)) }
     go (refused n i) e h p f s =
-        record { result-or-refusal = judged-number q (order q) (refused n i) r p (pair-place bytes curve target n i e) h; refusal-writes-nothing = λ k. ap₂ (λ (x y : ℕ). x ∷ y ∷ []) f s }
+        record { result-or-refusal = judged-number q (order q) (refused n i) r p (subst (λ (o : Outcome Given). InHalf (pairTold o)) e (pair-in-half bytes curve target)) h; refusal-writes-nothing = λ k. ap₂ (λ (x y : ℕ). x ∷ y ∷ []) f s }
 
 band-judged : (bytes text : List ℕ) (e : ℤ) → AsTable (band bytes text e) (order (band bytes text e)) (bandOf bytes text e)
 unfolding bandOf
@@ -218,7 +220,7 @@ band-answered bytes text e low high lowest highest r a b c d w =
           refusal-writes-nothing = λ k. absurd (k (ap numberIn (w .returned) ∙ number-result (filled (x .certain) + 2 * filled (x .possible)) small));
         }
     go (refused n i) h t w = record {
-      result-or-refusal = judged-number q (order q) (refused n i) r (w .returned) (band-place bytes text e n i h) t;
+      result-or-refusal = judged-number q (order q) (refused n i) r (w .returned) (subst (λ (o : Outcome Bands). InHalf (bandTold o)) h (band-in-half bytes text e)) t;
       refusal-writes-nothing = λ k. let f = w .first-place in let g = w .second-place in let u = w .third-place in let v = w .fourth-place in λ j. f j ∷ g j ∷ u j ∷ v j ∷ [];
     }
 
@@ -239,7 +241,7 @@ order-answered bytes sheet time line r first second w = go (orderOf bytes sheet)
     go (result allMet) e t w = record { result-or-refusal = judged-number q (order q) (result 0) r (w .returned) (omega arith) t; refusal-writes-nothing = λ k. absurd (k (ap numberIn (w .returned))) }
     go (result (brokenAt u k)) e t w = record { result-or-refusal = judged-number q (order q) (result 1) r (w .returned) (omega arith) t; refusal-writes-nothing = λ k. absurd (k (ap numberIn (w .returned))) }
     go (refused n i) e t w = record {
-      result-or-refusal = judged-number q (order q) (refused n i) r (w .returned) (order-place bytes sheet n i e) t;
+      result-or-refusal = judged-number q (order q) (refused n i) r (w .returned) (subst (λ (o : Outcome Finding). InHalf (findingTold o)) e (order-in-half bytes sheet)) t;
       refusal-writes-nothing = λ k. ap₂ (λ (x y : ℕ). x ∷ y ∷ []) (w .first-place) (w .second-place);
     }
 
@@ -332,7 +334,7 @@ degree-meant recording text target distance value r first second d z = go (nearn
         let t : AsTable q (order q) {R = Value} (refused n p) = subst (λ (o : Outcome Value). AsTable q (order q) o) e (degree-told recording text target) in
         let b = number-bounds (t .0) in
         let m = t .2 in
-        let k : numberIn r ≡ n = ap numberIn (d .returned ∙ ap (λ (o : Outcome Value). packed (valueTold o)) e) ∙ number-refused n p (degree-place recording text target n p e) in
+        let k : numberIn r ≡ n = ap numberIn (d .returned ∙ ap (λ (o : Outcome Value). packed (valueTold o)) e) ∙ number-refused n p (subst (λ (o : Outcome Value). InHalf (valueTold o)) e (degree-in-half recording text target)) in
         absurd (omega arith)
 
 -- the order of the axis is that of indices
@@ -385,7 +387,7 @@ band-given recording text e low high lowest highest r a b c d w z = go (bandOf r
         let t : AsTable q (order q) {R = Bands} (refused n p) = subst (λ (o : Outcome Bands). AsTable q (order q) o) h (band-judged recording text e) in
         let f = number-bounds (t .0) in
         let m = t .2 in
-        let k : numberIn r ≡ n = ap numberIn (w .returned) ∙ number-refused n p (band-place recording text e n p h) in
+        let k : numberIn r ≡ n = ap numberIn (w .returned) ∙ number-refused n p (subst (λ (o : Outcome Bands). InHalf (bandTold o)) h (band-in-half recording text e)) in
         absurd (omega arith)
 
 band-meaning : (recording text : List ℕ) (e low high lowest highest r a b c d : ℕ) → BandCall recording text (pos e) low high lowest highest r a b c d → numberIn r ≡ 0
@@ -451,7 +453,7 @@ order-meaning bytes sheet time line r first second w z = go (orderOf bytes sheet
         }
     go (refused n i) e w =
         let q : Request = ordering bytes sheet in
-        let k = number-refused n i (order-place bytes sheet n i e) in
+        let k = number-refused n i (subst (λ (o : Outcome Finding). InHalf (findingTold o)) e (order-in-half bytes sheet)) in
         let b = told-numbered q (order q) (refused n i) (subst (AsTable q (order q)) e (order-judged bytes sheet)) in
         let h = ap numberIn (w .returned) in
         absurd (omega arith)
@@ -662,9 +664,9 @@ demand-3 marks = record {
       };
   least-selection = kept-selection (marksOf marks);
   band-as-full = λ fine recording held text a s l e {low} {high} {lowest} {highest} {r} {low-after} {high-after} {lowest-after} {highest-after} w.
-      subst (λ (o : Outcome Bands). InBands o low high lowest highest r low-after high-after lowest-after highest-after) (selected-band marks recording text a l held s e) w;
+      bands-same (selected-band marks recording text a l held s e) w;
   order-as-full = λ fine recording held sheet a s {time} {line} {r} {time-after} {line-after} w.
-      subst (λ (o : Outcome Finding). Orders o time line r time-after line-after) (selected-order marks recording a held s sheet) w;
+      orders-same (selected-order marks recording a held s sheet) w;
   beyond = λ fine cs xs t {text} l {out} {r} {after} w.
       let ks : List ℕ = marksOf marks in
       let join : List ℕ = joinAfter ks [] cs in

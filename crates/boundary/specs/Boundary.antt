@@ -1,22 +1,16 @@
--- The C boundary, by "Four lines on promises" of document 01: what each call of the library returns, and what it leaves in the caller's memory.
+-- The C boundary: the number and the places by which each kind of answer goes over to the caller, and that a refusal leaves the places as they were.
 use Prim.Native.Nat.{ℕ, _+_, _*_}
 use mathlib.Core.Path.{_≡_}
 use mathlib.Core.List.{List}
-use lib.IntN.{ℤ}
-use lib.ListN.{length}
 use lib.Ieee.{binary64, toBits}
 use Rattle.number.specs.Axis.{whole}
 use Rattle.number.specs.Words.{bits}
 use Rattle.refusal.specs.Outcome.{Outcome, result, refused}
 use Rattle.recording.specs.Output.{counted, outputAfter}
-use Rattle.band.specs.Call.{bandOf}
 use Rattle.band.specs.Means.{Part, empty, run, Bands}
-use Rattle.pair.specs.Pair.{Given, times, none, pairOf}
-use Rattle.degree.specs.Degree.{Value, met, short, noValue, nearnessOf}
-use Rattle.question.specs.Question.{questionOf}
-use Rattle.thin.specs.Thin.{thinOf}
+use Rattle.pair.specs.Pair.{Given, times, none}
+use Rattle.degree.specs.Degree.{Value, met, short, noValue}
 use Rattle.sheet.specs.Finding.{Finding, allMet, brokenAt}
-use Rattle.sheet.specs.Call.{orderOf}
 use Rattle.reply.specs.Reply.{packed}
 
 -- ---- thinning and the question
@@ -142,24 +136,3 @@ pub record Orders (outcome : Outcome Finding) (time line r first second : ℕ) :
   pub returned : r ≡ packed (findingTold outcome)
   pub first-place : first ≡ timeAfter outcome time
   pub second-place : second ≡ lineAfter outcome line
-
--- ---- THE CONTRACT OF EACH CALL: what it is handed, what it returns (r), and the caller's memory after it
-
-abbrev pub QuestionCall : (recording text out : List ℕ) (r : ℕ) (after : List ℕ) → Type 0
-QuestionCall recording text out r after = Writes (questionOf recording text (length out)) out r after
-
-abbrev pub DegreeCall : (recording text : List ℕ) (target : ℤ) (distance degree r first second : ℕ) → Type 0
-DegreeCall recording text target distance degree r first second = Degrees (nearnessOf recording text target) distance degree r first second
-
-abbrev pub PairCall : (recording : List ℕ) (curve : ℕ) (target : ℤ) (earlier later r first second : ℕ) → Type 0
-PairCall recording curve target earlier later r first second = Pairs (pairOf recording curve target) earlier later r first second
-
-abbrev pub ThinCall : (recording marks out : List ℕ) (r : ℕ) (after : List ℕ) → Type 0
-ThinCall recording marks out r after = Writes (thinOf recording marks (length out)) out r after
-
-abbrev pub BandCall : (recording text : List ℕ) (e : ℤ) (certain-low certain-high possible-low possible-high r first second third fourth : ℕ) → Type 0
-BandCall recording text e certain-low certain-high possible-low possible-high r first second third fourth =
-    InBands (bandOf recording text e) certain-low certain-high possible-low possible-high r first second third fourth
-
-abbrev pub OrderCall : (recording sheet : List ℕ) (time line r first second : ℕ) → Type 0
-OrderCall recording sheet time line r first second = Orders (orderOf recording sheet) time line r first second

@@ -8,10 +8,10 @@ use Rattle.band.specs.Call.{partOf}
 use Rattle.band.specs.inner.OnAxis.{EndsOnAxis}
 use Rattle.band.specs.declared.Part.{Part}
 use Rattle.band.specs.declared.Part.the-variants.{Run}
-use Rattle.mill.specs.Boundary.{filled, lowAfter, highAfter}
+use Rattle.boundary.specs.Boundary.{filled, lowAfter, highAfter}
 use borrow.Author.Needs.{needs}
-use Rattle.mill.proofs.put_ends.Statement.{statement}
-use Rattle.mill.proofs.put_ends.Tie as tie
+use Rattle.boundary.proofs.put_ends.Statement.{statement}
+use Rattle.boundary.proofs.put_ends.Tie as tie
 
 -- the ends of a run
 ends : (p : Part) (l h : ℕ) → p ≡ Run l h → EndsOnAxis (partOf p) → (l < axis) × (h < axis)

@@ -1,0 +1,3 @@
+pub mod Boundary
+pub mod inner
+pub mod laws

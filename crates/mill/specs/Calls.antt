@@ -1,0 +1,32 @@
+-- The C boundary, by "Four lines on promises" of document 01: THE CONTRACT OF EACH CALL of the library, what it is handed, what it returns (r), and the
+-- caller's memory after it.
+use Prim.Native.Nat.{ℕ}
+use mathlib.Core.List.{List}
+use lib.IntN.{ℤ}
+use lib.ListN.{length}
+use Rattle.band.specs.Call.{bandOf}
+use Rattle.pair.specs.Pair.{pairOf}
+use Rattle.degree.specs.Degree.{nearnessOf}
+use Rattle.question.specs.Question.{questionOf}
+use Rattle.thin.specs.Thin.{thinOf}
+use Rattle.sheet.specs.Call.{orderOf}
+use Rattle.boundary.specs.Boundary.{Writes, Degrees, Pairs, InBands, Orders}
+
+abbrev pub QuestionCall : (recording text out : List ℕ) (r : ℕ) (after : List ℕ) → Type 0
+QuestionCall recording text out r after = Writes (questionOf recording text (length out)) out r after
+
+abbrev pub DegreeCall : (recording text : List ℕ) (target : ℤ) (distance degree r first second : ℕ) → Type 0
+DegreeCall recording text target distance degree r first second = Degrees (nearnessOf recording text target) distance degree r first second
+
+abbrev pub PairCall : (recording : List ℕ) (curve : ℕ) (target : ℤ) (earlier later r first second : ℕ) → Type 0
+PairCall recording curve target earlier later r first second = Pairs (pairOf recording curve target) earlier later r first second
+
+abbrev pub ThinCall : (recording marks out : List ℕ) (r : ℕ) (after : List ℕ) → Type 0
+ThinCall recording marks out r after = Writes (thinOf recording marks (length out)) out r after
+
+abbrev pub BandCall : (recording text : List ℕ) (e : ℤ) (certain-low certain-high possible-low possible-high r first second third fourth : ℕ) → Type 0
+BandCall recording text e certain-low certain-high possible-low possible-high r first second third fourth =
+    InBands (bandOf recording text e) certain-low certain-high possible-low possible-high r first second third fourth
+
+abbrev pub OrderCall : (recording sheet : List ℕ) (time line r first second : ℕ) → Type 0
+OrderCall recording sheet time line r first second = Orders (orderOf recording sheet) time line r first second
