@@ -3,7 +3,7 @@ use Prim.Native.Nat.{ℕ}
 use mathlib.Core.Bool.{cond}
 use mathlib.Core.List.{List, [], _∷_, _++_}
 use lib.Dec.{eqb}
-use Rattle.thin.specs.Book.{Call, Left, heldNext}
+use Rattle.thin.specs.Model.{Call, Left, heldNext}
 use Rattle.reply.specs.Reply.{numberIn, unpacked}
 use Rattle.mill.specs.Calls.{ThinCall}
 

@@ -31,7 +31,7 @@ use Rattle.sheet.specs.Sheet.{sheetOf}
 use Rattle.sheet.specs.Finding.{allMet, brokenAt, TrueFinding}
 use Rattle.marks.specs.Marks.{marksOf, marksLine, AcceptedMarks}
 use Rattle.thin.specs.Thin.{keptBytes}
-use Rattle.thin.specs.Book.{Call, book}
+use Rattle.thin.specs.Model.{Call, model}
 use Rattle.thin.specs.Cut.{wholeFrom, CutBetween, LongEnough, allWritten}
 use Rattle.reply.specs.Reply.{half, numberIn, lowIn}
 use Rattle.boundary.specs.Boundary.{Degrees}
@@ -159,7 +159,7 @@ pub record RightOf (full text out ks : List ℕ) (r : ℕ) (after : List ℕ) : 
 module _ (marks : List ℕ) (cs : List Call) (xs : List Returned) where
   -- "For every list of thinning calls, refused ones included": each answers, and leaves its output, as the book of 01 does
   pub record EveryList : Type 0 where
-    pub as-the-book : map readOff xs ≡ book (marksOf marks) [] cs
+    pub as-the-model : map readOff xs ≡ model (marksOf marks) [] cs
     pub held : heldAt [] xs ≡ keptBytes (marksOf marks) (takenFrom [] cs xs)
 
   -- "no call is refused, so the kept readings of the whole come out"

@@ -4,7 +4,7 @@ pub mod Demands
 pub mod KeptAsFull
 pub mod StandIn
 pub mod Selection
-pub mod Lasting
+pub mod EndToEnd
 pub mod FormulasAsked
 pub mod MarkedLines
 pub mod OldRecordings

@@ -4,8 +4,8 @@ pub mod Observation
 pub mod Selection
 pub mod StandIn
 pub mod KeptAsFull
-pub mod Lasting
-pub mod R1Lasting
+pub mod EndToEnd
+pub mod R1EndToEnd
 pub mod MarkedLines
 pub mod FormulasAsked
 pub mod OldRecordings

@@ -17,7 +17,7 @@ use Rattle.recording.specs.laws.Outcome.{result-none, none-append}
 use Rattle.kept.specs.Kept.{keptFor}
 use Rattle.thin.specs.Thin.{keptBytes, thinOf}
 use Rattle.marks.specs.Marks.{marksOf, marksLine}
-use Rattle.thin.specs.laws.Book.{kept-sixteens}
+use Rattle.thin.specs.laws.Model.{kept-sixteens}
 use Rattle.runset.specs.Runs.{setBytes}
 use Rattle.text.specs.Told.{textLines}
 use Rattle.meaning.specs.inner.Coded.{coded, index}

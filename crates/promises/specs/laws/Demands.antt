@@ -57,8 +57,8 @@ use Rattle.sheet.specs.Call.{orderLines, orderOf}
 use Rattle.sheet.specs.laws.Finding.{finding-true}
 use Rattle.thin.specs.Thin.{keptBytes, thinOf}
 use Rattle.marks.specs.Marks.{marksOf, marksLine, AcceptedMarks}
-use Rattle.thin.specs.Book.{Call, Left, leftBy, thinned, heldNext, calls, heldAfter, entry, joinNext, book, joinAfter}
-use Rattle.thin.specs.laws.Book.{kept-join, taken, whole-next, as-the-book}
+use Rattle.thin.specs.Model.{Call, Left, leftBy, thinned, heldNext, calls, heldAfter, modelStep, joinNext, model, joinAfter}
+use Rattle.thin.specs.laws.Model.{kept-join, taken, whole-next, as-the-model}
 use Rattle.thin.specs.Cut.{wholeFrom, CutBetween, LongEnough, allWritten}
 use Rattle.thin.specs.laws.Cut.{as-the-whole}
 use Rattle.reply.specs.Reply.{half, packed, InHalf, numberIn, lowIn, unpacked}
@@ -514,10 +514,10 @@ stands-in full held text out place r after w =
 accepted-after : (ks : List ℕ) (cs : List Call) (join : List ℕ) → length join % 16 ≡ 0 → Accepted (keptBytes ks join) → Accepted (keptBytes ks (joinAfter ks join cs))
 accepted-after ks [] join h a = a
 accepted-after ks (c ∷ cs) join h a =
-    let o : Outcome (List ℕ) = entry ks join c in
+    let o : Outcome (List ℕ) = modelStep ks join c in
     accepted-after ks cs (joinNext join c o) (whole-next ks join c h o refl) (next o refl)
   where
-    next : (o : Outcome (List ℕ)) → entry ks join c ≡ o → Accepted (keptBytes ks (joinNext join c o))
+    next : (o : Outcome (List ℕ)) → modelStep ks join c ≡ o → Accepted (keptBytes ks (joinNext join c o))
     next (refused n p) e = a
     next (result bytes) e = subst Accepted (kept-join ks join (c .piece) h) (kept-accepted ks (keptBytes ks join ++ c .piece) (taken ks join c bytes e .accepted))
 
@@ -595,14 +595,14 @@ same-written recording text out out′ r r′ after after′ e w w′ = (
 
 -- ---- DEMAND 3
 
--- the pieces taken are those that the book takes
-taken-join : (marks held : List ℕ) (cs : List Call) (xs : List Returned) (join : List ℕ) → map readOff xs ≡ book marks join cs → takenFrom join cs xs ≡ joinAfter marks join cs
+-- the pieces taken are those that the model takes
+taken-join : (marks held : List ℕ) (cs : List Call) (xs : List Returned) (join : List ℕ) → map readOff xs ≡ model marks join cs → takenFrom join cs xs ≡ joinAfter marks join cs
 taken-join marks held [] xs join e = refl
 taken-join marks held (c ∷ cs) [] join e = absurd (let z = ap length e in omega arith)
 taken-join marks held (c ∷ cs) (x ∷ xs) join e =
-    let parts = same-cons (readOff x) (leftBy (entry marks join c) c) (map readOff xs) (book marks (joinNext join c (entry marks join c)) cs) e in
-    let n : cond (eqb (numberIn (x .returned)) 0) (join ++ c .piece) join ≡ joinNext join c (entry marks join c) = next (entry marks join c) (ap (λ (l : Left). l .answer) (parts .0)) in
-    ap (λ (j : List ℕ). takenFrom j cs xs) n ∙ taken-join marks held cs xs (joinNext join c (entry marks join c)) (parts .1)
+    let parts = same-cons (readOff x) (leftBy (modelStep marks join c) c) (map readOff xs) (model marks (joinNext join c (modelStep marks join c)) cs) e in
+    let n : cond (eqb (numberIn (x .returned)) 0) (join ++ c .piece) join ≡ joinNext join c (modelStep marks join c) = next (modelStep marks join c) (ap (λ (l : Left). l .answer) (parts .0)) in
+    ap (λ (j : List ℕ). takenFrom j cs xs) n ∙ taken-join marks held cs xs (joinNext join c (modelStep marks join c)) (parts .1)
   where
     same-cons : (a b : Left) (l m : List Left) → (a ∷ l) ≡ (b ∷ m) → (a ≡ b) × (l ≡ m)
     same-cons a b l m e = (cc, cc)
@@ -639,16 +639,16 @@ all-given marks join (c ∷ cs) (y ∷ ys) e x m = ⊎-elim
     given false h e = no-result (numberIn (y .returned)) (lowIn (y .returned)) (length (keptBytes marks (join ++ c .piece)))
         (sym (ap (λ (b : Bool). cond b (result (lowIn (y .returned))) (refused (numberIn (y .returned)) (lowIn (y .returned)))) h) ∙ e)
 
-list-as-book : (marks : List ℕ) → AcceptedMarks marks → (cs : List Call) (xs : List Returned) → CallsMade marks [] cs xs → EveryList marks cs xs
-list-as-book marks fine cs xs t =
+list-as-model : (marks : List ℕ) → AcceptedMarks marks → (cs : List Call) (xs : List Returned) → CallsMade marks [] cs xs → EveryList marks cs xs
+list-as-model marks fine cs xs t =
     let k = thinned-calls marks [] cs xs t in
-    let b = as-the-book marks fine cs in
-    let e : map readOff xs ≡ book (marksOf marks) [] cs = k .0 ∙ b .answers in
-    record { as-the-book = e; held = k .1 ∙ b .held ∙ ap (keptBytes (marksOf marks)) (sym (taken-join (marksOf marks) [] cs xs [] e)) }
+    let b = as-the-model marks fine cs in
+    let e : map readOff xs ≡ model (marksOf marks) [] cs = k .0 ∙ b .answers in
+    record { as-the-model = e; held = k .1 ∙ b .held ∙ ap (keptBytes (marksOf marks)) (sym (taken-join (marksOf marks) [] cs xs [] e)) }
 
 demand-3 : (marks : List ℕ) → Demand3 marks
 demand-3 marks = record {
-  every-list = list-as-book marks;
+  every-list = list-as-model marks;
   cut = λ fine cs xs t a between long.
       let k = thinned-calls marks [] cs xs t in
       let w = as-the-whole marks fine cs a between long in
@@ -670,8 +670,8 @@ demand-3 marks = record {
   beyond = λ fine cs xs t {text} l {out} {r} {after} w.
       let ks : List ℕ = marksOf marks in
       let join : List ℕ = joinAfter ks [] cs in
-      let every = list-as-book marks fine cs xs t in
-      let same-join : takenFrom [] cs xs ≡ join = taken-join ks [] cs xs [] (every .as-the-book) in
+      let every = list-as-model marks fine cs xs t in
+      let same-join : takenFrom [] cs xs ≡ join = taken-join ks [] cs xs [] (every .as-the-model) in
       subst (λ (j : List ℕ). RightOf j text out acceptedOrder r after) (sym same-join)
       (stands-in join (keptBytes ks join) text out (in-place marks join (keptBytes ks join) text (kept-stands ks join (accepted-after ks cs [] refl (nothing-accepted ks))) l) r after
       (subst (λ (h : List ℕ). QuestionCall h text out r after) (every .held ∙ ap (keptBytes ks) same-join) w));

@@ -49,7 +49,7 @@ use Rattle.kept.specs.Kept.{keptFor}
 use Rattle.kept.specs.Selection.{flagsFrom, flags, select, Includes}
 use Rattle.marks.specs.Marks.{marksOf}
 use Rattle.thin.specs.Thin.{keptBytes}
-use Rattle.thin.specs.laws.Book.{records-kept}
+use Rattle.thin.specs.laws.Model.{records-kept}
 use Rattle.thin.specs.laws.Cut.{sound-thinned}
 use Rattle.thin.specs.laws.KeptBytes.{readings-kept}
 use Rattle.promises.specs.KeptAsFull.{Askable, SameAnswers}

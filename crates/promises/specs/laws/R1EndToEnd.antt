@@ -34,19 +34,19 @@ use Rattle.meaning.specs.inner.Truth.{truth, val, someNode, refused8, refused9}
 use Rattle.meaning.specs.laws.Extreme.{Least, least-some}
 use Rattle.question.specs.Question.{read, answer, askingLines, setLines, questionOf}
 use Rattle.marks.specs.Marks.{marksOf}
-use Rattle.thin.specs.Book.{heldAfter}
+use Rattle.thin.specs.Model.{heldAfter}
 use Rattle.thin.specs.laws.R1Calls.{R1-accepted, mark40, mark40-accepted, cuts, cuts-long-enough}
 use Rattle.promises.specs.KeptAsFull.{Askable}
-use Rattle.promises.specs.Lasting.{Lasting}
-use Rattle.promises.specs.laws.Lasting.{lasting}
+use Rattle.promises.specs.EndToEnd.{EndToEnd}
+use Rattle.promises.specs.laws.EndToEnd.{end-to-end}
 
 -- a listed question asked alone
 listed-plain : (marks : List ℕ) (l : Listed) → ((k : ℕ) → List·Memᴰ k (afterTime l) → List·Memᴰ k (map markIndex marks)) → Plain marks (listed l)
 listed-plain marks l h = record { flat = refl; marked = h }
 
 -- R1, cut in three pieces and thinned, lasts
-pub R1-lasts : Lasting mark40 cuts
-R1-lasts = lasting mark40 mark40-accepted cuts R1-accepted (refl, (refl, (refl, tt))) cuts-long-enough
+pub R1-end-to-end : EndToEnd mark40 cuts
+R1-end-to-end = end-to-end mark40 mark40-accepted cuts R1-accepted (refl, (refl, (refl, tt))) cuts-long-enough
 
 reads-lowafter : read (bytes "lowafter(A,40)") ≡ listed (lowafter A 2000000040)
 unfolding parsed parse unsignedAt numberAt operandAt comparisonAt timedAt argumentsAt namedAt headedAt leafAt
@@ -68,10 +68,10 @@ peaks-askable n = subst (Plain (marksOf mark40)) (sym reads-peaks) (listed-plain
 
 -- so the readings held answer both as R1 does
 pub R1-lowafter : (room : ℕ) → questionOf (heldAfter mark40 [] cuts) (bytes "lowafter(A,40)") room ≡ questionOf R1 (bytes "lowafter(A,40)") room
-R1-lowafter room = R1-lasts .same .question (bytes "lowafter(A,40)") lowafter-askable room
+R1-lowafter room = R1-end-to-end .same .question (bytes "lowafter(A,40)") lowafter-askable room
 
 pub R1-peaks : (room : ℕ) → questionOf (heldAfter mark40 [] cuts) (bytes "peaks(A)") room ≡ questionOf R1 (bytes "peaks(A)") room
-R1-peaks room = R1-lasts .same .question (bytes "peaks(A)") peaks-askable room
+R1-peaks room = R1-end-to-end .same .question (bytes "peaks(A)") peaks-askable room
 
 -- ---- the first of the two answers, from the calls to the bytes: 45..Hi
 
