@@ -1,7 +1,7 @@
 -- THE THREE DEMANDS, sentence by sentence, of the calls of the C boundary: of the 64-bit number that a call returns and of the memory that it leaves,
 -- for every call that meets its contract (mill/specs/Calls: QuestionCall, DegreeCall, PairCall, ThinCall, BandCall, OrderCall). Each call of the library is proved to
 -- meet it, for every input, with no condition. That `Demands` holds is `demands` (laws/Demands).
-use Prim.Native.Nat.{ℕ, _*_, _/_, _%_, _<_}
+use Prim.Native.Nat.{ℕ, _*_, _/_, _%_, _≤_, _<_}
 use mathlib.Core.Path.{_≡_}
 use mathlib.Core.Bool.{Bool, true}
 use mathlib.Core.Logic.{_⊎_, _↔_}
@@ -32,12 +32,12 @@ use Rattle.sheet.specs.Finding.{allMet, brokenAt, TrueFinding}
 use Rattle.marks.specs.Marks.{marksOf, marksLine, AcceptedMarks}
 use Rattle.thin.specs.Thin.{keptBytes}
 use Rattle.thin.specs.Model.{Call, model}
+use Rattle.thin.specs.Selection.{Selection}
 use Rattle.thin.specs.Cut.{wholeFrom, CutBetween, LongEnough, allWritten}
 use Rattle.reply.specs.Reply.{half, numberIn, lowIn}
 use Rattle.boundary.specs.Boundary.{Degrees}
 use Rattle.mill.specs.Calls.{QuestionCall, DegreeCall, PairCall, ThinCall, BandCall, OrderCall}
-use Rattle.promises.specs.Selection.{Selection}
-use Rattle.promises.specs.CallsMade.{Returned, readOff, CallsMade, heldAt, takenFrom}
+use Rattle.promises.specs.CallsMade.{Returned, readOff, CallsMade, PinnedCalls, heldAt, takenFrom}
 use Rattle.promises.specs.Table.{Request, question, degree, pair, thin, order, acceptedOrder, NoneMet, FirstMet, band, ordering}
 
 -- ---- DEMAND 1
@@ -169,28 +169,48 @@ module _ (marks : List ℕ) (cs : List Call) (xs : List Returned) where
     pub held : heldAt [] xs ≡ keptBytes (marksOf marks) (wholeFrom [] cs)
 
 -- "the same set, the one that 2 fixes, in the same bytes, or the same refusal, the one that the table of 01 fixes, from kept as from full"
-pub record KeptLikeFull (recording text out : List ℕ) (r r′ : ℕ) (after after′ : List ℕ) : Type 0 where
+pub record LikeFull (recording text out : List ℕ) (r r′ : ℕ) (after after′ : List ℕ) : Type 0 where
   pub same : r ≡ r′
   pub same-bytes : numberIn r ≡ 0 → take (lowIn r) after ≡ take (lowIn r) after′
   pub right : RightOf recording text out (1 ∷ 2 ∷ 3 ∷ acceptedOrder) r after
 
--- DEMAND 3, its three sentences; what the band call and the order call return and leave on the kept readings, and on every selection that includes them,
--- is what they do on the full recording (document 02, Papers 9 and 6); and beyond it: after any list of calls, however long the join, what is held answers
--- what the text means of the join, of which only 4 to 10 are asked; with marks that 11 refuses every call is refused and nothing is ever held
+-- `held` is in the place of the recording: what a call returns and leaves on it, it returns and leaves on the recording, of a text that may be asked of
+-- kept readings; and "under the same marks, with room, thins back to exactly the kept readings" (document 02, Paper 10)
+pub record InPlaceOf (marks recording held : List ℕ) : Type 0 where
+  pub question : {text out : List ℕ} {r : ℕ} {after : List ℕ} → AskedOfKept marks text → QuestionCall held text out r after → QuestionCall recording text out r after
+  pub degree : {text : List ℕ} (target : ℤ) {distance value r distance-after value-after : ℕ} → AskedOfKept marks text
+      → DegreeCall held text target distance value r distance-after value-after → DegreeCall recording text target distance value r distance-after value-after
+  pub pair : (curve : ℕ) (target : ℤ) {earlier later r earlier-after later-after : ℕ}
+      → PairCall held curve target earlier later r earlier-after later-after → PairCall recording curve target earlier later r earlier-after later-after
+  pub band : {text : List ℕ} (e : ℤ) {low high lowest highest r low-after high-after lowest-after highest-after : ℕ} → AskedOfKept marks text
+      → BandCall held text e low high lowest highest r low-after high-after lowest-after highest-after
+      → BandCall recording text e low high lowest highest r low-after high-after lowest-after highest-after
+  pub order-sheet : (sheet : List ℕ) {time line r time-after line-after : ℕ} → OrderCall held sheet time line r time-after line-after
+      → OrderCall recording sheet time line r time-after line-after
+  pub thinning : {out : List ℕ} {r : ℕ} {after : List ℕ} → ThinCall held marks out r after → ThinCall recording marks out r after
+  pub thins-back : {out : List ℕ} {r : ℕ} {after : List ℕ} → length (keptBytes (marksOf marks) recording) ≤ length out → ThinCall held marks out r after
+      → (numberIn r ≡ 0) × (take (lowIn r) after ≡ keptBytes (marksOf marks) recording)
+
+-- DEMAND 3, its three sentences. Document 02, Paper 10: "every selection in order from an accepted recording that includes its kept readings" is in its
+-- place, of which the kept readings are the least; and readings put back between two calls of a list change nothing in what is held, nor in what comes out
+-- of a recording that is cut. Beyond it: after any list of calls, however long the join, what is held answers what the text means of the join, of which
+-- only 4 to 10 are asked; with marks that 11 refuses every call is refused and nothing is ever held
 pub record Demand3 (marks : List ℕ) : Type 0 where
   pub every-list : AcceptedMarks marks → (cs : List Call) (xs : List Returned) → CallsMade marks [] cs xs → EveryList marks cs xs
   pub cut : AcceptedMarks marks → (cs : List Call) (xs : List Returned) → CallsMade marks [] cs xs → Accepted (wholeFrom [] cs) → CutBetween cs
       → LongEnough (marksOf marks) [] cs → CutWhole marks cs xs
   pub kept-as-full : AcceptedMarks marks → {recording text : List ℕ} → Accepted recording → AskedOfKept marks text
       → {out out′ : List ℕ} → length out ≡ length out′ → {r r′ : ℕ} {after after′ : List ℕ} → QuestionCall (keptBytes (marksOf marks) recording) text out r after
-      → QuestionCall recording text out′ r′ after′ → KeptLikeFull recording text out r r′ after after′
+      → QuestionCall recording text out′ r′ after′ → LikeFull recording text out r r′ after after′
   pub least-selection : (recording : List ℕ) → Selection (marksOf marks) recording (keptBytes (marksOf marks) recording)
-  pub band-as-full : AcceptedMarks marks → (recording held text : List ℕ) → Accepted recording → Selection (marksOf marks) recording held → AskedOfKept marks text
-      → (e : ℤ) {low high lowest highest r low-after high-after lowest-after highest-after : ℕ}
-      → BandCall held text e low high lowest highest r low-after high-after lowest-after highest-after
-      → BandCall recording text e low high lowest highest r low-after high-after lowest-after highest-after
-  pub order-as-full : AcceptedMarks marks → (recording held sheet : List ℕ) → Accepted recording → Selection (marksOf marks) recording held
-      → {time line r time-after line-after : ℕ} → OrderCall held sheet time line r time-after line-after → OrderCall recording sheet time line r time-after line-after
+  pub selected-as-full : AcceptedMarks marks → {recording held text : List ℕ} → Accepted recording → Selection (marksOf marks) recording held → AskedOfKept marks text
+      → {out out′ : List ℕ} → length out ≡ length out′ → {r r′ : ℕ} {after after′ : List ℕ} → QuestionCall held text out r after
+      → QuestionCall recording text out′ r′ after′ → LikeFull recording text out r r′ after after′
+  pub selected-in-place : AcceptedMarks marks → {recording held : List ℕ} → Accepted recording → Selection (marksOf marks) recording held → InPlaceOf marks recording held
+  pub pinned : AcceptedMarks marks → (cs : List Call) (xs : List Returned) → PinnedCalls marks [] cs xs
+      → heldAt [] xs ≡ keptBytes (marksOf marks) (takenFrom [] cs xs)
+  pub pinned-cut : AcceptedMarks marks → (cs : List Call) (xs : List Returned) → PinnedCalls marks [] cs xs → Accepted (wholeFrom [] cs) → CutBetween cs
+      → LongEnough (marksOf marks) [] cs → CutWhole marks cs xs
   pub beyond : AcceptedMarks marks → (cs : List Call) (xs : List Returned) → CallsMade marks [] cs xs → {text : List ℕ} → AskedOfKept marks text
       → {out : List ℕ} {r : ℕ} {after : List ℕ} → QuestionCall (heldAt [] xs) text out r after → RightOf (takenFrom [] cs xs) text out acceptedOrder r after
   pub bad-marks : marksLine marks .meets ≡ true → (cs : List Call) (xs : List Returned) → CallsMade marks [] cs xs

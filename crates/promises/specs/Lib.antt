@@ -3,7 +3,6 @@ pub mod CallsMade
 pub mod Demands
 pub mod KeptAsFull
 pub mod StandIn
-pub mod Selection
 pub mod EndToEnd
 pub mod FormulasAsked
 pub mod MarkedLines

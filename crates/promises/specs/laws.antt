@@ -1,7 +1,6 @@
 pub mod Table
 pub mod CallLines
 pub mod Observation
-pub mod Selection
 pub mod StandIn
 pub mod KeptAsFull
 pub mod EndToEnd
@@ -10,6 +9,11 @@ pub mod MarkedLines
 pub mod FormulasAsked
 pub mod OldRecordings
 pub mod Operator
+pub mod Demand1
+pub mod Demand2
+pub mod Lists
+pub mod Selected
+pub mod Pins
 pub mod Demands
 pub mod AskedOfKept
 pub mod BandToday

@@ -41,7 +41,8 @@ use Rattle.reply.specs.laws.Unpacked.{number-result}
 use Rattle.mill.specs.Calls.{QuestionCall, BandCall}
 use Rattle.number.specs.Axis.{axis, whole, OfAxis}
 use Rattle.promises.specs.Demands.{Fixed, InRun, BandTold}
-use Rattle.promises.specs.laws.Demands.{demands, band-given}
+use Rattle.promises.specs.laws.Demand2.{band-given}
+use Rattle.promises.specs.laws.Demands.{demands}
 
 says-holds : (q : Listed) (recording : List ℕ) (z : ℤ) (t : Text) → t ≡ listed q → Holds (readings recording) z t 0 ↔ Says q (readings recording) z
 unfolding Holds

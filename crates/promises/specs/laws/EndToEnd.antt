@@ -20,7 +20,7 @@ module _ (marks : List ℕ) (fine : AcceptedMarks marks) (cs : List Call) (accep
       let w : AsTheWhole marks cs = as-the-whole marks fine cs accepted cut long in
       record {
         calls-written = w .answers;
-        same = subst (λ (held : List ℕ). SameAnswers marks held (wholeFrom [] cs)) (sym (w .held)) (kept-as-full marks fine (wholeFrom [] cs) accepted);
+        same = subst (λ (held : List ℕ). SameAnswers marks held (wholeFrom [] cs)) (sym (w .held)) (kept-as-full marks (wholeFrom [] cs) accepted);
       }
 
 -- AFTER ANY LIST OF CALLS, refused ones included, the readings held answer as the join of the pieces taken, where that is an accepted recording
@@ -28,4 +28,4 @@ pub held-as-join : (marks : List ℕ) → AcceptedMarks marks → (cs : List Cal
     → SameAnswers marks (heldAfter marks [] cs) (joinAfter (marksOf marks) [] cs)
 held-as-join marks fine cs accepted =
     subst (λ (held : List ℕ). SameAnswers marks held (joinAfter (marksOf marks) [] cs)) (sym (as-the-model marks fine cs .held))
-    (kept-as-full marks fine (joinAfter (marksOf marks) [] cs) accepted)
+    (kept-as-full marks (joinAfter (marksOf marks) [] cs) accepted)

@@ -1,13 +1,24 @@
--- DEMAND 3, its last sentence, proved: kept as full.
+-- DEMAND 3, its last sentence, and document 02, Paper 10, proved: selections that include the kept readings answer as the recording; kept as full is of the least.
 use Prim.Native.Nat.{ℕ}
 use mathlib.Core.List.{List}
 use Rattle.recording.specs.Recording.{Accepted}
-use Rattle.marks.specs.Marks.{marksOf, AcceptedMarks}
+use Rattle.marks.specs.Marks.{marksOf}
 use Rattle.thin.specs.Thin.{keptBytes}
+use Rattle.thin.specs.Selection.{Selection}
+use Rattle.thin.specs.laws.Selection.{kept-selection, selection-accepted}
 use Rattle.promises.specs.KeptAsFull.{SameAnswers}
-use Rattle.promises.specs.laws.StandIn.{stand-answers, kept-stands, kept-accepted}
+use Rattle.promises.specs.StandIn.{StandIn}
+use Rattle.promises.specs.laws.StandIn.{stand-answers, selection-stands}
 
--- for every accepted recording and accepted marks
-pub kept-as-full : (marks : List ℕ) → AcceptedMarks marks → (bytes : List ℕ) → Accepted bytes → SameAnswers marks (keptBytes (marksOf marks) bytes) bytes
-kept-as-full marks fine bytes accepted =
-    stand-answers marks bytes (keptBytes (marksOf marks) bytes) (kept-stands (marksOf marks) bytes (kept-accepted (marksOf marks) bytes accepted)) accepted
+module _ (marks full held : List ℕ) (a : Accepted full) (s : Selection (marksOf marks) full held) where
+  -- a selection of an accepted recording is a stand-in
+  pub selected-stands : StandIn (marksOf marks) full held
+  selected-stands = selection-stands (marksOf marks) full held (selection-accepted (marksOf marks) full held s a) s
+
+  -- EVERY SELECTION that includes the kept readings answers as the recording
+  pub selected-as-full : SameAnswers marks held full
+  selected-as-full = stand-answers marks full held selected-stands a
+
+-- KEPT AS FULL: the least selection
+pub kept-as-full : (marks full : List ℕ) → Accepted full → SameAnswers marks (keptBytes (marksOf marks) full) full
+kept-as-full marks full a = selected-as-full marks full (keptBytes (marksOf marks) full) a (kept-selection (marksOf marks) full)

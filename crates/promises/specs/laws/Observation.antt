@@ -19,9 +19,9 @@ use Rattle.meaning.specs.Listed.{recordAt}
 use Rattle.meaning.specs.Meaning.{lastOf, readingAt}
 use Rattle.meaning.specs.Alike.{Alike}
 use Rattle.meaning.specs.laws.Alike.{Tested, tested-alike}
-use Rattle.kept.specs.Kept.{firstGreatest, less, more, extremes, anyTime, after, keptFor, kept}
+use Rattle.kept.specs.Kept.{firstGreatest, less, more, extremes, anyTime, after, keptFor}
 use Rattle.kept.specs.Selection.{flags, select, Includes}
-use Rattle.kept.specs.laws.Stability.{_⊑_, left, right, pick-flags, select-blind}
+use Rattle.kept.specs.laws.Stability.{_⊑_, left, right, select-blind}
 use Rattle.kept.specs.laws.Rule.{some-blind}
 use Rattle.kept.specs.laws.Kept.{kept-piecewise, on-curve, extremes-kept, extremes-after-kept, same-events, same-additions}
 
@@ -101,14 +101,3 @@ module _ (marks : List ℕ) (r : List Reading) (mask : List Bool) (w : Includes 
   -- A SELECTION THAT INCLUDES THE KEPT READINGS HAS THE SAME OBSERVATION
   pub selection-alike : Alike marks (select mask r) r
   selection-alike = tested-alike selection-tested
-
--- ---- the kept readings are such a selection
-
-pub includes-itself : (flags : List Bool) → Includes flags flags
-includes-itself [] = tt
-includes-itself (f ∷ fs) = (λ h. h, includes-itself fs)
-
-pub kept-alike : (marks : List ℕ) (r : List Reading) → Alike marks (kept marks r) r
-kept-alike marks r =
-    subst (λ (s : List Reading). Alike marks s r) (sym (pick-flags (keptFor marks) [] r))
-    (selection-alike marks r (flags (keptFor marks) r) (includes-itself (flags (keptFor marks) r)))

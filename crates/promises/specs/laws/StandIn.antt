@@ -1,22 +1,21 @@
--- A stand-in answers as the recording does: the question, the degree, the band, the pair and the order call. The kept readings are a stand-in.
+-- A stand-in answers as the recording does: the question, the degree, the band, the pair and the order call. Every selection that includes the kept readings is one.
 use Prim.Native.Nat.{ℕ, _<_}
 use native.Mathlib.Omega.{arith}
 use native.Mathlib.Decide.{decLt}
 use mathlib.Core.Path.{_≡_, refl, sym, ap, ap₂, _∙_, subst, fun-ext}
 use mathlib.Core.Bool.{Bool, true, false, cond, So, false≢true}
 use mathlib.Core.Logic.{_↔_}
-use mathlib.Core.List.{List, [], _∷_, _++_, append-nil, map}
+use mathlib.Core.List.{List, [], _∷_, _++_}
 use lib.Dec.{eqb, ltb}
 use lib.IntN.{ℤ}
 use lib.ListN.{length, length-map}
-use borrow.Author.Tests.{eq-eqb, ne-eqb, eqb-true}
+use borrow.Author.Tests.{eq-eqb, eqb-true}
 use Rattle.number.specs.Axis.{whole}
 use Rattle.refusal.specs.Outcome.{refused, Line, line, judged, NoneMeets}
-use Rattle.recording.specs.Condition.{pick, on, when, pickFrom}
+use Rattle.recording.specs.Condition.{pick}
 use Rattle.recording.specs.Reading.{Reading, top, curveOf, a-top}
-use Rattle.recording.specs.Recording.{Raw, records, reading, readings, recordingLines, noRecord, Accepted}
+use Rattle.recording.specs.Recording.{records, reading, readings, recordingLines, noRecord, Accepted}
 use Rattle.recording.specs.Output.{outputLine}
-use Rattle.recording.specs.laws.Acceptance.{Sound, accepted-sound, sound-accepted}
 use Rattle.recording.specs.laws.Outcome.{judged-pass}
 use Rattle.runset.specs.Runs.{setBytes}
 use Rattle.runset.specs.laws.Runs.{setBytes-ext}
@@ -48,14 +47,10 @@ use Rattle.sheet.specs.laws.Same.{same-finding}
 use Rattle.kept.specs.Kept.{keptFor}
 use Rattle.kept.specs.Selection.{flagsFrom, flags, select, Includes}
 use Rattle.marks.specs.Marks.{marksOf}
-use Rattle.thin.specs.Thin.{keptBytes}
-use Rattle.thin.specs.laws.Model.{records-kept}
-use Rattle.thin.specs.laws.Cut.{sound-thinned}
-use Rattle.thin.specs.laws.KeptBytes.{readings-kept}
+use Rattle.thin.specs.Selection.{Selection}
+use Rattle.thin.specs.laws.Selection.{selection-readings}
 use Rattle.promises.specs.KeptAsFull.{Askable, SameAnswers}
-use Rattle.promises.specs.Selection.{Selection}
-use Rattle.promises.specs.laws.Observation.{kept-alike, selection-alike}
-use Rattle.promises.specs.laws.Selection.{selected-readings, selected-accepted}
+use Rattle.promises.specs.laws.Observation.{selection-alike}
 use Rattle.promises.specs.StandIn.{StandIn}
 
 -- ---- lines judged
@@ -203,47 +198,6 @@ module _ (marks full held : List ℕ) (s : StandIn (marksOf marks) full held) (a
   pub stand-answers : SameAnswers marks held full
   stand-answers = record { question = stand-question; degree = stand-degree; pair = stand-pair; band = stand-band; ordering = stand-order }
 
--- ---- kept readings
-
--- no record in, none out; and some out where there are some
-kept-count : (ks : List ℕ) (r : List Raw) → eqb (length (pick (on reading (keptFor ks)) r)) 0 ≡ eqb (length r) 0
-kept-count ks [] = refl
-kept-count ks (x ∷ r) =
-    ne-eqb (length (pick (on reading (keptFor ks)) (x ∷ r))) 0 (λ e. omega arith) ∙ sym (ne-eqb (length (x ∷ r)) 0 (λ e. omega arith))
-
--- the last record is kept
-kept-last : (ks : List ℕ) (b : List Raw) (x : Raw) (r : List Raw) → 0 < length (pickFrom (on reading (keptFor ks)) b (x ∷ r))
-kept-last ks [] x [] = omega arith
-kept-last ks (y ∷ b) x [] = omega arith
-kept-last ks b x (y ∷ r) = more (on reading (keptFor ks) b x (y ∷ r)) (kept-last ks (x ∷ b) y r)
-  where
-    more : (k : Bool) → 0 < length (pickFrom (on reading (keptFor ks)) (x ∷ b) (y ∷ r)) → 0 < length (when k x (pickFrom (on reading (keptFor ks)) (x ∷ b) (y ∷ r)))
-    more true h = omega arith
-    more false h = h
-
--- one record out exactly where there is one: of several the first and the last are kept
-kept-single : (ks : List ℕ) (r : List Raw) → (length (pick (on reading (keptFor ks)) r) ≡ 1) ↔ (length r ≡ 1)
-kept-single ks [] = (λ z. z, λ z. z)
-kept-single ks (x ∷ []) = (λ z. refl, λ z. refl)
-kept-single ks (x ∷ (y ∷ r)) =
-    let h = kept-last ks (x ∷ []) y r in
-    (λ z. absurd (omega arith), λ z. absurd (omega arith))
-
--- OF A RECORDING OF ANY LENGTH, whose kept readings are accepted
-pub kept-stands : (ks full : List ℕ) → Accepted (keptBytes ks full) → StandIn ks full (keptBytes ks full)
-kept-stands ks full a =
-    let kept : List ℕ = keptBytes ks full in
-    let e : eqb (length (records kept)) 0 ≡ eqb (length (records full)) 0 = ap (λ (r : List Raw). eqb (length r) 0) (records-kept ks full) ∙ kept-count ks (records full) in
-    record {
-      accepted = a;
-      empty = (
-        λ z. eqb-true (length (records full)) 0 (sym e ∙ eq-eqb (length (records kept)) 0 z),
-        λ z. eqb-true (length (records kept)) 0 (e ∙ eq-eqb (length (records full)) 0 z),
-      );
-      single = subst (λ (r : List Raw). (length r ≡ 1) ↔ (length (records full) ≡ 1)) (sym (records-kept ks full)) (kept-single ks (records full));
-      alike = subst (λ r. Alike ks r (readings full)) (sym (readings-kept ks full)) (kept-alike ks (readings full));
-    }
-
 -- ---- selections
 
 -- a selection that includes the last record has one
@@ -269,24 +223,18 @@ selected-empty ks (x ∷ r) mask w =
     let h = selected-last ks [] x r mask w in
     (λ z. absurd (omega arith), λ z. absurd (omega arith))
 
--- EVERY SELECTION IN ORDER of an accepted recording THAT INCLUDES THE KEPT READINGS is a stand-in
-pub selection-stands : (ks full held : List ℕ) → Accepted full → Selection ks full held → StandIn ks full held
+-- EVERY SELECTION IN ORDER THAT INCLUDES THE KEPT READINGS, of a recording of any length, is a stand-in where it is accepted
+pub selection-stands : (ks full held : List ℕ) → Accepted held → Selection ks full held → StandIn ks full held
 selection-stands ks full held a h =
-    let e : readings held ≡ select (h .mask) (readings full) = ap readings (h .bytes) ∙ selected-readings (h .mask) full in
+    let e : readings held ≡ select (h .mask) (readings full) = selection-readings ks full held h in
     let l = length-map (records held) reading in
     let m = length-map (records full) reading in
     let n = ap length e in
     let none = selected-empty ks (readings full) (h .mask) (h .includes) in
     let one = selected-single ks (readings full) (h .mask) (h .includes) in
     record {
-      accepted = subst Accepted (sym (h .bytes)) (selected-accepted (h .mask) full a);
+      accepted = a;
       empty = (λ z. sym m ∙ none .0 (sym n ∙ l ∙ z), λ z. sym l ∙ n ∙ none .1 (m ∙ z));
       single = (λ z. sym m ∙ one .0 (sym n ∙ l ∙ z), λ z. sym l ∙ n ∙ one .1 (m ∙ z));
       alike = subst (λ (r : List Reading). Alike ks r (readings full)) (sym e) (selection-alike ks (readings full) (h .mask) (h .includes));
     }
-
--- KEPT READINGS of an accepted recording ARE ACCEPTED
-pub kept-accepted : (ks full : List ℕ) → Accepted full → Accepted (keptBytes ks full)
-kept-accepted ks full accepted =
-    let s : Sound full = accepted-sound full accepted in
-    sound-accepted (keptBytes ks full) (subst Sound (append-nil (keptBytes ks full)) (sound-thinned ks full [] (s .whole) (subst Sound (sym (append-nil full)) s)))

@@ -1,0 +1,214 @@
+-- DEMAND 1, proved of each call: an answer by the table, and a refusal writes nothing.
+use Prim.Native.Nat.{ℕ, _+_, _*_, _≤_, _<_}
+use native.Mathlib.Omega.{arith}
+use mathlib.Core.Path.{_≡_, refl, sym, ap, ap₂, subst, _∙_}
+use mathlib.Core.List.{List, [], _∷_, _++_}
+use lib.IntN.{ℤ}
+use lib.ListN.{length, take, drop}
+use lib.Seq.{take-append-seam, drop-append-seam}
+use Rattle.refusal.specs.Outcome.{Outcome, result, refused}
+use Rattle.recording.specs.Recording.{readings, recordingLines}
+use Rattle.recording.specs.Output.{counted, outputLine}
+use Rattle.runset.specs.Runs.{setBytes}
+use Rattle.question.specs.Question.{read, answer, askingLines, setLines, questionOf}
+use Rattle.degree.specs.Degree.{Value, met, short, noValue, valueOf, targetLine, nearnessOf}
+use Rattle.meaning.specs.inner.Coded.{coded, index}
+use Rattle.band.specs.Call.{widthOf, theQuestion, widthLine, extremeLine, bandOf}
+use Rattle.band.specs.Means.{Part, empty, run, Bands}
+use Rattle.band.specs.inner.Ends.{bandsOf}
+use Rattle.pair.specs.Pair.{Given, times, none, firstPair, pairLines, pairOf}
+use Rattle.sheet.specs.Sheet.{sheetOf}
+use Rattle.sheet.specs.Finding.{Finding, allMet, brokenAt}
+use Rattle.sheet.specs.inner.Found.{finding}
+use Rattle.sheet.specs.Call.{orderLines, orderOf}
+use Rattle.thin.specs.Thin.{keptBytes, thinOf}
+use Rattle.marks.specs.Marks.{marksOf, marksLine}
+use Rattle.reply.specs.Reply.{half, packed, InHalf, numberIn, lowIn}
+use Rattle.reply.specs.laws.Unpacked.{Numbered, number-result, low-result, number-refused, low-refused}
+use Rattle.boundary.specs.Boundary.{Writes, valueTold, distanceAfter, degreeAfter, pairTold, earlierAfter, laterAfter, filled, bandTold, InBands, findingTold, Orders}
+use Rattle.mill.specs.Calls.{DegreeCall, PairCall, BandCall, OrderCall}
+use Rattle.mill.specs.laws.Calls.{thin-in-half, question-in-half, degree-in-half, pair-in-half, band-in-half, order-in-half}
+use Rattle.promises.specs.Table.{Request, question, degree, pair, thin, order, band, ordering}
+use Rattle.promises.specs.laws.Table.{number-bounds, AsTable, met-there, judged-told}
+use Rattle.promises.specs.laws.CallLines.{agree-question, agree-degree, agree-pair, agree-thin, agree-band, agree-order}
+use Rattle.promises.specs.Demands.{ByTheTable, OneAnswer, Demand1}
+use Rattle.recording.specs.Reading.{curveOf}
+
+-- ---- DEMAND 1: the number that is returned
+
+module _ (q : Request) (ks : List ℕ) where
+  -- a packed outcome, judged by the table
+  pub judged-number : (o : Outcome ℕ) (r : ℕ) → r ≡ packed o → InHalf o → AsTable q ks o → ByTheTable q ks r
+  judged-number (result n) r e h t =
+      let z : numberIn r ≡ 0 = ap numberIn e ∙ number-result n h in
+      record { in-64-bits = omega arith; a-result = (λ k. t, λ k. z); a-refusal = λ k. absurd (k z) }
+  judged-number (refused n p) r e h t =
+      let k : numberIn r ≡ n = ap numberIn e ∙ number-refused n p h in
+      let b = number-bounds (t .0) in
+      let m = t .2 in
+      let there = met-there q ks (t .0) (t .1) in
+      record {
+        in-64-bits = omega arith;
+        a-result = (λ z. absurd (omega arith), λ none. absurd (none (t .0) (there .0) (there .1)));
+        a-refusal = λ z. (t .0, t .1, k ∙ t .2, ap lowIn e ∙ low-refused n p h ∙ t .3);
+      }
+
+  pub told-counted : (o : Outcome (List ℕ)) → AsTable q ks o → AsTable q ks (counted o)
+  told-counted (result b) t = t
+  told-counted (refused n p) t = t
+
+  pub told-numbered : (o : Outcome ℕ) → AsTable q ks o → Numbered o
+  told-numbered (result n) t = tt
+  told-numbered (refused n p) t = let b = number-bounds (t .0) in let m = t .2 in omega arith
+
+-- a call that writes bytes and is refused leaves its output
+kept-output : (o : Outcome (List ℕ)) (out : List ℕ) (r : ℕ) (after : List ℕ) → InHalf (counted o) → Writes o out r after → ¬ (numberIn r ≡ 0) → after ≡ out
+kept-output (result b) out r after h w k = absurd (k (ap numberIn (w .returned) ∙ number-result (length b) h))
+kept-output (refused n p) out r after h w k = w .output
+
+-- and one that is not leaves the bytes that it wrote, and behind them what was there
+pub wrote : (o : Outcome (List ℕ)) (out : List ℕ) (r : ℕ) (after : List ℕ) → InHalf (counted o) → Numbered (counted o) → Writes o out r after → numberIn r ≡ 0
+    → (b : List ℕ) × (o ≡ result b) × (lowIn r ≡ length b) × (take (lowIn r) after ≡ b) × (drop (lowIn r) after ≡ drop (lowIn r) out)
+wrote (result b) out r after h k w z =
+    let l : lowIn r ≡ length b = ap lowIn (w .returned) ∙ low-result (length b) h in (
+      b,
+      refl,
+      l,
+      ap₂ take l (w .output) ∙ take-append-seam b (drop (length b) out),
+      ap₂ drop l (w .output) ∙ drop-append-seam b (drop (length b) out) ∙ ap (λ (n : ℕ). drop n out) (sym l),
+    )
+wrote (refused n p) out r after h k w z = let e = ap numberIn (w .returned) ∙ number-refused n p h in absurd (omega arith)
+
+-- ---- DEMAND 1, of each call
+
+pub question-told : (bytes text : List ℕ) (room : ℕ) → AsTable (question bytes text room) (order (question bytes text room)) (questionOf bytes text room)
+unfolding questionOf
+question-told bytes text room =
+    judged-told (question bytes text room) (askingLines bytes text ++ (setLines bytes (read text) ++ (outputLine room (setBytes (answer bytes text)) ∷ [])))
+    (order (question bytes text room)) (setBytes (answer bytes text)) (agree-question bytes text room)
+
+pub thin-told : (bytes marks : List ℕ) (room : ℕ) → AsTable (thin bytes marks room) (order (thin bytes marks room)) (thinOf bytes marks room)
+unfolding thinOf
+thin-told bytes marks room =
+    judged-told (thin bytes marks room) (recordingLines bytes ++ marksLine marks ∷ outputLine room (keptBytes (marksOf marks) bytes) ∷ [])
+    (order (thin bytes marks room)) (keptBytes (marksOf marks) bytes) (agree-thin bytes marks room)
+
+-- a call that writes bytes
+writes-answered : (q : Request) (o : Outcome (List ℕ)) (out : List ℕ) (r : ℕ) (after : List ℕ) → AsTable q (order q) o → InHalf (counted o) → Writes o out r after
+    → OneAnswer q r out after
+writes-answered q o out r after t h w = record {
+  result-or-refusal = judged-number q (order q) (counted o) r (w .returned) h (told-counted q (order q) o t);
+  refusal-writes-nothing = kept-output o out r after h w;
+}
+
+pub degree-told : (bytes text : List ℕ) (target : ℤ) → AsTable (degree bytes text target) (order (degree bytes text target)) (nearnessOf bytes text target)
+unfolding nearnessOf
+degree-told bytes text target =
+    judged-told (degree bytes text target) (askingLines bytes text ++ (targetLine target ∷ setLines bytes (read text))) (order (degree bytes text target))
+    (valueOf (answer bytes text) (index target)) (agree-degree bytes text target)
+
+-- the two places of the degree call
+degree-answered : (bytes text : List ℕ) (target : ℤ) (distance degree′ r first second : ℕ) → DegreeCall bytes text target distance degree′ r first second
+    → OneAnswer (degree bytes text target) r (distance ∷ degree′ ∷ []) (first ∷ second ∷ [])
+degree-answered bytes text target distance degree′ r first second d =
+    go (nearnessOf bytes text target) refl (degree-told bytes text target) (d .returned) (d .first-place) (d .second-place)
+  where
+    q : Request
+    q = degree bytes text target
+
+    go : (o : Outcome Value) → nearnessOf bytes text target ≡ o → AsTable q (order q) o → r ≡ packed (valueTold o) → first ≡ distanceAfter o distance
+        → second ≡ degreeAfter o degree′ → OneAnswer q r (distance ∷ degree′ ∷ []) (first ∷ second ∷ [])
+    go (result met) e t p f s = record { result-or-refusal = judged-number q (order q) (result 0) r p (omega arith) t; refusal-writes-nothing = λ k. absurd (k (ap numberIn p)) }
+    go (result (short d k)) e t p f s = record { result-or-refusal = judged-number q (order q) (result 1) r p (omega arith) t; refusal-writes-nothing = λ k. absurd (k (ap numberIn p)) }
+    go (result noValue) e t p f s = record { result-or-refusal = judged-number q (order q) (result 2) r p (omega arith) t; refusal-writes-nothing = λ k. absurd (k (ap numberIn p)) }
+    go (refused n i) e t p f s =
+        record { result-or-refusal = judged-number q (order q) (refused n i) r p (subst (λ (o : Outcome Value). InHalf (valueTold o)) e (degree-in-half bytes text target)) t; refusal-writes-nothing = λ k. ap₂ (λ (x y : ℕ). x ∷ y ∷ []) f s }
+
+pair-told : (bytes : List ℕ) (curve : ℕ) (target : ℤ) → AsTable (pair bytes curve target) (order (pair bytes curve target)) (pairOf bytes curve target)
+unfolding pairOf
+pair-told bytes curve target =
+    judged-told (pair bytes curve target) (pairLines bytes curve target) (order (pair bytes curve target)) (firstPair (readings bytes) (curveOf curve) target)
+    (agree-pair bytes curve target)
+
+-- and of the pair call
+pair-answered : (bytes : List ℕ) (curve : ℕ) (target : ℤ) (earlier later r first second : ℕ) → PairCall bytes curve target earlier later r first second
+    → OneAnswer (pair bytes curve target) r (earlier ∷ later ∷ []) (first ∷ second ∷ [])
+pair-answered bytes curve target earlier later r first second c =
+    go (pairOf bytes curve target) refl (pair-told bytes curve target) (c .returned) (c .first-place) (c .second-place)
+  where
+    q : Request
+    q = pair bytes curve target
+
+    go : (o : Outcome Given) → pairOf bytes curve target ≡ o → AsTable q (order q) o → r ≡ packed (pairTold o) → first ≡ earlierAfter o earlier
+        → second ≡ laterAfter o later → OneAnswer q r (earlier ∷ later ∷ []) (first ∷ second ∷ [])
+    go (result (times t u)) e h p f s = record { result-or-refusal = judged-number q (order q) (result 1) r p (omega arith) h; refusal-writes-nothing = λ k. absurd (k (ap numberIn p)) }
+    go (result none) e h p f s = record { result-or-refusal = judged-number q (order q) (result 0) r p (omega arith) h; refusal-writes-nothing = λ k. absurd (k (ap numberIn p)) }
+    go (refused n i) e h p f s =
+        record { result-or-refusal = judged-number q (order q) (refused n i) r p (subst (λ (o : Outcome Given). InHalf (pairTold o)) e (pair-in-half bytes curve target)) h; refusal-writes-nothing = λ k. ap₂ (λ (x y : ℕ). x ∷ y ∷ []) f s }
+
+pub band-judged : (bytes text : List ℕ) (e : ℤ) → AsTable (band bytes text e) (order (band bytes text e)) (bandOf bytes text e)
+unfolding bandOf
+band-judged bytes text e =
+    judged-told (band bytes text e) (askingLines bytes text ++ (widthLine e ∷ extremeLine (read text) ∷ [])) (order (band bytes text e))
+    (bandsOf (theQuestion (read text)) (widthOf e) (coded bytes)) (agree-band bytes text e)
+
+pub filled-few : (p : Part) → filled p ≤ 1
+filled-few empty = omega arith
+filled-few (run l h) = omega arith
+
+-- the four places of the band call
+band-answered : (bytes text : List ℕ) (e : ℤ) (low high lowest highest r a b c d : ℕ) → BandCall bytes text e low high lowest highest r a b c d
+    → OneAnswer (band bytes text e) r (low ∷ high ∷ lowest ∷ highest ∷ []) (a ∷ b ∷ c ∷ d ∷ [])
+band-answered bytes text e low high lowest highest r a b c d w =
+    go (bandOf bytes text e) refl (band-judged bytes text e) w
+  where
+    q : Request
+    q = band bytes text e
+
+    go : (o : Outcome Bands) → bandOf bytes text e ≡ o → AsTable q (order q) o → InBands o low high lowest highest r a b c d
+        → OneAnswer q r (low ∷ high ∷ lowest ∷ highest ∷ []) (a ∷ b ∷ c ∷ d ∷ [])
+    go (result x) h t w =
+        let m = filled-few (x .certain) in let n = filled-few (x .possible) in
+        let small : filled (x .certain) + 2 * filled (x .possible) < half = omega arith in
+        record {
+          result-or-refusal = judged-number q (order q) (bandTold (result x)) r (w .returned) small t;
+          refusal-writes-nothing = λ k. absurd (k (ap numberIn (w .returned) ∙ number-result (filled (x .certain) + 2 * filled (x .possible)) small));
+        }
+    go (refused n i) h t w = record {
+      result-or-refusal = judged-number q (order q) (refused n i) r (w .returned) (subst (λ (o : Outcome Bands). InHalf (bandTold o)) h (band-in-half bytes text e)) t;
+      refusal-writes-nothing = λ k. let f = w .first-place in let g = w .second-place in let u = w .third-place in let v = w .fourth-place in λ j. f j ∷ g j ∷ u j ∷ v j ∷ [];
+    }
+
+pub order-judged : (bytes sheet : List ℕ) → AsTable (ordering bytes sheet) (order (ordering bytes sheet)) (orderOf bytes sheet)
+unfolding orderOf
+order-judged bytes sheet =
+    judged-told (ordering bytes sheet) (orderLines bytes sheet) (order (ordering bytes sheet)) (finding (sheetOf sheet) (readings bytes)) (agree-order bytes sheet)
+
+-- the two places of the order call
+order-answered : (bytes sheet : List ℕ) (time line r first second : ℕ) → OrderCall bytes sheet time line r first second
+    → OneAnswer (ordering bytes sheet) r (time ∷ line ∷ []) (first ∷ second ∷ [])
+order-answered bytes sheet time line r first second w = go (orderOf bytes sheet) refl (order-judged bytes sheet) w
+  where
+    q : Request
+    q = ordering bytes sheet
+
+    go : (o : Outcome Finding) → orderOf bytes sheet ≡ o → AsTable q (order q) o → Orders o time line r first second → OneAnswer q r (time ∷ line ∷ []) (first ∷ second ∷ [])
+    go (result allMet) e t w = record { result-or-refusal = judged-number q (order q) (result 0) r (w .returned) (omega arith) t; refusal-writes-nothing = λ k. absurd (k (ap numberIn (w .returned))) }
+    go (result (brokenAt u k)) e t w = record { result-or-refusal = judged-number q (order q) (result 1) r (w .returned) (omega arith) t; refusal-writes-nothing = λ k. absurd (k (ap numberIn (w .returned))) }
+    go (refused n i) e t w = record {
+      result-or-refusal = judged-number q (order q) (refused n i) r (w .returned) (subst (λ (o : Outcome Finding). InHalf (findingTold o)) e (order-in-half bytes sheet)) t;
+      refusal-writes-nothing = λ k. ap₂ (λ (x y : ℕ). x ∷ y ∷ []) (w .first-place) (w .second-place);
+    }
+
+pub demand-1 : Demand1
+demand-1 = record {
+  of-question = λ {recording} {text} {out} {r} {after} w.
+      writes-answered (question recording text (length out)) (questionOf recording text (length out)) out r after (question-told recording text (length out)) (question-in-half recording text (length out)) w;
+  of-degree = λ {recording} {text} {target} {distance} {value} {r} {distance-after} {value-after} d. degree-answered recording text target distance value r distance-after value-after d;
+  of-pair = λ {recording} {curve} {target} {earlier} {later} {r} {earlier-after} {later-after} c. pair-answered recording curve target earlier later r earlier-after later-after c;
+  of-thin = λ {recording} {marks} {out} {r} {after} w.
+      writes-answered (thin recording marks (length out)) (thinOf recording marks (length out)) out r after (thin-told recording marks (length out)) (thin-in-half recording marks (length out)) w;
+  of-band = λ {recording} {text} {e} {low} {high} {lowest} {highest} {r} {low-after} {high-after} {lowest-after} {highest-after} w.
+      band-answered recording text e low high lowest highest r low-after high-after lowest-after highest-after w;
+  of-order = λ {recording} {sheet} {time} {line} {r} {time-after} {line-after} w. order-answered recording sheet time line r time-after line-after w;
+}

@@ -1,0 +1,147 @@
+-- DEMAND 3, of readings in the place of a recording: stand-ins, and every selection that includes the kept readings.
+use Prim.Native.Nat.{ℕ, _≤_}
+use mathlib.Core.Path.{_≡_, sym, ap, ap₂, subst, _∙_}
+use mathlib.Core.List.{List, [], _∷_, _++_}
+use lib.ListN.{length, take, drop}
+use lib.Seq.{take-append-seam}
+use borrow.Author.Tests.{le-ltb}
+use Rattle.refusal.specs.Outcome.{Outcome, result}
+use Rattle.recording.specs.Recording.{Accepted, recordingLines}
+use Rattle.recording.specs.Output.{counted, outputLine}
+use Rattle.recording.specs.laws.Outcome.{judged-none, append-none}
+use Rattle.grammar.specs.Syntax.{Text}
+use Rattle.grammar.specs.Grammar.{ReadsWhole}
+use Rattle.meaning.specs.Alike.{Plain}
+use Rattle.number.specs.laws.Boolean.{same}
+use Rattle.question.specs.Question.{read, questionOf}
+use Rattle.question.specs.laws.Lines.{read-reads}
+use Rattle.band.specs.Means.{empty}
+use Rattle.thin.specs.Thin.{keptBytes, thinOf}
+use Rattle.marks.specs.Marks.{marksOf, marksLine, AcceptedMarks}
+use Rattle.reply.specs.Reply.{packed, InHalf, numberIn, lowIn}
+use Rattle.reply.specs.laws.Unpacked.{number-result, low-result}
+use Rattle.boundary.specs.Boundary.{Writes}
+use Rattle.boundary.specs.laws.Boundary.{degrees-same, pairs-same, bands-same, orders-same}
+use Rattle.mill.specs.Calls.{QuestionCall, ThinCall}
+use Rattle.mill.specs.laws.Calls.{thin-in-half, question-in-half}
+use Rattle.promises.specs.Table.{Request, question, degree, pair, order, acceptedOrder, band, ordering}
+use Rattle.promises.specs.laws.Table.{AsTable}
+use Rattle.promises.specs.laws.CallLines.{InPlace}
+use Rattle.promises.specs.laws.Operator.{unwritten-flat}
+use Rattle.promises.specs.StandIn.{StandIn}
+use Rattle.thin.specs.Selection.{Selection}
+use Rattle.thin.specs.laws.Selection.{selection-thinned}
+use Rattle.promises.specs.laws.StandIn.{stand-same}
+use Rattle.promises.specs.KeptAsFull.{Askable, SameAnswers}
+use Rattle.promises.specs.laws.KeptAsFull.{selected-as-full}
+use Rattle.promises.specs.Demands.{Fixed, AskedOfKept, RightOf, LikeFull, InPlaceOf}
+use Rattle.promises.specs.laws.Demand1.{judged-number, told-counted, told-numbered, wrote, question-told, demand-1}
+use Rattle.promises.specs.laws.Demand2.{stood-told, stood-fixed, written-set}
+
+-- ---- DEMAND 3: kept readings in the place of the recording
+
+asked-plain : (marks text : List ℕ) → AskedOfKept marks text → (t : Text) → ReadsWhole text t → Plain (marksOf marks) t
+asked-plain marks text l t r = record { flat = unwritten-flat text t r (l .none-written); marked = l .marked t r }
+
+-- a stand-in is in the recording's place for every such text
+pub in-place : (marks full held text : List ℕ) → StandIn (marksOf marks) full held → AskedOfKept marks text → InPlace full held text
+in-place marks full held text s l = record {
+  accepted = s .accepted;
+  empty = s .empty;
+  same = λ some sized t r. stand-same (marksOf marks) full held s some t (asked-plain marks text l t r);
+}
+
+pub stands-in : (full held text out : List ℕ) → InPlace full held text → (r : ℕ) (after : List ℕ) → QuestionCall held text out r after
+    → RightOf full text out acceptedOrder r after
+stands-in full held text out place r after w =
+    let o : Outcome (List ℕ) = questionOf held text (length out) in
+    let q : Request = question full text (length out) in
+    let t : AsTable q acceptedOrder (counted o) = told-counted q acceptedOrder o (stood-told full held text place (length out)) in
+    let h : InHalf (counted o) = question-in-half held text (length out) in
+    record {
+      refusal = judged-number q acceptedOrder (counted o) r (w .returned) h t;
+      set = λ z. let b = wrote o out r after h (told-numbered q acceptedOrder (counted o) t) w z in
+          subst (Fixed full text) (sym (b .3)) (stood-fixed full held text place (length out) (b .0) (b .1));
+    }
+
+-- ---- DEMAND 3: selections in the place of the recording
+
+-- with room, thinning gives the kept readings
+pub thinned-whole : (marks : List ℕ) → AcceptedMarks marks → (recording : List ℕ) → Accepted recording → (room : ℕ) → length (keptBytes (marksOf marks) recording) ≤ room
+    → thinOf recording marks room ≡ result (keptBytes (marksOf marks) recording)
+unfolding thinOf
+thinned-whole marks fine recording a room h =
+    let kept : List ℕ = keptBytes (marksOf marks) recording in
+    judged-none (recordingLines recording ++ marksLine marks ∷ outputLine room kept ∷ []) kept
+    (append-none (recordingLines recording) (marksLine marks ∷ outputLine room kept ∷ []) a (fine .0, (le-ltb room (length kept) h, tt)))
+
+asked-askable : (marks text : List ℕ) → AskedOfKept marks text → Askable marks text
+asked-askable marks text l n = asked-plain marks text l (read text) (read-reads text (n .1 .0))
+
+module _ (marks recording held : List ℕ) (fine : AcceptedMarks marks) (a : Accepted recording) (s : Selection (marksOf marks) recording held) where
+  answers : SameAnswers marks held recording
+  answers = selected-as-full marks recording held a s
+
+  selected-question : {text out : List ℕ} {r : ℕ} {after : List ℕ} → AskedOfKept marks text → QuestionCall held text out r after → QuestionCall recording text out r after
+  selected-question {text} {out} {r} {after} l w = subst (λ (o : Outcome (List ℕ)). Writes o out r after) (answers .question text (asked-askable marks text l) (length out)) w
+
+  selected-thin : {out : List ℕ} {r : ℕ} {after : List ℕ} → ThinCall held marks out r after → ThinCall recording marks out r after
+  selected-thin {out} {r} {after} w = subst (λ (o : Outcome (List ℕ)). Writes o out r after) (selection-thinned marks recording held s a (length out)) w
+
+  pub selected-place : InPlaceOf marks recording held
+  selected-place = record {
+    question = selected-question;
+    degree = λ {text} target l w. degrees-same (answers .degree text (asked-askable marks text l) target) w;
+    pair = λ curve target w. pairs-same (answers .pair curve target) w;
+    band = λ {text} e l w. bands-same (answers .band text (asked-askable marks text l) e) w;
+    order-sheet = λ sheet w. orders-same (answers .ordering sheet) w;
+    thinning = selected-thin;
+    thins-back = λ {out} {r} {after} room w.
+        let e = thinned-whole marks fine recording a (length out) room in
+        let h : InHalf (counted (result (keptBytes (marksOf marks) recording))) = subst (λ (o : Outcome (List ℕ)). InHalf (counted o)) e (thin-in-half recording marks (length out)) in
+        let v : Writes (result (keptBytes (marksOf marks) recording)) out r after = subst (λ (o : Outcome (List ℕ)). Writes o out r after) e (selected-thin w) in
+        let l : lowIn r ≡ length (keptBytes (marksOf marks) recording) = ap lowIn (v .returned) ∙ low-result _ h in
+        (ap numberIn (v .returned) ∙ number-result _ h, ap₂ take l (v .output) ∙ take-append-seam (keptBytes (marksOf marks) recording) _);
+  }
+
+-- two calls alike in all but their outputs, which have one length
+same-written : (recording text out out′ : List ℕ) (r r′ : ℕ) (after after′ : List ℕ) → length out ≡ length out′ → QuestionCall recording text out r after
+    → QuestionCall recording text out′ r′ after′ → (r ≡ r′) × (numberIn r ≡ 0 → take (lowIn r) after ≡ take (lowIn r) after′)
+same-written recording text out out′ r r′ after after′ e w w′ = (
+  same,
+  λ z.
+      let b = bytes-of out r after w z in
+      let b′ = bytes-of out′ r′ after′ w′ (ap numberIn (sym same) ∙ z) in
+      let q : questionOf recording text (length out) ≡ questionOf recording text (length out′) = ap (questionOf recording text) e in
+      let x = b .1 in
+      let y = b′ .1 in
+      let s : b .0 ≡ b′ .0 = same-bytes (b .0) (b′ .0) (sym x ∙ q ∙ y) in
+      b .3 ∙ s ∙ sym (b′ .3) ∙ ap (λ (n : ℕ). take (lowIn n) after′) (sym same),
+)
+  where
+    same : r ≡ r′
+    same = w .returned ∙ ap (λ (n : ℕ). packed (counted (questionOf recording text n))) e ∙ sym (w′ .returned)
+
+    same-bytes : (x y : List ℕ) → result x ≡ result y → x ≡ y
+    same-bytes x y e = cc
+
+    bytes-of : (out : List ℕ) (r : ℕ) (after : List ℕ) → QuestionCall recording text out r after → numberIn r ≡ 0
+        → (b : List ℕ) × (questionOf recording text (length out) ≡ result b) × (lowIn r ≡ length b) × (take (lowIn r) after ≡ b) × (drop (lowIn r) after ≡ drop (lowIn r) out)
+    bytes-of out r after w z =
+        let q : Request = question recording text (length out) in
+        let o : Outcome (List ℕ) = questionOf recording text (length out) in
+        wrote o out r after (question-in-half recording text (length out))
+        (told-numbered q (order q) (counted o) (told-counted q (order q) o (question-told recording text (length out)))) w z
+
+-- "the same set in the same bytes, or the same refusal": of every selection that includes the kept readings
+pub like-full : (marks : List ℕ) → AcceptedMarks marks → {recording held text : List ℕ} → Accepted recording → Selection (marksOf marks) recording held → AskedOfKept marks text
+    → {out out′ : List ℕ} → length out ≡ length out′ → {r r′ : ℕ} {after after′ : List ℕ} → QuestionCall held text out r after
+    → QuestionCall recording text out′ r′ after′ → LikeFull recording text out r r′ after after′
+like-full marks fine {recording} {held} {text} a s l {out} {out′} e {r} {r′} {after} {after′} w w′ =
+    let v = selected-question marks recording held fine a s l w in
+    let k = same-written recording text out out′ r r′ after after′ e v w′ in
+    record {
+      same = k .0;
+      same-bytes = k .1;
+      right = record { refusal = demand-1 .of-question v .result-or-refusal; set = λ z. written-set recording text out r after v z .set };
+    }
