@@ -262,6 +262,15 @@ uint64_t mill_pair(const uint8_t *recording, size_t recording_len, uint32_t curv
 ** rising, flat, flat and falling: kept are those at 0, 1, 3 and 4. peaks(A) is 4
 ** of these as of the five; but F(T=v), which is 0 to 4 of the five, lacks 2.
 **
+** Readings may be put back among the kept ones by choice: any readings of the same
+** recording, unaltered, none twice, each at its place in the order of time, on top
+** of all the kept ones. Such a selection answers as the recording does wherever
+** kept readings do, with the marks of the thinning: pins add none. Thinned under the
+** same marks it gives exactly the kept readings. So readings of the pieces taken may
+** also be put back between two calls of a thinning piece by piece (below): where
+** no call is refused, what is kept in the end is the same. Of a selection that lacks
+** a kept reading, or has one of another recording, nothing is promised.
+**
 ** Readings that were kept by a version in which a top needed no rise carry no such
 ** assurance: they may lack the rise. Of the five above the first version kept
 ** those at 0, 3 and 4, and of these peaks(A) is empty. Where the full recording

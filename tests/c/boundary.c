@@ -1,7 +1,7 @@
 /*
 ** Covers: mill.h as a C99 program uses it. R1's lines, R2's and R3's, every refusal, null with length 0, memory that stays as it was,
-** thinning piece by piece, and plateaus: what the header says of five readings, and one that fills a recording. Exits with 1 and says
-** why if anything differs.
+** thinning piece by piece, readings put back, and plateaus: what the header says of five readings, and one that fills a recording. Exits
+** with 1 and says why if anything differs.
 */
 #include "mill.h"
 
@@ -509,6 +509,39 @@ static void thinning_of_r2(void)
     }
 }
 
+/* The reading of R2 at 20 or at 50 put back among the kept ones: alike in all calls, and thinned back. */
+static void pins_on_r2(void)
+{
+    static const size_t kept_at[] = {0, 1, 3, 4, 6, 8};
+    static const uint32_t plain[] = {0, 10, 30, 40, 60, 80};
+    const int64_t top[] = {40, 40}, swing[] = {MILL_AXIS_LOW, 8};
+    uint8_t pinned[7 * MILL_RECORD_BYTES], out[R2_BYTES], held[R2_BYTES];
+    uint32_t earlier = 77, later = 77;
+    size_t pin, i, at, held_len;
+    for (pin = 2; pin <= 5; pin += 3) {
+        for (i = 0, at = 0; i < 6; i++, at++) {
+            if (kept_at[i] > pin && at == i)
+                memcpy(pinned + MILL_RECORD_BYTES * at++, r2 + MILL_RECORD_BYTES * pin, MILL_RECORD_BYTES);
+            memcpy(pinned + MILL_RECORD_BYTES * at, r2 + MILL_RECORD_BYTES * kept_at[i], MILL_RECORD_BYTES);
+        }
+        EXPECT(times(out, (size_t)mill_thin(pinned, sizeof pinned, NULL, 0, out, 96), plain, 6));
+        EXPECT(answers_of(pinned, sizeof pinned, "peaks(A)", 1, top) && answers_of(pinned, sizeof pinned, "ampl(A)", 1, swing));
+        EXPECT(mill_pair(pinned, sizeof pinned, MILL_CURVE_A, 20, &earlier, &later) == MILL_NO_PAIR);
+        /* At the end of the kept readings it is out of order. */
+        memcpy(pinned, out, 96);
+        memcpy(pinned + 96, r2 + MILL_RECORD_BYTES * pin, MILL_RECORD_BYTES);
+        EXPECT(mill_thin(pinned, sizeof pinned, NULL, 0, out, sizeof out) == ((uint64_t)MILL_BAD_RECORD << 32 | 6));
+    }
+    /* Six readings taken, of which 0, 10, 30, 40 and 50 are held; that at 20 put back before the other three. */
+    held_len = (size_t)mill_thin(r2, 6 * MILL_RECORD_BYTES, NULL, 0, held, sizeof held);
+    EXPECT(held_len == 5 * MILL_RECORD_BYTES);
+    memmove(held + 3 * MILL_RECORD_BYTES, held + 2 * MILL_RECORD_BYTES, held_len - 2 * MILL_RECORD_BYTES);
+    memcpy(held + 2 * MILL_RECORD_BYTES, r2 + 2 * MILL_RECORD_BYTES, MILL_RECORD_BYTES);
+    memcpy(held + held_len + MILL_RECORD_BYTES, r2 + 6 * MILL_RECORD_BYTES, 3 * MILL_RECORD_BYTES);
+    EXPECT(memcmp(held, r2, sizeof held) == 0);
+    EXPECT(times(out, (size_t)mill_thin(held, sizeof held, NULL, 0, out, sizeof out), plain, 6));
+}
+
 /* Each addition is kept, without the record before it, and what is kept answers as the whole. */
 static void thinning_of_r3(void)
 {
@@ -570,6 +603,7 @@ int main(void)
     nothing_at_all();
     thinning_of_r1();
     thinning_of_r2();
+    pins_on_r2();
     thinning_of_r3();
     thinning_of_a_plateau();
     printf("boundary.c: %d failures\n", failures);

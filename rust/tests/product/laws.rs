@@ -44,6 +44,15 @@ fn askable(text: &[u8], marks: &[i64]) -> bool {
     })
 }
 
+/// A question on extremes; its after-time, if it has one, is a mark.
+fn extreme(random: &mut Random, marks: &[i64]) -> String {
+    let curve = random.pick(&["A", "B"]);
+    if marks.is_empty() || random.once_in(2) {
+        return format!("{}({curve})", random.pick(&["high", "low", "ampl"]));
+    }
+    format!("{}({curve},{})", random.pick(&["lowafter", "capafter"]), random.pick(marks))
+}
+
 /// An answer to the degree call, its numbers by their bits.
 fn degree_of(recording: &[u8], text: &[u8], target: i64) -> Result<(u8, u64, u64), Refusal> {
     mill::degree(recording, text, target).map(|degree| match degree {
@@ -53,8 +62,9 @@ fn degree_of(recording: &[u8], text: &[u8], target: i64) -> Result<(u8, u64, u64
     })
 }
 
-/// Four texts asked of the readings held as of the full recording, a degree, and the pair at a target and at a gap that there is.
-fn same_answers(random: &mut Random, records: &[Record], marks: &[i64], held: &[u8], full: &[u8]) {
+/// Four texts asked of the readings held as of the full recording, each with a degree and a band, the pair at a target and at a gap
+/// that there is, and an order sheet.
+pub fn same_answers(random: &mut Random, records: &[Record], marks: &[i64], held: &[u8], full: &[u8]) {
     for _ in 0..4 {
         let size = random.pick(&[1, 1, 2, 3, 5]);
         let mut text = plain_text(random, records, marks, size).into_bytes();
@@ -71,6 +81,10 @@ fn same_answers(random: &mut Random, records: &[Record], marks: &[i64], held: &[
         assert_eq!(of_full, bytes_of(held, &text, room, mill_question), "{}", case());
         degree(full, &text, target);
         assert_eq!(degree_of(full, &text, target), degree_of(held, &text, target), "{}", case());
+        let e = random.pick(&[0, 1, 9, 1_000_000, 1_000_001]);
+        for text in [&text[..], extreme(random, marks).as_bytes()] {
+            assert_eq!(mill::band(full, text, e), mill::band(held, text, e), "{} within {e}: {}", text.escape_ascii(), case());
+        }
         for curve in [Curve::A, Curve::B] {
             for target in [target, recordings::gap(random, records, curve as usize)] {
                 assert_eq!(mill::pair(full, curve, target), mill::pair(held, curve, target), "{target}: {}", case());

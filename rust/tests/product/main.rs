@@ -18,6 +18,7 @@ mod limits;
 mod order;
 mod page;
 mod pair;
+mod pinned;
 mod question;
 mod stack;
 mod texts;

@@ -3,7 +3,8 @@
 //! A fenced block whose first line is ```` ```mill ```` holds examples, one to a line: a text, ` => `, and its answer on R1.
 //! An answer is `empty`; or runs in ascending order, parted by `, `, each a number or `low..high`, with `Lo` and `Hi` for the
 //! axis ends; or `refused` with number and place. ```` ```mill kept ```` asks R1's kept readings without marks,
-//! ```` ```mill kept 40 50 ```` those with these marks. ```` ```mill degree 51 ```` asks for degrees of this target: `met`,
+//! ```` ```mill kept 40 50 ```` those with these marks, ```` ```mill kept 40 with 20 50 ```` these with the readings at 20 and 50 put back.
+//! ```` ```mill degree 51 ```` asks for degrees of this target: `met`,
 //! `distance d, degree g` or `no value`. ```` ```mill band 5 ```` asks within this band: `certain` and a set, `; possible` and a
 //! set. ```` ```mill order ```` checks order sheets, lines `a b` parted by `, `: `met`, or `line k broken at t`.
 //! ```` ```mill R2 ````, ```` ```mill R3 ```` and ```` ```mill R4 ````, with any of these behind it, ask R2, R3 and R4, and
@@ -33,6 +34,8 @@ enum Recording {
 enum Asked {
     OfFull,
     OfKept(Vec<u32>),
+    /// Of those with these marks, with the readings at these times put back.
+    OfPinned(Vec<u32>, Vec<u32>),
     OfOldList,
     Degree(i64),
     Band(i64),
@@ -109,9 +112,12 @@ fn block_of(name: &str) -> Result<Block, String> {
     let asked = match how {
         [] => Asked::OfFull,
         ["old"] => Asked::OfOldList,
-        ["kept", marks @ ..] => {
-            let marks: Result<Vec<u32>, _> = marks.iter().map(|mark| mark.parse()).collect();
-            Asked::OfKept(marks.map_err(unread)?)
+        ["kept", numbers @ ..] => {
+            let read = |words: &[&str]| words.iter().map(|word| word.parse()).collect::<Result<Vec<u32>, _>>().map_err(unread);
+            match numbers.iter().position(|word| *word == "with") {
+                None => Asked::OfKept(read(numbers)?),
+                Some(at) => Asked::OfPinned(read(&numbers[..at])?, read(&numbers[at + 1..])?),
+            }
         }
         ["degree", target] => Asked::Degree(target.parse().map_err(unread)?),
         ["band", e] => Asked::Band(e.parse().map_err(unread)?),
@@ -135,6 +141,14 @@ fn answer(example: &Example) -> String {
         Asked::OfKept(marks) => {
             let kept = mill::thin(&recording, marks).expect("accepted marks");
             mill::question(&kept, text).map(|runs| on_the_page(&runs))
+        }
+        Asked::OfPinned(marks, pins) => {
+            let kept = mill::thin(&recording, marks).expect("accepted marks");
+            let pinned = |reading: &&[u8]| kept.chunks(16).any(|kept| kept == *reading) || pins.contains(&reading[0].into());
+            let selection: Vec<u8> = recording.chunks(16).filter(pinned).flatten().copied().collect();
+            assert_eq!(selection.len(), kept.len() + 16 * pins.len(), "readings that are there, and not kept");
+            assert_eq!(mill::thin(&selection, marks).as_ref(), Ok(&kept), "thinned back");
+            mill::question(&selection, text).map(|runs| on_the_page(&runs))
         }
         Asked::OfOldList => {
             let old = kept_by(Rule::Document01, &in_rules(&recording).unwrap(), &[]);
@@ -260,6 +274,10 @@ fn the_page_answers_as_the_library() {
     assert!(has(Recording::R4, true, lost) && has(Recording::R4, false, lost), "{path} has no two examples {lost} of R4");
     let of_old = |example: &Example| matches!(example.asked, Asked::OfOldList) && is(example, Recording::R4, lost);
     assert!(examples.iter().any(of_old), "{path} has no example {lost} of the old list");
+    assert!(
+        examples.iter().any(|example| matches!(example.asked, Asked::OfPinned(..))),
+        "{path} has no example with readings put back"
+    );
     for name in names {
         assert!(examples.iter().any(|example| example.text.contains(name)), "{path} has no example with {name}");
     }
@@ -305,6 +323,10 @@ peaks(A) => 40, 60
 ```mill R2 kept 10
 X(A=v) => 9
 ```
+```mill R2 kept 10 with 50 70
+F(T=v) => 0, 10, 20, 30, 40, 50, 60, 70, 80
+F(T=v) => 50, 70
+```
 ```mill R3 kept
 dose(16) => 40
 dose(7) => 20, 60
@@ -338,24 +360,26 @@ refused 6 0
 ```
 ";
     let found = examples(page).unwrap();
-    assert_eq!(found.len(), 28);
+    assert_eq!(found.len(), 30);
     let wrong = wrong(&found);
-    assert_eq!(wrong.len(), 9, "{wrong:?}");
+    assert_eq!(wrong.len(), 10, "{wrong:?}");
     assert_eq!(wrong[0], "line 7: A=v|A>90 => 40, and not refused 9 9");
     assert_eq!(wrong[1], "line 22: F(T=v&A=55) => 50, and not empty");
     assert_eq!(wrong[2], "line 26: peaks(A) => distance 19, degree 0.05, and not distance 19, degree 0.06");
     assert_eq!(wrong[3], "line 32: peaks(A) => 40, and not 40, 60");
-    assert_eq!(wrong[4], "line 39: dose(7) => 20, and not 20, 60");
-    assert_eq!(wrong[5], "line 46: peaks(A) => empty, and not 40");
-    assert_eq!(wrong[6], "line 50: high(A) => certain Lo..85; possible Lo..95, and not certain Lo..85; possible Lo..94");
-    assert_eq!(wrong[7], "line 54: 7 16, 16 7 => line 1 broken at 20, and not line 0 broken at 20");
-    assert_eq!(wrong[8], "line 63: lag => runs 0\n, and not runs 1\n");
+    assert_eq!(wrong[4], "line 39: F(T=v) => 0, 10, 20, 30, 40, 50, 60, 70, 80, and not 50, 70");
+    assert_eq!(wrong[5], "line 43: dose(7) => 20, and not 20, 60");
+    assert_eq!(wrong[6], "line 50: peaks(A) => empty, and not 40");
+    assert_eq!(wrong[7], "line 54: high(A) => certain Lo..85; possible Lo..95, and not certain Lo..85; possible Lo..94");
+    assert_eq!(wrong[8], "line 58: 7 16, 16 7 => line 1 broken at 20, and not line 0 broken at 20");
+    assert_eq!(wrong[9], "line 67: lag => runs 0\n, and not runs 1\n");
     assert!(examples("```mill\nlag\n```\n").is_err());
     assert!(examples("```mill\nlag => empty\n").is_err());
     assert!(examples("```mill keep\n```\n").is_err());
     assert!(examples("```mill R5\n```\n").is_err());
     assert!(examples("```mill kept R2\n```\n").is_err());
     assert!(examples("```mill kept x\n```\n").is_err());
+    assert!(examples("```mill kept 10 with x\n```\n").is_err());
     assert!(examples("```mill degree\n```\n").is_err());
     assert!(examples("```mill band x\n```\n").is_err());
     assert!(examples("```mill order 3\n```\n").is_err());
