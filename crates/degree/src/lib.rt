@@ -68,7 +68,7 @@ fn near_text(rec: &[u8], table: &[u32], count: usize, index: u32) -> Nearness
 }
 
 // How near the set of a text that was read comes to a target.
-fn near_target(rec: &[u8], table: &[u32], count: usize, target: i64) -> Nearness
+pub fn near_target(rec: &[u8], table: &[u32], count: usize, target: i64) -> Nearness
     requires { ⌜ Ready (now table) count (now rec) ⌝ }
     ensures { λ r. ⌜ outcomeOf r ≡ judged (targetLine target ∷ setLines (now (rec .entry)) (textOf (now (table .entry)) count)) (valueOf (λ n. val (coded (now (rec .entry))) n (textOf (now (table .entry)) count) 0) (indexOf target)) ⌝ }
 {

@@ -14,4 +14,5 @@ pub mod R3Lines
 pub mod Recorded
 pub mod Formulas
 pub mod Alike
+pub mod Named
 pub mod Unpigmented

@@ -26,7 +26,7 @@ fn write_set(set: &[u32], out: &mut [u8]) -> Written
 }
 
 // Answers a text that was read.
-fn answer(rec: &[u8], table: &[u32], count: usize, out: &mut [u8]) -> Written
+pub fn answer(rec: &[u8], table: &[u32], count: usize, out: &mut [u8]) -> Written
     requires { ⌜ Ready (now table) count (now rec) ⌝ }
     ensures { λ r. ⌜ Answers (answerOf (now (rec .entry)) (textOf (now (table .entry)) count) (length (now (out .entry)))) (now (out .entry)) r (now (out .exit)) ⌝ }
 {

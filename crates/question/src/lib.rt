@@ -4,4 +4,5 @@ mod call;
 pub mod limits;
 pub mod prepare;
 
+pub use call::answer;
 pub use call::question;

@@ -29,6 +29,8 @@ pub enum Refusal {
     BadTarget,
     // The order sheet has an odd length, over 32 lines, or a number that is not 1 to 16.
     BadSheet,
+    // A laboratory may not ask this: the text names B, `cross`, `crossup` or `lag`, holds F, G, X, U or W, or has an after-time that is no mark; a pair of tops of B.
+    NotForLaboratory,
     // The band is not 0 to 1,000,000 units.
     BadBand,
     // The text is not one question that is answered within a band, alone.
@@ -53,6 +55,7 @@ pub fn number(r: Refusal) -> u32
         Refusal::BadMarks => 11,
         Refusal::BadTarget => 12,
         Refusal::BadSheet => 13,
+        Refusal::NotForLaboratory => 14,
         Refusal::BadBand => 16,
         Refusal::NotBandQuestion => 17,
     }
@@ -76,6 +79,7 @@ pub fn place(r: Refusal) -> usize
         Refusal::BadMarks => 0,
         Refusal::BadTarget => 0,
         Refusal::BadSheet => 0,
+        Refusal::NotForLaboratory => 0,
         Refusal::BadBand => 0,
         Refusal::NotBandQuestion => 0,
     }

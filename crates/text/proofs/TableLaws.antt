@@ -13,39 +13,28 @@ use Rattle.grammar.specs.Classes.{within}
 use Rattle.grammar.specs.Syntax.{Text}
 use Rattle.grammar.specs.Size.{temporal, hasListed, mixed, nodes}
 use Rattle.parser.specs.inner.Rows.{Laid}
+use Rattle.text.specs.laws.Table as rows
 use Rattle.text.specs.laws.Table.{held-nodes, held-some, some-either, listedKind, temporalKind, listed-by-kind, temporal-by-kind}
 
 -- SCANS over the kinds
 pub some-here : (P : ℕ → Bool) (T : List ℕ) (n i k : ℕ) (t : Bool) → i < n → k ≡ rowAt T i .kind → t ≡ P k → t ≡ true → true ≡ someKind P T 0 n
-some-here P T zero i k t l e q h = absurd (omega arith)
-some-here P T (suc n) i k t l e q h = go (ltb i n) refl (λ a. some-here P T n i k t a e q h)
-  where
-    go : (b : Bool) → ltb i n ≡ b → (i < n → true ≡ someKind P T 0 n) → true ≡ (someKind P T 0 n || P (rowAt T (0 + n) .kind))
-    go true d f = rw (sym (f (ltb-true i n d))) refl
-    go false d f =
-        let x = ltb-false i n d in
-        let z : i ≡ 0 + n = omega arith in
-        let y : P (rowAt T (0 + n) .kind) ≡ true = ap (λ (j : ℕ). P (rowAt T j .kind)) (sym z) ∙ ap P (sym e) ∙ sym q ∙ h in
-        rw y (sym (or-true (someKind P T 0 n)))
+some-here P T n i k t l e q h = sym (rows.some-here (λ r. P (r .kind)) T n i l (ap P (sym e) ∙ sym q ∙ h))
 
 pub some-next : (P : ℕ → Bool) (T : List ℕ) (i k : ℕ) (t : Bool) → k ≡ rowAt T i .kind → t ≡ P k → t ≡ false → someKind P T 0 i ≡ false → someKind P T 0 (i + 1) ≡ false
-some-next P T i k t e q h g =
-    let z : 0 + i ≡ i = omega arith in
-    let y : P (rowAt T i .kind) ≡ false = ap P (sym e) ∙ sym q ∙ h in
-    rw (add-one i, g, z, y)
+some-next P T i k t e q h g = rows.some-next (λ r. P (r .kind)) T i (ap P (sym e) ∙ sym q ∙ h) g
 
 pub some-end : (P : ℕ → Bool) (T : List ℕ) (i n : ℕ) → i ≤ n → n ≤ i → someKind P T 0 i ≡ false → false ≡ someKind P T 0 n
-some-end P T i n a b g = let z : i ≡ n = omega arith in sym (ap (someKind P T 0) (sym z) ∙ g)
+some-end P = rows.some-end (λ r. P (r .kind))
 
 module _ (T : List ℕ) (n : ℕ) (t : Text) (h : Laid T 0 n t) where
   counted : n ≡ nodes t
   counted = let x = held-nodes h in omega arith
 
   pub listed-scan : (r : Bool) → r ≡ someKind (within HIGH LAG) T 0 n → r ≡ hasListed t
-  listed-scan r e = e ∙ ap (someKind (within HIGH LAG) T 0) counted ∙ sym (held-some listedKind hasListed listed-by-kind h)
+  listed-scan r e = e ∙ ap (someKind (within HIGH LAG) T 0) counted ∙ sym (held-some (λ r. listedKind (r .kind)) hasListed listed-by-kind h)
 
   temporal-is : (someKind (within NEXT GLOBALLY) T 0 n || someKind (within UNTIL WEAK-UNTIL) T 0 n) ≡ temporal t
-  temporal-is = sym (some-either (within NEXT GLOBALLY) (within UNTIL WEAK-UNTIL) T 0 n) ∙ ap (someKind temporalKind T 0) counted ∙ sym (held-some temporalKind temporal temporal-by-kind h)
+  temporal-is = sym (some-either (within NEXT GLOBALLY) (within UNTIL WEAK-UNTIL) T 0 n) ∙ ap (someKind temporalKind T 0) counted ∙ sym (held-some (λ r. temporalKind (r .kind)) temporal temporal-by-kind h)
 
   pub temporal-yes : (r : Bool) → r ≡ someKind (within NEXT GLOBALLY) T 0 n → r ≡ true → true ≡ temporal t
   temporal-yes r e q = sym (ap (λ x. x || someKind (within UNTIL WEAK-UNTIL) T 0 n) (sym e ∙ q)) ∙ temporal-is

@@ -17,7 +17,8 @@ pub fn kind(table: &[u32], n: usize) -> u32
     table[4 * n]
 }
 
-fn between(k: u32, low: u32, high: u32) -> bool
+// Whether k lies between low and high, both included.
+pub fn between(k: u32, low: u32, high: u32) -> bool
     ensures { λ r. ⌜ r ≡ within low high k ⌝ }
 {
     if low <= k { k <= high } else { false }

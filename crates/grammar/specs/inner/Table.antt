@@ -86,7 +86,11 @@ Falling table n =
     × (binaryFrom ≤ rowAt table m .kind → rowAt table m .second < m)
     × (rowAt table m .kind < kinds)
 
--- P holds of one of the n kinds from row b on
+-- P holds of one of the n rows from row b on
+abbrev pub someRow : (Row → Bool) → List ℕ → ℕ → ℕ → Bool
+someRow P table b zero = false
+someRow P table b (suc n) = someRow P table b n || P (rowAt table (b + n))
+
+-- P holds of the kind of one of them
 abbrev pub someKind : (ℕ → Bool) → List ℕ → ℕ → ℕ → Bool
-someKind P table b zero = false
-someKind P table b (suc n) = someKind P table b n || P (rowAt table (b + n) .kind)
+someKind P = someRow (λ r. P (r .kind))

@@ -172,7 +172,7 @@ plain-child {marks} {p} {c} m h = record {
   marked = λ k n. h .marked k (child-marked p c m k n);
 }
 
-plain-node : {marks : List ℕ} {q p : Text} → Node q p → Plain marks p → Plain marks q
+pub plain-node : {marks : List ℕ} {q p : Text} → Node q p → Plain marks p → Plain marks q
 plain-node itself h = h
 plain-node (below m n) h = plain-node n (plain-child m h)
 

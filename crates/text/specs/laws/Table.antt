@@ -4,6 +4,7 @@ use mathlib.Core.Bool.{Bool, true, false, cond, not, _&&_, _||_, or-false, or-tr
 use mathlib.Core.List.{List, [], _∷_, _++_}
 use Prim.Native.Nat.{ℕ, zero, suc, _+_, _-_, _*_, _≤_, _<_}
 use native.Mathlib.Omega.{arith}
+use native.Mathlib.Numerals.{add-one}
 use lib.Dec.{eqb, ltb, leb}
 use lib.ListN.{length, getD, List·getD-append}
 use borrow.Author.Tests.{eqb-true, ltb-true, ltb-false}
@@ -13,16 +14,16 @@ use Rattle.grammar.specs.Syntax.{Text}
 use Rattle.grammar.specs.Size.{temporal, hasListed, nodes}
 use Rattle.grammar.specs.Classes.{within}
 use Rattle.grammar.specs.inner.Kinds.{HIGH, LAG, NOT, NEXT, FINALLY, GLOBALLY, OR, AND, UNTIL, WEAK-UNTIL}
-use Rattle.grammar.specs.inner.Table.{someKind, row, leafTexts, unaries, binaries, build, rowAt, tree, treeAt, Falling, unaryFrom, binaryFrom, kinds}
+use Rattle.grammar.specs.inner.Table.{someRow, someKind, row, leafTexts, unaries, binaries, build, rowAt, tree, treeAt, Falling, unaryFrom, binaryFrom, kinds}
 use Rattle.grammar.specs.inner.Parse.{leafOf, node}
 use Rattle.parser.specs.inner.Rows.{Laid, leaf, unary, binary}
 
 -- what holds of each number below n
-abbrev Each : ℕ → (ℕ → Type 0) → Type 0
+abbrev pub Each : ℕ → (ℕ → Type 0) → Type 0
 Each zero P = Unit {0}
 Each (suc n) P = P zero × Each n (λ k. P (suc k))
 
-each : (n : ℕ) (P : ℕ → Type 0) → Each n P → (k : ℕ) → k < n → P k
+pub each : (n : ℕ) (P : ℕ → Type 0) → Each n P → (k : ℕ) → k < n → P k
 each zero P h k l = absurd (omega arith)
 each (suc n) P h zero l = h .0
 each (suc n) P h (suc k) l = each n (λ j. P (suc j)) (h .1) k (omega arith)
@@ -45,11 +46,11 @@ agree-below (suc n) f g e (suc k) l =
     agree-below n (λ k. f (suc k)) (λ k. g (suc k)) (and-right (cond (f zero) (g zero) (not (g zero))) (agreeBelow n (λ k. f (suc k)) (λ k. g (suc k))) e) k (omega arith)
 
 -- what holds of each of the kinds of operators over one text, and over two
-unary-kinds : (P : ℕ → Type 0) → P NOT → P NEXT → P FINALLY → P GLOBALLY → (k : ℕ) → unaryFrom ≤ k → k < binaryFrom → P k
+pub unary-kinds : (P : ℕ → Type 0) → P NOT → P NEXT → P FINALLY → P GLOBALLY → (k : ℕ) → unaryFrom ≤ k → k < binaryFrom → P k
 unary-kinds P a b c d k l h =
     subst P (let z : unaryFrom + (k - unaryFrom) ≡ k = omega arith in z) (each 4 (λ i. P (unaryFrom + i)) (a, (b, (c, (d, tt)))) (k - unaryFrom) (omega arith))
 
-binary-kinds : (P : ℕ → Type 0) → P OR → P AND → P UNTIL → P WEAK-UNTIL → (k : ℕ) → binaryFrom ≤ k → k < kinds → P k
+pub binary-kinds : (P : ℕ → Type 0) → P OR → P AND → P UNTIL → P WEAK-UNTIL → (k : ℕ) → binaryFrom ≤ k → k < kinds → P k
 binary-kinds P a b c d k l h =
     subst P (let z : binaryFrom + (k - binaryFrom) ≡ k = omega arith in z) (each 4 (λ i. P (binaryFrom + i)) (a, (b, (c, (d, tt)))) (k - binaryFrom) (omega arith))
 
@@ -158,25 +159,44 @@ held-nodes (binary {p = p} {q = u} k a c h g q) =
     let y = binary-kinds (λ j. nodes (node j p u) ≡ nodes p + nodes u + 1) refl refl refl refl k a c in
     omega arith
 
--- ---- scans over the kinds
+-- ---- scans over the rows
 
-some-split : (P : ℕ → Bool) (T : List ℕ) (b m n : ℕ) → someKind P T b (n + m) ≡ (someKind P T b n || someKind P T (b + n) m)
-some-split P T b zero n = let z : n + 0 ≡ n = omega arith in rw z (sym (or-false (someKind P T b n)))
+some-split : (P : Row → Bool) (T : List ℕ) (b m n : ℕ) → someRow P T b (n + m) ≡ (someRow P T b n || someRow P T (b + n) m)
+some-split P T b zero n = let z : n + 0 ≡ n = omega arith in rw z (sym (or-false (someRow P T b n)))
 some-split P T b (suc m) n =
     let z : n + suc m ≡ suc (n + m) = omega arith in
     let w : b + (n + m) ≡ b + n + m = omega arith in
-    rw (z, w, some-split P T b m n) (or-assoc (someKind P T b n) (someKind P T (b + n) m) (P (rowAt T (b + n + m) .kind)))
+    rw (z, w, some-split P T b m n) (or-assoc (someRow P T b n) (someRow P T (b + n) m) (P (rowAt T (b + n + m))))
 
--- a property of texts that goes by the kinds of the nodes
-pub record ByKind (P : ℕ → Bool) (F : Text → Bool) : Type 0 where
-  pub of-leaf : (r : Row) → r .kind < unaryFrom → F (leafOf r) ≡ P (r .kind)
-  pub of-unary : (k : ℕ) (p : Text) → unaryFrom ≤ k → k < binaryFrom → F (node k p p) ≡ (F p || P k)
-  pub of-binary : (k : ℕ) (p q : Text) → binaryFrom ≤ k → k < kinds → F (node k p q) ≡ (F p || F q || P k)
+-- row by row: P holds of row i, of none up to it, of none at all
+pub some-here : (P : Row → Bool) (T : List ℕ) (n i : ℕ) → i < n → P (rowAt T i) ≡ true → someRow P T 0 n ≡ true
+some-here P T zero i l e = absurd (omega arith)
+some-here P T (suc n) i l e = go (ltb i n) refl (λ a. some-here P T n i a e)
+  where
+    go : (b : Bool) → ltb i n ≡ b → (i < n → someRow P T 0 n ≡ true) → (someRow P T 0 n || P (rowAt T (0 + n))) ≡ true
+    go true d f = rw (f (ltb-true i n d)) refl
+    go false d f =
+        let x = ltb-false i n d in
+        let z : i ≡ 0 + n = omega arith in
+        let y : P (rowAt T (0 + n)) ≡ true = ap (λ (j : ℕ). P (rowAt T j)) (sym z) ∙ e in
+        rw y (or-true (someRow P T 0 n))
 
-some-kind : (P : ℕ → Bool) (T : List ℕ) (b n m k : ℕ) → b + n ≡ m → rowAt T m .kind ≡ k → someKind P T b (n + 1) ≡ (someKind P T b n || P k)
-some-kind P T b n m k e q = let z : n + 1 ≡ suc n = omega arith in rw (z, e, q)
+pub some-next : (P : Row → Bool) (T : List ℕ) (i : ℕ) → P (rowAt T i) ≡ false → someRow P T 0 i ≡ false → someRow P T 0 (i + 1) ≡ false
+some-next P T i e g = let z : 0 + i ≡ i = omega arith in rw (add-one i, g, z, e)
 
-pub held-some : (P : ℕ → Bool) (F : Text → Bool) → ByKind P F → {T : List ℕ} {b m : ℕ} {t : Text} → Laid T b m t → F t ≡ someKind P T b (nodes t)
+pub some-end : (P : Row → Bool) (T : List ℕ) (i n : ℕ) → i ≤ n → n ≤ i → someRow P T 0 i ≡ false → false ≡ someRow P T 0 n
+some-end P T i n a b g = let z : i ≡ n = omega arith in sym (ap (someRow P T 0) (sym z) ∙ g)
+
+-- a property of texts that goes by the rows of the nodes
+pub record ByRow (P : Row → Bool) (F : Text → Bool) : Type 0 where
+  pub of-leaf : (r : Row) → r .kind < unaryFrom → F (leafOf r) ≡ P r
+  pub of-unary : (k a b n : ℕ) (p : Text) → unaryFrom ≤ k → k < binaryFrom → F (node k p p) ≡ (F p || P (row k a b n))
+  pub of-binary : (k a b n : ℕ) (p q : Text) → binaryFrom ≤ k → k < kinds → F (node k p q) ≡ (F p || F q || P (row k a b n))
+
+some-last : (P : Row → Bool) (T : List ℕ) (b n m : ℕ) (r : Row) → b + n ≡ m → rowAt T m ≡ r → someRow P T b (n + 1) ≡ (someRow P T b n || P r)
+some-last P T b n m r e q = let z : n + 1 ≡ suc n = omega arith in rw (z, e, q)
+
+pub held-some : (P : Row → Bool) (F : Text → Bool) → ByRow P F → {T : List ℕ} {b m : ℕ} {t : Text} → Laid T b m t → F t ≡ someRow P T b (nodes t)
 held-some P F h {T} (leaf {b} {t} k q) =
     let x : nodes t ≡ 1 = ap nodes (sym q) ∙ leaf-nodes (rowAt T b) k in
     let z : b + 0 ≡ b = omega arith in
@@ -185,17 +205,17 @@ held-some P F h {T} (unary {b} {m} {p} k a c g q) =
     let x = held-nodes g in
     let y = unary-kinds (λ j. nodes (node j p p) ≡ nodes p + 1) refl refl refl refl k a c in
     let z = held-some P F h g in
-    h .of-unary k p a c ∙ ap (λ w. w || P k) z ∙ sym (ap (someKind P T b) y ∙ some-kind P T b (nodes p) m k (sym x) (ap (λ (r : Row). r .kind) q))
+    h .of-unary k (m - 1) 0 0 p a c ∙ ap (λ w. w || P (row k (m - 1) 0 0)) z ∙ sym (ap (someRow P T b) y ∙ some-last P T b (nodes p) m (row k (m - 1) 0 0) (sym x) q)
 held-some P F h {T} (binary {b} {m} {n} {p} {q = u} k a c g i q) =
     let x = held-nodes g in
     let w = held-nodes i in
     let y = binary-kinds (λ j. nodes (node j p u) ≡ nodes p + nodes u + 1) refl refl refl refl k a c in
     let z = held-some P F h g in
     let v = held-some P F h i in
-    let o : someKind P T b (nodes p + nodes u) ≡ (F p || F u) = some-split P T b (nodes u) (nodes p) ∙ rw (← x) (ap₂ _||_ (sym z) (sym v)) in
-    h .of-binary k p u a c
-    ∙ ap (λ w. w || P k) (sym o)
-    ∙ sym (ap (someKind P T b) y ∙ some-kind P T b (nodes p + nodes u) n k (omega arith) (ap (λ (r : Row). r .kind) q))
+    let o : someRow P T b (nodes p + nodes u) ≡ (F p || F u) = some-split P T b (nodes u) (nodes p) ∙ rw (← x) (ap₂ _||_ (sym z) (sym v)) in
+    h .of-binary k (m - 1) (n - 1) 0 p u a c
+    ∙ ap (λ w. w || P (row k (m - 1) (n - 1) 0)) (sym o)
+    ∙ sym (ap (someRow P T b) y ∙ some-last P T b (nodes p + nodes u) n (row k (m - 1) (n - 1) 0) (omega arith) q)
 
 -- the kinds of listed names, and those of X, F, G, U and W
 abbrev pub listedKind : ℕ → Bool
@@ -204,24 +224,24 @@ listedKind k = within HIGH LAG k
 abbrev pub temporalKind : ℕ → Bool
 temporalKind k = within NEXT GLOBALLY k || within UNTIL WEAK-UNTIL k
 
-pub listed-by-kind : ByKind listedKind hasListed
+pub listed-by-kind : ByRow (λ r. listedKind (r .kind)) hasListed
 listed-by-kind =
     record {
       of-leaf = λ r h. agree-below unaryFrom (λ k. hasListed (leafOf (row k (r .first) (r .second) (r .number)))) listedKind refl (r .kind) h;
-      of-unary = λ k p. unary-kinds (λ j. hasListed (node j p p) ≡ (hasListed p || listedKind j))
+      of-unary = λ k a b n p. unary-kinds (λ j. hasListed (node j p p) ≡ (hasListed p || listedKind j))
           (sym (or-false (hasListed p))) (sym (or-false (hasListed p))) (sym (or-false (hasListed p))) (sym (or-false (hasListed p))) k;
-      of-binary = λ k p q. binary-kinds (λ j. hasListed (node j p q) ≡ (hasListed p || hasListed q || listedKind j))
+      of-binary = λ k a b n p q. binary-kinds (λ j. hasListed (node j p q) ≡ (hasListed p || hasListed q || listedKind j))
           (sym (or-false (hasListed p || hasListed q))) (sym (or-false (hasListed p || hasListed q)))
           (sym (or-false (hasListed p || hasListed q))) (sym (or-false (hasListed p || hasListed q))) k;
     }
 
-pub temporal-by-kind : ByKind temporalKind temporal
+pub temporal-by-kind : ByRow (λ r. temporalKind (r .kind)) temporal
 temporal-by-kind =
     record {
       of-leaf = λ r h. agree-below unaryFrom (λ k. temporal (leafOf (row k (r .first) (r .second) (r .number)))) temporalKind refl (r .kind) h;
-      of-unary = λ k p. unary-kinds (λ j. temporal (node j p p) ≡ (temporal p || temporalKind j))
+      of-unary = λ k a b n p. unary-kinds (λ j. temporal (node j p p) ≡ (temporal p || temporalKind j))
           (sym (or-false (temporal p))) (sym (or-true (temporal p))) (sym (or-true (temporal p))) (sym (or-true (temporal p))) k;
-      of-binary = λ k p q. binary-kinds (λ j. temporal (node j p q) ≡ (temporal p || temporal q || temporalKind j))
+      of-binary = λ k a b n p q. binary-kinds (λ j. temporal (node j p q) ≡ (temporal p || temporal q || temporalKind j))
           (sym (or-false (temporal p || temporal q))) (sym (or-false (temporal p || temporal q)))
           (sym (or-true (temporal p || temporal q))) (sym (or-true (temporal p || temporal q))) k;
     }

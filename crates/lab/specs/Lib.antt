@@ -1,0 +1,3 @@
+pub mod Lab
+pub mod inner
+pub mod laws

@@ -1,0 +1,4 @@
+pub mod Barred
+pub mod Laboratory
+pub mod Call
+pub mod Pair
