@@ -2,3 +2,4 @@ pub mod Barred
 pub mod Laboratory
 pub mod Call
 pub mod Pair
+pub mod Plain

@@ -10,6 +10,7 @@ use Rattle.degree.specs.Degree.{nearnessOf}
 use Rattle.question.specs.Question.{questionOf}
 use Rattle.thin.specs.Thin.{thinOf}
 use Rattle.sheet.specs.Call.{orderOf}
+use Rattle.lab.specs.Lab.{labQuestionOf, labDegreeOf, labPairOf}
 use Rattle.boundary.specs.Boundary.{Writes, Degrees, Pairs, InBands, Orders}
 
 abbrev pub QuestionCall : (recording text out : List ℕ) (r : ℕ) (after : List ℕ) → Type 0
@@ -30,3 +31,13 @@ BandCall recording text e certain-low certain-high possible-low possible-high r 
 
 abbrev pub OrderCall : (recording sheet : List ℕ) (time line r first second : ℕ) → Type 0
 OrderCall recording sheet time line r first second = Orders (orderOf recording sheet) time line r first second
+
+-- the calls of a buyer's laboratory (document 02, Paper 7)
+abbrev pub LabQuestionCall : (recording marks text out : List ℕ) (r : ℕ) (after : List ℕ) → Type 0
+LabQuestionCall recording marks text out r after = Writes (labQuestionOf recording marks text (length out)) out r after
+
+abbrev pub LabDegreeCall : (recording marks text : List ℕ) (target : ℤ) (distance degree r first second : ℕ) → Type 0
+LabDegreeCall recording marks text target distance degree r first second = Degrees (labDegreeOf recording marks text target) distance degree r first second
+
+abbrev pub LabPairCall : (recording : List ℕ) (curve : ℕ) (target : ℤ) (earlier later r first second : ℕ) → Type 0
+LabPairCall recording curve target earlier later r first second = Pairs (labPairOf recording curve target) earlier later r first second

@@ -1,5 +1,5 @@
 // The C boundary of the library.
-ghost use Rattle.mill.specs.Calls.{QuestionCall, DegreeCall, PairCall, ThinCall, BandCall, OrderCall};
+ghost use Rattle.mill.specs.Calls.{QuestionCall, DegreeCall, PairCall, ThinCall, BandCall, OrderCall, LabQuestionCall, LabDegreeCall, LabPairCall};
 
 // THE QUESTION CALL. Returns how many bytes of the output the answered set takes, or the refusal.
 #[no_mangle]
@@ -81,4 +81,44 @@ pub extern "C" fn mill_order(rec: &[u8], sheet: &[u8], time: &mut u32, line: &mu
 {
     let found = sheet::order(rec, sheet);
     boundary::tell_order(found, time, line)
+}
+
+// THE LABORATORY'S QUESTION CALL. As the question call, with the marks of the thinning; 14 refuses what could tell of B.
+#[no_mangle]
+pub extern "C" fn mill_lab_question(rec: &[u8], marks: &[u8], text: &[u8], out: &mut [u8]) -> u64
+    ensures { λ r. ⌜ LabQuestionCall (now (rec .entry)) (now (marks .entry)) (now (text .entry)) (now (out .entry)) r (now (out .exit)) ⌝ }
+{
+    let written = lab::lab_question(rec, marks, text, out);
+    reply::written(written)
+}
+
+// THE LABORATORY'S DEGREE CALL. As the degree call, with the marks of the thinning; 14 refuses what could tell of B.
+#[no_mangle]
+pub extern "C" fn mill_lab_degree(
+    rec: &[u8],
+    marks: &[u8],
+    text: &[u8],
+    target: i64,
+    distance: &mut u64,
+    degree: &mut u64,
+) -> u64
+    ensures { λ r. ⌜ LabDegreeCall (now (rec .entry)) (now (marks .entry)) (now (text .entry)) target (now (distance .entry)) (now (degree .entry)) r (now (distance .exit)) (now (degree .exit)) ⌝ }
+{
+    let near = lab::lab_degree(rec, marks, text, target);
+    boundary::tell_degree(near, distance, degree)
+}
+
+// THE LABORATORY'S PAIR CALL. As the pair call; 14 refuses a pair of tops of B.
+#[no_mangle]
+pub extern "C" fn mill_lab_pair(
+    rec: &[u8],
+    curve: u32,
+    target: i64,
+    earlier: &mut u32,
+    later: &mut u32,
+) -> u64
+    ensures { λ r. ⌜ LabPairCall (now (rec .entry)) curve target (now (earlier .entry)) (now (later .entry)) r (now (earlier .exit)) (now (later .exit)) ⌝ }
+{
+    let found = lab::lab_pair(rec, curve, target);
+    boundary::tell_pair(found, earlier, later)
 }

@@ -1,8 +1,9 @@
 -- Laws of the calls: the result and the place fit in the low half of what a call returns, so that a reply can be told from another.
 use Prim.Native.Nat.{ℕ, suc, _*_, _/_, _≤_}
 use native.Mathlib.Omega.{arith}
-use mathlib.Core.Path.{_≡_, refl, sym, ap}
+use mathlib.Core.Path.{_≡_, refl, sym, ap, subst}
 use mathlib.Core.Bool.{Bool, true, false}
+use mathlib.Core.Logic.{⊎-elim}
 use mathlib.Core.List.{List, [], _∷_, _++_}
 use lib.IntN.{ℤ}
 use lib.ListN.{length}
@@ -34,6 +35,8 @@ use Rattle.sheet.specs.Sheet.{sheetOf}
 use Rattle.sheet.specs.Finding.{Finding, allMet, brokenAt}
 use Rattle.sheet.specs.inner.Found.{finding}
 use Rattle.sheet.specs.Call.{sheetLines, orderOf}
+use Rattle.lab.specs.Lab.{labQuestionOf, labDegreeOf, labPairOf}
+use Rattle.lab.specs.laws.Plain.{PlainOr14, PlainOr11Or14, question-plain, degree-plain, pair-plain}
 use Rattle.reply.specs.Reply.{InHalf}
 use Rattle.reply.specs.laws.Place.{place-below}
 use Rattle.boundary.specs.Boundary.{valueTold, pairTold, filled, bandTold, findingTold}
@@ -156,3 +159,26 @@ order-in-half bytes sheet = go (orderOf bytes sheet) refl
     go (result allMet) e = omega arith
     go (result (brokenAt t k)) e = omega arith
     go (refused n p) e = place-below bytes (sheetLines bytes sheet) (finding (sheetOf sheet) (readings bytes)) n p (refl, (refl, tt)) e
+
+-- ---- the laboratory's calls: what holds of the plain outcome and of the refusals 11 and 14 holds of theirs
+
+module _ {R : Type 0} (P : Outcome R → Type 0) {o plain : Outcome R} where
+  of-plain-or-14 : P plain → P (refused 14 0) → PlainOr14 o plain → P o
+  of-plain-or-14 p c h = ⊎-elim (λ e. subst P (sym e) p) (λ e. subst P (sym e) c) h
+
+  of-plain-11-or-14 : P plain → P (refused 11 0) → P (refused 14 0) → PlainOr11Or14 o plain → P o
+  of-plain-11-or-14 p b c h = ⊎-elim (λ e. subst P (sym e) p) (λ k. ⊎-elim (λ e. subst P (sym e) b) (λ e. subst P (sym e) c) k) h
+
+pub lab-question-in-half : (bytes marks text : List ℕ) (room : ℕ) → InHalf (counted (labQuestionOf bytes marks text room))
+lab-question-in-half bytes marks text room =
+    of-plain-11-or-14 (λ (o : Outcome (List ℕ)). InHalf (counted o)) (question-in-half bytes text room) (omega arith) (omega arith) (question-plain bytes marks text room)
+
+pub lab-degree-in-half : (bytes marks text : List ℕ) (g : ℤ) → InHalf (valueTold (labDegreeOf bytes marks text g))
+lab-degree-in-half bytes marks text g =
+    of-plain-11-or-14 (λ (o : Outcome Value). InHalf (valueTold o)) (degree-in-half bytes text g) (omega arith) (omega arith) (degree-plain bytes marks text g)
+
+pub lab-degree-numbers : (bytes marks text : List ℕ) (g : ℤ) → NumbersIn (labDegreeOf bytes marks text g)
+lab-degree-numbers bytes marks text g = of-plain-11-or-14 NumbersIn (degree-numbers bytes text g) tt tt (degree-plain bytes marks text g)
+
+pub lab-pair-in-half : (bytes : List ℕ) (curve : ℕ) (g : ℤ) → InHalf (pairTold (labPairOf bytes curve g))
+lab-pair-in-half bytes curve g = of-plain-or-14 (λ (o : Outcome Given). InHalf (pairTold o)) (pair-in-half bytes curve g) (omega arith) (pair-plain bytes curve g)
