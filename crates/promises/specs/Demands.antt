@@ -1,6 +1,6 @@
 -- THE THREE DEMANDS, sentence by sentence, of the calls of the C boundary: of the 64-bit number that a call returns and of the memory that it leaves,
--- for every call that meets its contract (mill/specs/Calls: QuestionCall, DegreeCall, PairCall, ThinCall, BandCall, OrderCall). Each call of the library is proved to
--- meet it, for every input, with no condition. That `Demands` holds is `demands` (laws/Demands).
+-- for every call that meets its contract (mill/specs/Calls: QuestionCall, DegreeCall, PairCall, ThinCall, BandCall, OrderCall,
+-- LabQuestionCall, LabDegreeCall, LabPairCall). Each call of the library is proved to meet it, for every input, with no condition. That `Demands` holds is `demands` (laws/Demands).
 use Prim.Native.Nat.{ℕ, _*_, _/_, _%_, _≤_, _<_}
 use mathlib.Core.Path.{_≡_}
 use mathlib.Core.Bool.{Bool, true}
@@ -36,9 +36,9 @@ use Rattle.thin.specs.Selection.{Selection}
 use Rattle.thin.specs.Cut.{wholeFrom, CutBetween, LongEnough, allWritten}
 use Rattle.reply.specs.Reply.{half, numberIn, lowIn}
 use Rattle.boundary.specs.Boundary.{Degrees}
-use Rattle.mill.specs.Calls.{QuestionCall, DegreeCall, PairCall, ThinCall, BandCall, OrderCall}
+use Rattle.mill.specs.Calls.{QuestionCall, DegreeCall, PairCall, ThinCall, BandCall, OrderCall, LabQuestionCall, LabDegreeCall, LabPairCall}
 use Rattle.promises.specs.CallsMade.{Returned, readOff, CallsMade, PinnedCalls, heldAt, takenFrom}
-use Rattle.promises.specs.Table.{Request, question, degree, pair, thin, order, acceptedOrder, NoneMet, FirstMet, band, ordering}
+use Rattle.promises.specs.Table.{Request, question, degree, pair, thin, order, acceptedOrder, NoneMet, FirstMet, band, ordering, lab-question, lab-degree, lab-pair}
 
 -- ---- DEMAND 1
 
@@ -72,6 +72,14 @@ pub record Demand1 : Type 0 where
       → OneAnswer (band recording text e) r (low ∷ high ∷ lowest ∷ highest ∷ []) (low-after ∷ high-after ∷ lowest-after ∷ highest-after ∷ [])
   pub of-order : {recording sheet : List ℕ} {time line r time-after line-after : ℕ} → OrderCall recording sheet time line r time-after line-after
       → OneAnswer (ordering recording sheet) r (time ∷ line ∷ []) (time-after ∷ line-after ∷ [])
+  pub of-lab-question : {recording marks text out : List ℕ} {r : ℕ} {after : List ℕ} → LabQuestionCall recording marks text out r after
+      → OneAnswer (lab-question recording marks text (length out)) r out after
+  pub of-lab-degree : {recording marks text : List ℕ} {target : ℤ} {distance value r distance-after value-after : ℕ}
+      → LabDegreeCall recording marks text target distance value r distance-after value-after
+      → OneAnswer (lab-degree recording marks text target) r (distance ∷ value ∷ []) (distance-after ∷ value-after ∷ [])
+  pub of-lab-pair : {recording : List ℕ} {curve : ℕ} {target : ℤ} {earlier later r earlier-after later-after : ℕ}
+      → LabPairCall recording curve target earlier later r earlier-after later-after
+      → OneAnswer (lab-pair recording curve target) r (earlier ∷ later ∷ []) (earlier-after ∷ later-after ∷ [])
 
 -- ---- DEMAND 2
 
@@ -126,7 +134,8 @@ pub record OrderTold (recording sheet : List ℕ) (time line r time-after line-a
   pub broken : lowIn r ≡ 1 → TrueFinding (readings recording) (sheetOf sheet) (brokenAt time-after line-after)
 
 -- DEMAND 2, of what the question call wrote, and of what the degree call told (`Near`: by the same reading, of the target as the number at index v of the axis)
--- the band call (`BandTold`) and the order call (`OrderTold`)
+-- the band call (`BandTold`) and the order call (`OrderTold`). Document 02, Paper 7, of a laboratory's call: "One that neither 11 nor 14 refuses answers as the
+-- plain call does", whatever it is handed
 pub record Demand2 : Type 0 where
   pub set-written : {recording text out : List ℕ} {r : ℕ} {after : List ℕ} → QuestionCall recording text out r after → numberIn r ≡ 0
       → SetWritten recording text out r after
@@ -138,6 +147,14 @@ pub record Demand2 : Type 0 where
       → BandTold recording text e r low high lowest highest low-after high-after lowest-after highest-after
   pub order-told : {recording sheet : List ℕ} {time line r time-after line-after : ℕ} → OrderCall recording sheet time line r time-after line-after → numberIn r ≡ 0
       → OrderTold recording sheet time line r time-after line-after
+  pub lab-question-plain : (recording marks text : List ℕ) {out : List ℕ} {r : ℕ} {after : List ℕ} → LabQuestionCall recording marks text out r after
+      → ¬ (numberIn r ≡ 11) → ¬ (numberIn r ≡ 14) → QuestionCall recording text out r after
+  pub lab-degree-plain : (recording marks text : List ℕ) (target : ℤ) {distance value r distance-after value-after : ℕ}
+      → LabDegreeCall recording marks text target distance value r distance-after value-after
+      → ¬ (numberIn r ≡ 11) → ¬ (numberIn r ≡ 14) → DegreeCall recording text target distance value r distance-after value-after
+  pub lab-pair-plain : (recording : List ℕ) (curve : ℕ) (target : ℤ) {earlier later r earlier-after later-after : ℕ}
+      → LabPairCall recording curve target earlier later r earlier-after later-after
+      → ¬ (numberIn r ≡ 14) → PairCall recording curve target earlier later r earlier-after later-after
 
 -- ---- DEMAND 3
 

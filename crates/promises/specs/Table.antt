@@ -24,6 +24,7 @@ use Rattle.band.specs.Band.{widest, OfExtremes}
 use Rattle.thin.specs.Thin.{keptBytes}
 use Rattle.marks.specs.Marks.{marksOf, mostMarks, latestMark}
 use Rattle.sheet.specs.Sheet.{mostLines}
+use Rattle.lab.specs.Lab.{LaboratoryText}
 
 -- what a call is handed; of an output its length
 pub data Request : Type 0 where
@@ -33,6 +34,9 @@ pub data Request : Type 0 where
   thin : (recording marks : List ℕ) (room : ℕ) → Request
   band : (recording text : List ℕ) (e : ℤ) → Request
   ordering : (recording sheet : List ℕ) → Request
+  lab-question : (recording marks text : List ℕ) (room : ℕ) → Request
+  lab-degree : (recording marks text : List ℕ) (target : ℤ) → Request
+  lab-pair : (recording : List ℕ) (curve : ℕ) (target : ℤ) → Request
 
 abbrev pub recordingIn : Request → List ℕ
 recordingIn (question r t n) = r
@@ -41,6 +45,9 @@ recordingIn (pair r c g) = r
 recordingIn (thin r m n) = r
 recordingIn (band r t e) = r
 recordingIn (ordering r s) = r
+recordingIn (lab-question r m t n) = r
+recordingIn (lab-degree r m t g) = r
+recordingIn (lab-pair r c g) = r
 
 -- the text; a call that takes none has no line about it
 abbrev pub textIn : Request → List ℕ
@@ -50,6 +57,9 @@ textIn (pair r c g) = []
 textIn (thin r m n) = []
 textIn (band r t e) = t
 textIn (ordering r s) = []
+textIn (lab-question r m t n) = t
+textIn (lab-degree r m t g) = t
+textIn (lab-pair r c g) = []
 
 -- record i is the first out of its rules
 pub record FirstBroken (xs : List Raw) (i : ℕ) : Type 0 where
@@ -77,6 +87,9 @@ TopsOver (pair r c g) = mostTops < length (pick (top (curveOf c)) (readings r))
 TopsOver (thin r m n) = ⊥
 TopsOver (band r t e) = ⊥
 TopsOver (ordering r s) = ⊥
+TopsOver (lab-question r m t n) = ReadWith t (OverTops (readings r))
+TopsOver (lab-degree r m t g) = ReadWith t (OverTops (readings r))
+TopsOver (lab-pair r c g) = mostTops < length (pick (top (curveOf c)) (readings r))
 
 -- 10: the output is shorter than the result
 abbrev pub OutputShort : Request → Type 0
@@ -86,15 +99,24 @@ OutputShort (pair r c g) = ⊥
 OutputShort (thin r m n) = n < length (keptBytes (marksOf m) r)
 OutputShort (band r t e) = ⊥
 OutputShort (ordering r s) = ⊥
+OutputShort (lab-question r m t n) = ReadWith t (SetLonger r n)
+OutputShort (lab-degree r m t g) = ⊥
+OutputShort (lab-pair r c g) = ⊥
 
 -- 11: the marks are not 4 bytes each, over 8, or too large
+abbrev pub MarksOff : List ℕ → Type 0
+MarksOff m = ¬ (length m % 4 ≡ 0) ⊎ ((mostMarks < length m / 4) ⊎ ((k : ℕ) × List·Memᴰ k (marksOf m) × (latestMark < k)))
+
 abbrev pub MarksBad : Request → Type 0
 MarksBad (question r t n) = ⊥
 MarksBad (degree r t g) = ⊥
 MarksBad (pair r c g) = ⊥
-MarksBad (thin r m n) = ¬ (length m % 4 ≡ 0) ⊎ ((mostMarks < length m / 4) ⊎ ((k : ℕ) × List·Memᴰ k (marksOf m) × (latestMark < k)))
+MarksBad (thin r m n) = MarksOff m
 MarksBad (band r t e) = ⊥
 MarksBad (ordering r s) = ⊥
+MarksBad (lab-question r m t n) = MarksOff m
+MarksBad (lab-degree r m t g) = MarksOff m
+MarksBad (lab-pair r c g) = ⊥
 
 -- 12: the target is off the axis, or the curve number is not 0 or 1
 abbrev pub TargetBad : Request → Type 0
@@ -104,6 +126,9 @@ TargetBad (pair r c g) = (1 < c) ⊎ ¬ OfAxis g
 TargetBad (thin r m n) = ⊥
 TargetBad (band r t e) = ⊥
 TargetBad (ordering r s) = ⊥
+TargetBad (lab-question r m t n) = ⊥
+TargetBad (lab-degree r m t g) = ¬ OfAxis g
+TargetBad (lab-pair r c g) = (1 < c) ⊎ ¬ OfAxis g
 
 -- 13: the sheet has an odd length, over 32 lines, or a number that is not 1 to 16
 abbrev pub SheetBad : Request → Type 0
@@ -113,6 +138,21 @@ SheetBad (pair r c g) = ⊥
 SheetBad (thin r m n) = ⊥
 SheetBad (band r t e) = ⊥
 SheetBad (ordering r s) = ¬ (length s % 2 ≡ 0) ⊎ ((mostLines < length s / 2) ⊎ ((k : ℕ) × List·Memᴰ k s × ¬ ((1 ≤ k) × (k ≤ mostPigments))))
+SheetBad (lab-question r m t n) = ⊥
+SheetBad (lab-degree r m t g) = ⊥
+SheetBad (lab-pair r c g) = ⊥
+
+-- 14: what a laboratory asks is no laboratory text under these marks, or a pair of tops of B
+abbrev pub NotLaboratory : Request → Type 0
+NotLaboratory (question r t n) = ⊥
+NotLaboratory (degree r t g) = ⊥
+NotLaboratory (pair r c g) = ⊥
+NotLaboratory (thin r m n) = ⊥
+NotLaboratory (band r t e) = ⊥
+NotLaboratory (ordering r s) = ⊥
+NotLaboratory (lab-question r m t n) = ReadWith t (λ p. ¬ LaboratoryText (marksOf m) p)
+NotLaboratory (lab-degree r m t g) = ReadWith t (λ p. ¬ LaboratoryText (marksOf m) p)
+NotLaboratory (lab-pair r c g) = c ≡ 1
 
 -- 16: the band is not 0 to 1,000,000 units
 abbrev pub BandBad : Request → Type 0
@@ -122,6 +162,9 @@ BandBad (pair r c g) = ⊥
 BandBad (thin r m n) = ⊥
 BandBad (band r t e) = ¬ ((pos 0 ≤ℤ e) × (e ≤ℤ pos widest))
 BandBad (ordering r s) = ⊥
+BandBad (lab-question r m t n) = ⊥
+BandBad (lab-degree r m t g) = ⊥
+BandBad (lab-pair r c g) = ⊥
 
 -- the text is one question on extremes alone; brackets are no node of it
 abbrev pub OneExtreme : Text → Type 0
@@ -135,6 +178,9 @@ NotOneExtreme (pair r c g) = ⊥
 NotOneExtreme (thin r m n) = ⊥
 NotOneExtreme (band r t e) = ReadWith t (λ p. ¬ OneExtreme p)
 NotOneExtreme (ordering r s) = ⊥
+NotOneExtreme (lab-question r m t n) = ⊥
+NotOneExtreme (lab-degree r m t g) = ⊥
+NotOneExtreme (lab-pair r c g) = ⊥
 
 -- THE TABLE: the condition of each line is met by the request
 abbrev pub Met : Request → Refusal → Type 0
@@ -151,7 +197,7 @@ Met q ShortOutput = OutputShort q
 Met q BadMarks = MarksBad q
 Met q BadTarget = TargetBad q
 Met q BadSheet = SheetBad q
-Met q NotForLaboratory = ⊥
+Met q NotForLaboratory = NotLaboratory q
 Met q BadBand = BandBad q
 Met q NotBandQuestion = NotOneExtreme q
 
@@ -167,6 +213,9 @@ order (pair r c g) = 1 ∷ 2 ∷ 3 ∷ 4 ∷ 12 ∷ 9 ∷ []
 order (thin r m n) = 1 ∷ 2 ∷ 3 ∷ 11 ∷ 10 ∷ []
 order (band r t e) = 1 ∷ 2 ∷ 3 ∷ 4 ∷ 5 ∷ 6 ∷ 7 ∷ 16 ∷ 17 ∷ []
 order (ordering r s) = 1 ∷ 2 ∷ 3 ∷ 4 ∷ 13 ∷ []
+order (lab-question r m t n) = 1 ∷ 2 ∷ 3 ∷ 4 ∷ 5 ∷ 6 ∷ 7 ∷ 11 ∷ 14 ∷ 9 ∷ 8 ∷ 10 ∷ []
+order (lab-degree r m t g) = 1 ∷ 2 ∷ 3 ∷ 4 ∷ 5 ∷ 6 ∷ 7 ∷ 11 ∷ 14 ∷ 12 ∷ 9 ∷ 8 ∷ []
+order (lab-pair r c g) = 1 ∷ 2 ∷ 3 ∷ 4 ∷ 12 ∷ 14 ∷ 9 ∷ []
 
 -- no line of these numbers is met
 abbrev pub NoneMet : Request → List ℕ → Type 0

@@ -14,6 +14,7 @@ pub mod Demand2
 pub mod Lists
 pub mod Selected
 pub mod Pins
+pub mod Laboratory
 pub mod Demands
 pub mod AskedOfKept
 pub mod BandToday

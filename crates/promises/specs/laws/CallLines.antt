@@ -49,7 +49,11 @@ use Rattle.thin.specs.Thin.{keptBytes}
 use Rattle.marks.specs.Marks.{marksOf, mostMarks, latestMark, marksLine}
 use Rattle.sheet.specs.Sheet.{mostLines, noPigment}
 use Rattle.sheet.specs.Call.{sheetLines, orderLines}
-use Rattle.promises.specs.Table.{Request, question, degree, pair, thin, recordingIn, textIn, OpenTooDeep, acceptedOrder, order, band, OneExtreme, ordering}
+use Rattle.lab.specs.Lab.{LaboratoryText, textLine, curveLine, askerLines, labAskingLines}
+use Rattle.lab.specs.inner.Barred.{notForLaboratory}
+use Rattle.lab.specs.laws.Laboratory.{clear-laboratory, laboratory-clear}
+use Rattle.pair.specs.Pair.{badTarget, tooManyTops}
+use Rattle.promises.specs.Table.{Request, question, degree, pair, thin, recordingIn, textIn, ReadWith, OpenTooDeep, SetLonger, MarksOff, acceptedOrder, order, band, OneExtreme, ordering, lab-question, lab-degree, lab-pair}
 use Rattle.promises.specs.laws.Table.{Agrees, Agree, agree-recording}
 
 -- ---- tests
@@ -190,31 +194,32 @@ module _ (full held text : List ℕ) (place : InPlace full held text) where
         (λ e. answer-is n l .1 (subst (λ (p : Text). Holds (readings full) (whole n) p 0) (sym (reads-read text t r)) (s n l .0 e)))
         (λ e. s n l .1 (subst (λ (p : Text). Holds (readings full) (whole n) p 0) (reads-read text t r) (answer-is n l .0 e))))
 
+    -- 10, of any request with this output
+    ten-met : (room : ℕ) → ltb room (length (setBytes (answer held text))) ≡ true → ReadWith text (SetLonger full room)
+    ten-met room e = (
+      read text,
+      reads,
+      (
+        answer held text,
+        answer-is,
+        (let h = ltb-true room (length (setBytes (answer held text))) e in omega (arith, setBytes-length (answer held text))),
+      ),
+    )
+
+    ten-unmet : (room : ℕ) → ltb room (length (setBytes (answer held text))) ≡ false → ¬ ReadWith text (SetLonger full room)
+    ten-unmet room e m =
+        let h = ltb-false room (length (setBytes (answer held text))) e in
+        let c = same-count (m .0) (m .1) (m .2 .0) (m .2 .1) in
+        let l = m .2 .2 in
+        omega (arith, setBytes-length (answer held text))
+
     agree-sets : (room : ℕ) → Agree (question full text room) (setLines held (read text) ++ (outputLine room (setBytes (answer held text)) ∷ [])) (9 ∷ 8 ∷ 10 ∷ [])
     agree-sets room = (
       record { number = refl; named = refl; placed = refl; met = nine-met; unmet = λ e p. nine-unmet e },
       λ nine. (
         record { number = refl; named = refl; placed = refl; met = eight-met; unmet = λ e p. eight-unmet e },
         λ eight. (
-          record {
-            number = refl;
-            named = refl;
-            placed = refl;
-            met = λ e. (
-              read text,
-              reads,
-              (
-                answer held text,
-                answer-is,
-                (let h = ltb-true room (length (setBytes (answer held text))) e in omega (arith, setBytes-length (answer held text))),
-              ),
-            );
-            unmet = λ e p m.
-                let h = ltb-false room (length (setBytes (answer held text))) e in
-                let c = same-count (m .0) (m .1) (m .2 .0) (m .2 .1) in
-                let l = m .2 .2 in
-                omega (arith, setBytes-length (answer held text));
-          },
+          record { number = refl; named = refl; placed = refl; met = ten-met room; unmet = λ e p. ten-unmet room e },
           λ ten. tt,
         ),
       ),
@@ -280,6 +285,13 @@ agree-degree bytes text target =
 
 -- ---- the pair call
 
+-- 12: a bad curve number, or a target off the axis
+twelve-met : (curve : ℕ) (target : ℤ) → (ltb 1 curve || offAxis target) ≡ true → (1 < curve) ⊎ ¬ OfAxis target
+twelve-met curve target e = ⊎-elim (λ h. inl (ltb-true 1 curve h)) (λ h. inr (off-axis target h)) (or-true (ltb 1 curve) (offAxis target) e)
+
+twelve-unmet : (curve : ℕ) (target : ℤ) → (ltb 1 curve || offAxis target) ≡ false → ¬ ((1 < curve) ⊎ ¬ OfAxis target)
+twelve-unmet curve target e m = let o = both-off (ltb 1 curve) (offAxis target) e in ⊎-elim (λ h. clash (lt-ltb 1 curve h) (o .0)) (λ h. h (on-axis target .0 (o .1))) m
+
 pub agree-pair : (bytes : List ℕ) (curve : ℕ) (target : ℤ) → Agree (pair bytes curve target) (pairLines bytes curve target) (order (pair bytes curve target))
 agree-pair bytes curve target =
     agree-recording (pair bytes curve target) (acceptedLines bytes curve target) (4 ∷ 12 ∷ 9 ∷ []) (λ a. (
@@ -295,8 +307,8 @@ agree-pair bytes curve target =
           number = refl;
           named = refl;
           placed = refl;
-          met = λ e. ⊎-elim (λ h. inl (ltb-true 1 curve h)) (λ h. inr (off-axis target h)) (or-true (ltb 1 curve) (offAxis target) e);
-          unmet = λ e p m. let o = both-off (ltb 1 curve) (offAxis target) e in ⊎-elim (λ h. clash (lt-ltb 1 curve h) (o .0)) (λ h. h (on-axis target .0 (o .1))) m;
+          met = λ e. twelve-met curve target e;
+          unmet = λ e p. twelve-unmet curve target e;
         },
         λ twelve. (
           record {
@@ -324,21 +336,22 @@ there-some P (j ∷ ks) k m h = ⊎-elim
     (λ (e : k ≡ j). or-left (P j) (someOf P ks) (ap P (sym e) ∙ h))
     (λ i. or-right (P j) (someOf P ks) (there-some P ks k i h)) (List·Memᴰ·cases-cons m)
 
+-- 11, by its meaning
+marks-off : (marks : List ℕ) → marksLine marks .meets ≡ true → MarksOff marks
+marks-off marks e = ⊎-elim (λ h. inl (λ z. clash (eq-eqb (length marks % 4) 0 z) (not-true _ h)))
+    (λ h. inr (⊎-elim (λ i. inl (ltb-true mostMarks (length marks / 4) i)) (λ i. inr (let t = some-there (ltb latestMark) (marksOf marks) i in (t .0, t .1, ltb-true latestMark (t .0) (t .2))))
+    (or-true (ltb mostMarks (length marks / 4)) (someOf (ltb latestMark) (marksOf marks)) h)))
+    (or-true (not (eqb (length marks % 4) 0)) (ltb mostMarks (length marks / 4) || someOf (ltb latestMark) (marksOf marks)) e)
+
+marks-fine : (marks : List ℕ) → marksLine marks .meets ≡ false → ¬ MarksOff marks
+marks-fine marks e m =
+    let o = both-off (not (eqb (length marks % 4) 0)) (ltb mostMarks (length marks / 4) || someOf (ltb latestMark) (marksOf marks)) e in
+    let i = both-off (ltb mostMarks (length marks / 4)) (someOf (ltb latestMark) (marksOf marks)) (o .1) in
+    ⊎-elim (λ h. h (eqb-true (length marks % 4) 0 (not-false _ (o .0))))
+    (λ h. ⊎-elim (λ n. clash (lt-ltb mostMarks (length marks / 4) n) (i .0)) (λ t. clash (there-some (ltb latestMark) (marksOf marks) (t .0) (t .1) (lt-ltb latestMark (t .0) (t .2))) (i .1)) h) m
+
 pub agree-marks : (bytes marks : List ℕ) (room : ℕ) → Agrees (thin bytes marks room) (marksLine marks) 11
-agree-marks bytes marks room = record {
-  number = refl;
-  named = refl;
-  placed = refl;
-  met = λ e. ⊎-elim (λ h. inl (λ z. clash (eq-eqb (length marks % 4) 0 z) (not-true _ h)))
-      (λ h. inr (⊎-elim (λ i. inl (ltb-true mostMarks (length marks / 4) i)) (λ i. inr (let t = some-there (ltb latestMark) (marksOf marks) i in (t .0, t .1, ltb-true latestMark (t .0) (t .2))))
-      (or-true (ltb mostMarks (length marks / 4)) (someOf (ltb latestMark) (marksOf marks)) h)))
-      (or-true (not (eqb (length marks % 4) 0)) (ltb mostMarks (length marks / 4) || someOf (ltb latestMark) (marksOf marks)) e);
-  unmet = λ e p m.
-      let o = both-off (not (eqb (length marks % 4) 0)) (ltb mostMarks (length marks / 4) || someOf (ltb latestMark) (marksOf marks)) e in
-      let i = both-off (ltb mostMarks (length marks / 4)) (someOf (ltb latestMark) (marksOf marks)) (o .1) in
-      ⊎-elim (λ h. h (eqb-true (length marks % 4) 0 (not-false _ (o .0))))
-      (λ h. ⊎-elim (λ n. clash (lt-ltb mostMarks (length marks / 4) n) (i .0)) (λ t. clash (there-some (ltb latestMark) (marksOf marks) (t .0) (t .1) (lt-ltb latestMark (t .0) (t .2))) (i .1)) h) m;
-}
+agree-marks bytes marks room = record { number = refl; named = refl; placed = refl; met = marks-off marks; unmet = λ e p. marks-fine marks e }
 
 pub agree-thin : (bytes marks : List ℕ) (room : ℕ)
     → Agree (thin bytes marks room) (recordingLines bytes ++ marksLine marks ∷ outputLine room (keptBytes (marksOf marks) bytes) ∷ []) (order (thin bytes marks room))
@@ -437,5 +450,107 @@ agree-order bytes sheet =
               (λ t. clash (there-some noPigment sheet (t .0) (t .1) (by-test (noPigment (t .0)) (λ f. t .2 (is-pigment (t .0) .0 f)))) (i .1)) h) m;
         },
         λ thirteen. tt,
+      ),
+    ))
+
+-- ---- the laboratory's calls
+
+-- 14 of a text that was read
+fourteen-met : (marks text : List ℕ) → NoneMeets (textLines text) → textLine marks (read text) .meets ≡ true → ReadWith text (λ p. ¬ LaboratoryText (marksOf marks) p)
+fourteen-met marks text sized e = (read text, read-reads text (sized .1 .0), λ t. clash e (laboratory-clear (marksOf marks) (read text) t))
+
+fourteen-unmet : (marks text : List ℕ) → textLine marks (read text) .meets ≡ false → ¬ ReadWith text (λ p. ¬ LaboratoryText (marksOf marks) p)
+fourteen-unmet marks text e m =
+    m .2 (subst (LaboratoryText (marksOf marks)) (reads-read text (m .0) (m .1)) (clear-laboratory (marksOf marks) (read text) e))
+
+-- 1 to 7, then the lines that follow
+module _ (q : Request) (ls : List Line) (ks : List ℕ) where
+  pub agree-asking : ((a : Accepted (recordingIn q)) → noRecord (recordingIn q) .meets ≡ false → NoneMeets (textLines (textIn q)) → Agree q ls ks)
+      → Agree q (askingLines (recordingIn q) (textIn q) ++ ls) (1 ∷ 2 ∷ 3 ∷ 4 ∷ 5 ∷ 6 ∷ 7 ∷ ks)
+  agree-asking rest =
+      agree-recording q (noRecord (recordingIn q) ∷ textLines (textIn q) ++ ls) (4 ∷ 5 ∷ 6 ∷ 7 ∷ ks)
+      (λ a. agree-four (recordingIn q) (recordingIn q) (textIn q) (in-its-place (recordingIn q) (textIn q) a) q refl (textLines (textIn q) ++ ls) (5 ∷ 6 ∷ 7 ∷ ks)
+      (λ some. agree-text q (recordingIn q) (lines-mean (recordingIn q) (textIn q) a some) ls ks (λ sized. rest a some sized)))
+
+pub agree-lab-question : (bytes marks text : List ℕ) (room : ℕ)
+    → Agree (lab-question bytes marks text room) (labAskingLines bytes marks text ++ (setLines bytes (read text) ++ (outputLine room (setBytes (answer bytes text)) ∷ []))) (order (lab-question bytes marks text room))
+agree-lab-question bytes marks text room =
+    agree-asking (lab-question bytes marks text room) (askerLines marks (read text) ++ (setLines bytes (read text) ++ (outputLine room (setBytes (answer bytes text)) ∷ []))) (11 ∷ 14 ∷ 9 ∷ 8 ∷ 10 ∷ [])
+    (λ a some sized. let place = in-its-place bytes text a in (
+      record { number = refl; named = refl; placed = refl; met = marks-off marks; unmet = λ e p. marks-fine marks e },
+      λ eleven. (
+        record { number = refl; named = refl; placed = refl; met = fourteen-met marks text sized; unmet = λ e p. fourteen-unmet marks text e },
+        λ fourteen. (
+          record { number = refl; named = refl; placed = refl; met = nine-met bytes bytes text place some sized; unmet = λ e p. nine-unmet bytes bytes text place some sized e },
+          λ nine. (
+            record { number = refl; named = refl; placed = refl; met = eight-met bytes bytes text place some sized; unmet = λ e p. eight-unmet bytes bytes text place some sized e },
+            λ eight. (
+              record { number = refl; named = refl; placed = refl; met = ten-met bytes bytes text place some sized room; unmet = λ e p. ten-unmet bytes bytes text place some sized room e },
+              λ ten. tt,
+            ),
+          ),
+        ),
+      ),
+    ))
+
+pub agree-lab-degree : (bytes marks text : List ℕ) (target : ℤ)
+    → Agree (lab-degree bytes marks text target) (labAskingLines bytes marks text ++ (targetLine target ∷ setLines bytes (read text))) (order (lab-degree bytes marks text target))
+agree-lab-degree bytes marks text target =
+    agree-asking (lab-degree bytes marks text target) (askerLines marks (read text) ++ (targetLine target ∷ setLines bytes (read text))) (11 ∷ 14 ∷ 12 ∷ 9 ∷ 8 ∷ [])
+    (λ a some sized. let place = in-its-place bytes text a in (
+      record { number = refl; named = refl; placed = refl; met = marks-off marks; unmet = λ e p. marks-fine marks e },
+      λ eleven. (
+        record { number = refl; named = refl; placed = refl; met = fourteen-met marks text sized; unmet = λ e p. fourteen-unmet marks text e },
+        λ fourteen. (
+          record { number = refl; named = refl; placed = refl; met = λ e. off-axis target e; unmet = λ e p m. m (on-axis target .0 e) },
+          λ twelve. (
+            record { number = refl; named = refl; placed = refl; met = nine-met bytes bytes text place some sized; unmet = λ e p. nine-unmet bytes bytes text place some sized e },
+            λ nine. (
+              record { number = refl; named = refl; placed = refl; met = eight-met bytes bytes text place some sized; unmet = λ e p. eight-unmet bytes bytes text place some sized e },
+              λ eight. tt,
+            ),
+          ),
+        ),
+      ),
+    ))
+
+pub agree-lab-pair : (bytes : List ℕ) (curve : ℕ) (target : ℤ)
+    → Agree (lab-pair bytes curve target) (recordingLines bytes ++ (noRecord bytes ∷ badTarget curve target ∷ curveLine curve ∷ tooManyTops bytes curve ∷ [])) (order (lab-pair bytes curve target))
+agree-lab-pair bytes curve target =
+    agree-recording (lab-pair bytes curve target) (noRecord bytes ∷ badTarget curve target ∷ curveLine curve ∷ tooManyTops bytes curve ∷ []) (4 ∷ 12 ∷ 14 ∷ 9 ∷ []) (λ a. (
+      record {
+        number = refl;
+        named = refl;
+        placed = refl;
+        met = λ e. eqb-true (length (records bytes)) 0 e;
+        unmet = λ e p m. clash (eq-eqb (length (records bytes)) 0 m) e;
+      },
+      λ four. (
+        record {
+          number = refl;
+          named = refl;
+          placed = refl;
+          met = λ e. twelve-met curve target e;
+          unmet = λ e p. twelve-unmet curve target e;
+        },
+        λ twelve. (
+          record {
+            number = refl;
+            named = refl;
+            placed = refl;
+            met = λ e. eqb-true curve 1 e;
+            unmet = λ e p m. clash (eq-eqb curve 1 m) e;
+          },
+          λ fourteen. (
+            record {
+              number = refl;
+              named = refl;
+              placed = refl;
+              met = λ e. ltb-true mostTops (length (pick (top (curveOf curve)) (readings bytes))) e;
+              unmet = λ e p m. clash (lt-ltb mostTops (length (pick (top (curveOf curve)) (readings bytes))) m) e;
+            },
+            λ nine. tt,
+          ),
+        ),
       ),
     ))

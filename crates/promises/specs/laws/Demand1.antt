@@ -7,7 +7,7 @@ use lib.IntN.{ℤ}
 use lib.ListN.{length, take, drop}
 use lib.Seq.{take-append-seam, drop-append-seam}
 use Rattle.refusal.specs.Outcome.{Outcome, result, refused}
-use Rattle.recording.specs.Recording.{readings, recordingLines}
+use Rattle.recording.specs.Recording.{readings, recordingLines, noRecord}
 use Rattle.recording.specs.Output.{counted, outputLine}
 use Rattle.runset.specs.Runs.{setBytes}
 use Rattle.question.specs.Question.{read, answer, askingLines, setLines, questionOf}
@@ -16,7 +16,8 @@ use Rattle.meaning.specs.inner.Coded.{coded, index}
 use Rattle.band.specs.Call.{widthOf, theQuestion, widthLine, extremeLine, bandOf}
 use Rattle.band.specs.Means.{Part, empty, run, Bands}
 use Rattle.band.specs.inner.Ends.{bandsOf}
-use Rattle.pair.specs.Pair.{Given, times, none, firstPair, pairLines, pairOf}
+use Rattle.pair.specs.Pair.{Given, times, none, firstPair, badTarget, tooManyTops, pairLines, pairOf}
+use Rattle.lab.specs.Lab.{curveLine, labAskingLines, labQuestionOf, labDegreeOf, labPairOf}
 use Rattle.sheet.specs.Sheet.{sheetOf}
 use Rattle.sheet.specs.Finding.{Finding, allMet, brokenAt}
 use Rattle.sheet.specs.inner.Found.{finding}
@@ -25,12 +26,12 @@ use Rattle.thin.specs.Thin.{keptBytes, thinOf}
 use Rattle.marks.specs.Marks.{marksOf, marksLine}
 use Rattle.reply.specs.Reply.{half, packed, InHalf, numberIn, lowIn}
 use Rattle.reply.specs.laws.Unpacked.{Numbered, number-result, low-result, number-refused, low-refused}
-use Rattle.boundary.specs.Boundary.{Writes, valueTold, distanceAfter, degreeAfter, pairTold, earlierAfter, laterAfter, filled, bandTold, InBands, findingTold, Orders}
-use Rattle.mill.specs.Calls.{DegreeCall, PairCall, BandCall, OrderCall}
-use Rattle.mill.specs.laws.Calls.{thin-in-half, question-in-half, degree-in-half, pair-in-half, band-in-half, order-in-half}
-use Rattle.promises.specs.Table.{Request, question, degree, pair, thin, order, band, ordering}
+use Rattle.boundary.specs.Boundary.{Writes, Degrees, valueTold, Pairs, pairTold, filled, bandTold, InBands, findingTold, Orders}
+use Rattle.mill.specs.Calls.{BandCall, OrderCall}
+use Rattle.mill.specs.laws.Calls.{thin-in-half, question-in-half, degree-in-half, pair-in-half, band-in-half, order-in-half, lab-question-in-half, lab-degree-in-half, lab-pair-in-half}
+use Rattle.promises.specs.Table.{Request, question, degree, pair, thin, order, band, ordering, lab-question, lab-degree, lab-pair}
 use Rattle.promises.specs.laws.Table.{number-bounds, AsTable, met-there, judged-told}
-use Rattle.promises.specs.laws.CallLines.{agree-question, agree-degree, agree-pair, agree-thin, agree-band, agree-order}
+use Rattle.promises.specs.laws.CallLines.{agree-question, agree-degree, agree-pair, agree-thin, agree-band, agree-order, agree-lab-question, agree-lab-degree, agree-lab-pair}
 use Rattle.promises.specs.Demands.{ByTheTable, OneAnswer, Demand1}
 use Rattle.recording.specs.Reading.{curveOf}
 
@@ -107,22 +108,16 @@ degree-told bytes text target =
     judged-told (degree bytes text target) (askingLines bytes text ++ (targetLine target ∷ setLines bytes (read text))) (order (degree bytes text target))
     (valueOf (answer bytes text) (index target)) (agree-degree bytes text target)
 
--- the two places of the degree call
-degree-answered : (bytes text : List ℕ) (target : ℤ) (distance degree′ r first second : ℕ) → DegreeCall bytes text target distance degree′ r first second
-    → OneAnswer (degree bytes text target) r (distance ∷ degree′ ∷ []) (first ∷ second ∷ [])
-degree-answered bytes text target distance degree′ r first second d =
-    go (nearnessOf bytes text target) refl (degree-told bytes text target) (d .returned) (d .first-place) (d .second-place)
-  where
-    q : Request
-    q = degree bytes text target
-
-    go : (o : Outcome Value) → nearnessOf bytes text target ≡ o → AsTable q (order q) o → r ≡ packed (valueTold o) → first ≡ distanceAfter o distance
-        → second ≡ degreeAfter o degree′ → OneAnswer q r (distance ∷ degree′ ∷ []) (first ∷ second ∷ [])
-    go (result met) e t p f s = record { result-or-refusal = judged-number q (order q) (result 0) r p (omega arith) t; refusal-writes-nothing = λ k. absurd (k (ap numberIn p)) }
-    go (result (short d k)) e t p f s = record { result-or-refusal = judged-number q (order q) (result 1) r p (omega arith) t; refusal-writes-nothing = λ k. absurd (k (ap numberIn p)) }
-    go (result noValue) e t p f s = record { result-or-refusal = judged-number q (order q) (result 2) r p (omega arith) t; refusal-writes-nothing = λ k. absurd (k (ap numberIn p)) }
-    go (refused n i) e t p f s =
-        record { result-or-refusal = judged-number q (order q) (refused n i) r p (subst (λ (o : Outcome Value). InHalf (valueTold o)) e (degree-in-half bytes text target)) t; refusal-writes-nothing = λ k. ap₂ (λ (x y : ℕ). x ∷ y ∷ []) f s }
+-- two places, of any call that tells a distance and a degree
+degrees-answered : (q : Request) (o : Outcome Value) (distance degree′ r first second : ℕ) → AsTable q (order q) o → InHalf (valueTold o) → Degrees o distance degree′ r first second
+    → OneAnswer q r (distance ∷ degree′ ∷ []) (first ∷ second ∷ [])
+degrees-answered q (result met) distance degree′ r first second t h d = record { result-or-refusal = judged-number q (order q) (result 0) r (d .returned) (omega arith) t; refusal-writes-nothing = λ k. absurd (k (ap numberIn (d .returned))) }
+degrees-answered q (result (short x y)) distance degree′ r first second t h d = record { result-or-refusal = judged-number q (order q) (result 1) r (d .returned) (omega arith) t; refusal-writes-nothing = λ k. absurd (k (ap numberIn (d .returned))) }
+degrees-answered q (result noValue) distance degree′ r first second t h d = record { result-or-refusal = judged-number q (order q) (result 2) r (d .returned) (omega arith) t; refusal-writes-nothing = λ k. absurd (k (ap numberIn (d .returned))) }
+degrees-answered q (refused n i) distance degree′ r first second t h d = record {
+  result-or-refusal = judged-number q (order q) (refused n i) r (d .returned) h t;
+  refusal-writes-nothing = λ k. ap₂ (λ (x y : ℕ). x ∷ y ∷ []) (d .first-place) (d .second-place);
+}
 
 pair-told : (bytes : List ℕ) (curve : ℕ) (target : ℤ) → AsTable (pair bytes curve target) (order (pair bytes curve target)) (pairOf bytes curve target)
 unfolding pairOf
@@ -130,21 +125,37 @@ pair-told bytes curve target =
     judged-told (pair bytes curve target) (pairLines bytes curve target) (order (pair bytes curve target)) (firstPair (readings bytes) (curveOf curve) target)
     (agree-pair bytes curve target)
 
--- and of the pair call
-pair-answered : (bytes : List ℕ) (curve : ℕ) (target : ℤ) (earlier later r first second : ℕ) → PairCall bytes curve target earlier later r first second
-    → OneAnswer (pair bytes curve target) r (earlier ∷ later ∷ []) (first ∷ second ∷ [])
-pair-answered bytes curve target earlier later r first second c =
-    go (pairOf bytes curve target) refl (pair-told bytes curve target) (c .returned) (c .first-place) (c .second-place)
-  where
-    q : Request
-    q = pair bytes curve target
+-- and of any call that tells a pair
+pairs-answered : (q : Request) (o : Outcome Given) (earlier later r first second : ℕ) → AsTable q (order q) o → InHalf (pairTold o) → Pairs o earlier later r first second
+    → OneAnswer q r (earlier ∷ later ∷ []) (first ∷ second ∷ [])
+pairs-answered q (result (times t u)) earlier later r first second a h c = record { result-or-refusal = judged-number q (order q) (result 1) r (c .returned) (omega arith) a; refusal-writes-nothing = λ k. absurd (k (ap numberIn (c .returned))) }
+pairs-answered q (result none) earlier later r first second a h c = record { result-or-refusal = judged-number q (order q) (result 0) r (c .returned) (omega arith) a; refusal-writes-nothing = λ k. absurd (k (ap numberIn (c .returned))) }
+pairs-answered q (refused n i) earlier later r first second a h c = record {
+  result-or-refusal = judged-number q (order q) (refused n i) r (c .returned) h a;
+  refusal-writes-nothing = λ k. ap₂ (λ (x y : ℕ). x ∷ y ∷ []) (c .first-place) (c .second-place);
+}
 
-    go : (o : Outcome Given) → pairOf bytes curve target ≡ o → AsTable q (order q) o → r ≡ packed (pairTold o) → first ≡ earlierAfter o earlier
-        → second ≡ laterAfter o later → OneAnswer q r (earlier ∷ later ∷ []) (first ∷ second ∷ [])
-    go (result (times t u)) e h p f s = record { result-or-refusal = judged-number q (order q) (result 1) r p (omega arith) h; refusal-writes-nothing = λ k. absurd (k (ap numberIn p)) }
-    go (result none) e h p f s = record { result-or-refusal = judged-number q (order q) (result 0) r p (omega arith) h; refusal-writes-nothing = λ k. absurd (k (ap numberIn p)) }
-    go (refused n i) e h p f s =
-        record { result-or-refusal = judged-number q (order q) (refused n i) r p (subst (λ (o : Outcome Given). InHalf (pairTold o)) e (pair-in-half bytes curve target)) h; refusal-writes-nothing = λ k. ap₂ (λ (x y : ℕ). x ∷ y ∷ []) f s }
+-- ---- the laboratory's calls
+
+lab-question-told : (bytes marks text : List ℕ) (room : ℕ)
+    → AsTable (lab-question bytes marks text room) (order (lab-question bytes marks text room)) (labQuestionOf bytes marks text room)
+unfolding labQuestionOf
+lab-question-told bytes marks text room =
+    judged-told (lab-question bytes marks text room) (labAskingLines bytes marks text ++ (setLines bytes (read text) ++ (outputLine room (setBytes (answer bytes text)) ∷ [])))
+    (order (lab-question bytes marks text room)) (setBytes (answer bytes text)) (agree-lab-question bytes marks text room)
+
+lab-degree-told : (bytes marks text : List ℕ) (target : ℤ)
+    → AsTable (lab-degree bytes marks text target) (order (lab-degree bytes marks text target)) (labDegreeOf bytes marks text target)
+unfolding labDegreeOf
+lab-degree-told bytes marks text target =
+    judged-told (lab-degree bytes marks text target) (labAskingLines bytes marks text ++ (targetLine target ∷ setLines bytes (read text)))
+    (order (lab-degree bytes marks text target)) (valueOf (answer bytes text) (index target)) (agree-lab-degree bytes marks text target)
+
+lab-pair-told : (bytes : List ℕ) (curve : ℕ) (target : ℤ) → AsTable (lab-pair bytes curve target) (order (lab-pair bytes curve target)) (labPairOf bytes curve target)
+unfolding labPairOf
+lab-pair-told bytes curve target =
+    judged-told (lab-pair bytes curve target) (recordingLines bytes ++ (noRecord bytes ∷ badTarget curve target ∷ curveLine curve ∷ tooManyTops bytes curve ∷ []))
+    (order (lab-pair bytes curve target)) (firstPair (readings bytes) (curveOf curve) target) (agree-lab-pair bytes curve target)
 
 pub band-judged : (bytes text : List ℕ) (e : ℤ) → AsTable (band bytes text e) (order (band bytes text e)) (bandOf bytes text e)
 unfolding bandOf
@@ -204,11 +215,22 @@ pub demand-1 : Demand1
 demand-1 = record {
   of-question = λ {recording} {text} {out} {r} {after} w.
       writes-answered (question recording text (length out)) (questionOf recording text (length out)) out r after (question-told recording text (length out)) (question-in-half recording text (length out)) w;
-  of-degree = λ {recording} {text} {target} {distance} {value} {r} {distance-after} {value-after} d. degree-answered recording text target distance value r distance-after value-after d;
-  of-pair = λ {recording} {curve} {target} {earlier} {later} {r} {earlier-after} {later-after} c. pair-answered recording curve target earlier later r earlier-after later-after c;
+  of-degree = λ {recording} {text} {target} {distance} {value} {r} {distance-after} {value-after} d.
+      degrees-answered (degree recording text target) (nearnessOf recording text target) distance value r distance-after value-after (degree-told recording text target) (degree-in-half recording text target) d;
+  of-pair = λ {recording} {curve} {target} {earlier} {later} {r} {earlier-after} {later-after} c.
+      pairs-answered (pair recording curve target) (pairOf recording curve target) earlier later r earlier-after later-after (pair-told recording curve target) (pair-in-half recording curve target) c;
   of-thin = λ {recording} {marks} {out} {r} {after} w.
       writes-answered (thin recording marks (length out)) (thinOf recording marks (length out)) out r after (thin-told recording marks (length out)) (thin-in-half recording marks (length out)) w;
   of-band = λ {recording} {text} {e} {low} {high} {lowest} {highest} {r} {low-after} {high-after} {lowest-after} {highest-after} w.
       band-answered recording text e low high lowest highest r low-after high-after lowest-after highest-after w;
   of-order = λ {recording} {sheet} {time} {line} {r} {time-after} {line-after} w. order-answered recording sheet time line r time-after line-after w;
+  of-lab-question = λ {recording} {marks} {text} {out} {r} {after} w.
+      writes-answered (lab-question recording marks text (length out)) (labQuestionOf recording marks text (length out)) out r after
+      (lab-question-told recording marks text (length out)) (lab-question-in-half recording marks text (length out)) w;
+  of-lab-degree = λ {recording} {marks} {text} {target} {distance} {value} {r} {distance-after} {value-after} d.
+      degrees-answered (lab-degree recording marks text target) (labDegreeOf recording marks text target) distance value r distance-after value-after
+      (lab-degree-told recording marks text target) (lab-degree-in-half recording marks text target) d;
+  of-lab-pair = λ {recording} {curve} {target} {earlier} {later} {r} {earlier-after} {later-after} c.
+      pairs-answered (lab-pair recording curve target) (labPairOf recording curve target) earlier later r earlier-after later-after
+      (lab-pair-told recording curve target) (lab-pair-in-half recording curve target) c;
 }

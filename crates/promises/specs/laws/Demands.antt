@@ -17,6 +17,7 @@ use Rattle.promises.specs.CallsMade.{readOff, takenFrom}
 use Rattle.promises.specs.Demands.{RightOf, Demand3, Demands}
 use Rattle.promises.specs.laws.Demand1.{demand-1}
 use Rattle.promises.specs.laws.Demand2.{written-set, degree-meant, band-meaning, order-meaning}
+use Rattle.promises.specs.laws.Laboratory.{question-plainly, degree-plainly, pair-plainly}
 use Rattle.promises.specs.laws.Lists.{thinned-calls, accepted-after, nothing-accepted, bad-calls, taken-join, all-given, list-as-model}
 use Rattle.promises.specs.laws.Selected.{in-place, stands-in, selected-place, like-full}
 use Rattle.promises.specs.laws.Pins.{pinned-held, pinned-whole}
@@ -57,6 +58,11 @@ demands = record {
     band-told = λ {recording} {text} e {low} {high} {lowest} {highest} {r} {low-after} {high-after} {lowest-after} {highest-after} w z.
         band-meaning recording text e low high lowest highest r low-after high-after lowest-after highest-after w z;
     order-told = λ {recording} {sheet} {time} {line} {r} {time-after} {line-after} w z. order-meaning recording sheet time line r time-after line-after w z;
+    lab-question-plain = λ recording marks text {out} {r} {after} w h k. question-plainly recording marks text out r after w h k;
+    lab-degree-plain = λ recording marks text target {distance} {value} {r} {distance-after} {value-after} w h k.
+        degree-plainly recording marks text target distance value r distance-after value-after w h k;
+    lab-pair-plain = λ recording curve target {earlier} {later} {r} {earlier-after} {later-after} w k.
+        pair-plainly recording curve target earlier later r earlier-after later-after w k;
   };
   three = demand-3;
 }
