@@ -3,3 +3,4 @@ pub mod Laboratory
 pub mod Call
 pub mod Pair
 pub mod Plain
+pub mod Examples

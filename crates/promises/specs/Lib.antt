@@ -3,6 +3,7 @@ pub mod CallsMade
 pub mod Demands
 pub mod KeptAsFull
 pub mod StandIn
+pub mod Secrecy
 pub mod EndToEnd
 pub mod FormulasAsked
 pub mod MarkedLines

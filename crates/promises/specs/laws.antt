@@ -15,6 +15,8 @@ pub mod Lists
 pub mod Selected
 pub mod Pins
 pub mod Laboratory
+pub mod Secrecy
+pub mod TwoMasters
 pub mod Demands
 pub mod AskedOfKept
 pub mod BandToday

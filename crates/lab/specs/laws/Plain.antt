@@ -5,7 +5,8 @@ use mathlib.Core.Bool.{Bool, true, false, cond}
 use mathlib.Core.Logic.{_⊎_, inl, inr, ⊎-elim}
 use mathlib.Core.List.{List, [], _∷_, _++_}
 use lib.IntN.{ℤ}
-use Rattle.refusal.specs.Outcome.{Outcome, refused, Line, judged}
+use Rattle.refusal.specs.Outcome.{Outcome, refused, Line, judged, NoneMeets}
+use Rattle.recording.specs.laws.Outcome.{judged-pass, judged-skip, judged-first}
 use Rattle.recording.specs.Reading.{curveOf}
 use Rattle.recording.specs.Recording.{readings, recordingLines, noRecord}
 use Rattle.recording.specs.Output.{outputLine}
@@ -15,7 +16,7 @@ use Rattle.question.specs.Question.{read, answer, askingLines, setLines, questi
 use Rattle.degree.specs.Degree.{valueOf, targetLine, nearnessOf}
 use Rattle.pair.specs.Pair.{firstPair, badTarget, tooManyTops, pairOf}
 use Rattle.marks.specs.Marks.{marksLine}
-use Rattle.lab.specs.Lab.{textLine, curveLine, labQuestionOf, labDegreeOf, labPairOf}
+use Rattle.lab.specs.Lab.{textLine, curveLine, askerLines, labQuestionOf, labDegreeOf, labPairOf}
 
 -- a line more: it refuses, or the outcome is as without it
 module _ {R : Type 0} where
@@ -62,3 +63,20 @@ pub pair-plain : (bytes : List ℕ) (c : ℕ) (g : ℤ) → PlainOr14 (labPairOf
 unfolding labPairOf pairOf
 pair-plain bytes c g =
     line-more (recordingLines bytes ++ (noRecord bytes ∷ badTarget c g ∷ [])) (curveLine c) (tooManyTops bytes c ∷ []) (firstPair (readings bytes) (curveOf c) g)
+
+-- a text that neither 11 nor 14 meets, asked by a laboratory
+pub question-allowed : (bytes marks text : List ℕ) → NoneMeets (askerLines marks (read text)) → (room : ℕ) → labQuestionOf bytes marks text room ≡ questionOf bytes text room
+unfolding labQuestionOf questionOf
+question-allowed bytes marks text n room =
+    let ms : List Line = setLines bytes (read text) ++ (outputLine room (setBytes (answer bytes text)) ∷ []) in
+    judged-skip (askingLines bytes text) (marksLine marks) (textLine marks (read text) ∷ ms) (setBytes (answer bytes text)) (n .0)
+    ∙ judged-skip (askingLines bytes text) (textLine marks (read text)) ms (setBytes (answer bytes text)) (n .1 .0)
+
+-- a text that 14 meets, and nothing before it
+pub question-barred : (bytes marks text : List ℕ) → NoneMeets (askingLines bytes text) → marksLine marks .meets ≡ false → textLine marks (read text) .meets ≡ true → (room : ℕ)
+    → labQuestionOf bytes marks text room ≡ refused 14 0
+unfolding labQuestionOf
+question-barred bytes marks text n e h room =
+    judged-pass (askingLines bytes text) _ (setBytes (answer bytes text)) n
+    ∙ judged-pass (marksLine marks ∷ []) _ (setBytes (answer bytes text)) (e, tt)
+    ∙ judged-first (textLine marks (read text)) _ (setBytes (answer bytes text)) h

@@ -34,7 +34,7 @@ node-of n itself = n
 node-of n (below m k) = below m (node-of n k)
 
 -- the parts N are among them what the text names
-abbrev Covers : (Part → Type 0) → Text → Type 0
+abbrev pub Covers : (Part → Type 0) → Text → Type 0
 Covers N p = (n : Part) → Names p n → N n
 
 covers-node : {N : Part → Type 0} {q p : Text} → Node q p → Covers N p → Covers N q
@@ -48,7 +48,7 @@ covers-second : {N : Part → Type 0} {p c d : Text} {cs : List Text} → childr
 covers-second {c = c} e h = covers-node (below (subst (List·Memᴰ c) (sym e) (List·Memᴰ·tail (List·Memᴰ·head refl))) itself) h
 
 -- the condition takes place alike where these parts agree
-abbrev Blind : (Part → Type 0) → Condition Reading → Type 0
+abbrev pub Blind : (Part → Type 0) → Condition Reading → Type 0
 Blind N ρ = (b b′ : List Reading) (x x′ : Reading) (a a′ : List Reading) → Agreeing N b b′ → Agree N x x′ → Agreeing N a a′ → ρ b x a ≡ ρ b′ x′ a′
 
 module _ {N : Part → Type 0} where
@@ -114,7 +114,7 @@ module _ {N : Part → Type 0} where
       turn-blind b b′ x x′ a a′ none h k = refl
       turn-blind b b′ x x′ a a′ (more {x = y} {y = y′} g bs) h k = λ i. q x x′ h i && (not (q y y′ g i) && last-blind (more g bs) i)
 
-  top-blind : (c : Curve) → N (curve c) → Blind N (top c)
+  pub top-blind : (c : Curve) → N (curve c) → Blind N (top c)
   top-blind c n = turn-blind (rises c) (λ x y h. same-rises h c n) (falls c) (λ x y h. same-falls h c n)
 
   dip-blind : (c : Curve) → N (curve c) → Blind N (event (a-dip c))
@@ -144,7 +144,7 @@ module _ {N : Part → Type 0} where
 
   -- ---- recordings that agree
 
-  length-agreeing : {r s : List Reading} → Agreeing N r s → length r ≡ length s
+  pub length-agreeing : {r s : List Reading} → Agreeing N r s → length r ≡ length s
   length-agreeing none = refl
   length-agreeing (more e rs) = ap suc (length-agreeing rs)
 
@@ -171,7 +171,7 @@ module _ {N : Part → Type 0} where
           let l = length-agreeing rs in
           (λ f i h. is _ _ (record-agreeing rs i) .0 (f i (omega arith)), λ f i h. is _ _ (record-agreeing rs i) .1 (f i (omega arith)))
 
-    same-times : (ρ : Condition Reading) → Blind N ρ → times ρ r ≡ times ρ s
+    pub same-times : (ρ : Condition Reading) → Blind N ρ → times ρ r ≡ times ρ s
     same-times ρ h = times-from ρ h none rs
 
     -- ---- listed questions

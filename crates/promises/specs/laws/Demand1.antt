@@ -80,6 +80,22 @@ wrote (result b) out r after h k w z =
     )
 wrote (refused n p) out r after h k w z = let e = ap numberIn (w .returned) ∙ number-refused n p h in absurd (omega arith)
 
+-- two calls that write bytes, of one outcome: the same number, and the same bytes where it is a result
+pub writes-alike : {o o′ : Outcome (List ℕ)} → o ≡ o′ → InHalf (counted o) → Numbered (counted o) → {out out′ : List ℕ} {r r′ : ℕ} {after after′ : List ℕ}
+    → Writes o out r after → Writes o′ out′ r′ after′ → (r ≡ r′) × (numberIn r ≡ 0 → take (lowIn r) after ≡ take (lowIn r) after′)
+writes-alike {o} e h k {out} {out′} {r} {r′} {after} {after′} w w′ =
+    let v : Writes o out′ r′ after′ = subst (λ (x : Outcome (List ℕ)). Writes x out′ r′ after′) (sym e) w′ in
+    let same : r ≡ r′ = w .returned ∙ sym (v .returned) in (
+      same,
+      λ z.
+          let b = wrote o out r after h k w z in
+          let c = wrote o out′ r′ after′ h k v (ap numberIn (sym same) ∙ z) in
+          b .3 ∙ one (b .0) (c .0) (sym (b .1) ∙ c .1) ∙ sym (c .3) ∙ ap (λ (n : ℕ). take (lowIn n) after′) (sym same),
+    )
+  where
+    one : (x y : List ℕ) → result x ≡ result y → x ≡ y
+    one x y q = cc
+
 -- ---- DEMAND 1, of each call
 
 pub question-told : (bytes text : List ℕ) (room : ℕ) → AsTable (question bytes text room) (order (question bytes text room)) (questionOf bytes text room)
@@ -137,21 +153,21 @@ pairs-answered q (refused n i) earlier later r first second a h c = record {
 
 -- ---- the laboratory's calls
 
-lab-question-told : (bytes marks text : List ℕ) (room : ℕ)
+pub lab-question-told : (bytes marks text : List ℕ) (room : ℕ)
     → AsTable (lab-question bytes marks text room) (order (lab-question bytes marks text room)) (labQuestionOf bytes marks text room)
 unfolding labQuestionOf
 lab-question-told bytes marks text room =
     judged-told (lab-question bytes marks text room) (labAskingLines bytes marks text ++ (setLines bytes (read text) ++ (outputLine room (setBytes (answer bytes text)) ∷ [])))
     (order (lab-question bytes marks text room)) (setBytes (answer bytes text)) (agree-lab-question bytes marks text room)
 
-lab-degree-told : (bytes marks text : List ℕ) (target : ℤ)
+pub lab-degree-told : (bytes marks text : List ℕ) (target : ℤ)
     → AsTable (lab-degree bytes marks text target) (order (lab-degree bytes marks text target)) (labDegreeOf bytes marks text target)
 unfolding labDegreeOf
 lab-degree-told bytes marks text target =
     judged-told (lab-degree bytes marks text target) (labAskingLines bytes marks text ++ (targetLine target ∷ setLines bytes (read text)))
     (order (lab-degree bytes marks text target)) (valueOf (answer bytes text) (index target)) (agree-lab-degree bytes marks text target)
 
-lab-pair-told : (bytes : List ℕ) (curve : ℕ) (target : ℤ) → AsTable (lab-pair bytes curve target) (order (lab-pair bytes curve target)) (labPairOf bytes curve target)
+pub lab-pair-told : (bytes : List ℕ) (curve : ℕ) (target : ℤ) → AsTable (lab-pair bytes curve target) (order (lab-pair bytes curve target)) (labPairOf bytes curve target)
 unfolding labPairOf
 lab-pair-told bytes curve target =
     judged-told (lab-pair bytes curve target) (recordingLines bytes ++ (noRecord bytes ∷ badTarget curve target ∷ curveLine curve ∷ tooManyTops bytes curve ∷ []))

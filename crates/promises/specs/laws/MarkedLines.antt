@@ -168,7 +168,7 @@ module _ (R : List ℕ) (accepted : recording.Accepted R) (some : recording.noRe
       (ap (refused9 (coded R)) is-read ∙ nine, (ap (refused8 (coded R)) is-read ∙ eight line-few, tt))
       ∙ ap (writtenIn room) set
 
-  asked : Asked R text (l .runs)
+  pub asked : Asked R text (l .runs)
   asked = record {
     reads = reading-is text (read text) .0 (reads ∙ ap one (sym is-read));
     holds = λ n h. subst (λ (p : Text). Holds (recording.readings R) (whole n) p 0 ↔ InRuns (l .runs) (whole n)) (sym is-read) (line-holds n h);
@@ -180,7 +180,7 @@ module _ (R : List ℕ) (accepted : recording.Accepted R) (some : recording.noRe
 -- ---- refusal 8
 
 -- a listed question has one node, judged at the first record
-listed-eight : (R : List ℕ) (q : Listed) → runCount (λ n. val (coded R) n (listed q) 0) ≤ mostRuns → refused8 (coded R) (listed q) ≡ false
+pub listed-eight : (R : List ℕ) (q : Listed) → runCount (λ n. val (coded R) n (listed q) 0) ≤ mostRuns → refused8 (coded R) (listed q) ≡ false
 unfolding refused8 someNode
 listed-eight R q h = le-ltb mostRuns (runCount (λ n. val (coded R) n (listed q) 0)) h
 

@@ -35,7 +35,7 @@ use Rattle.promises.specs.laws.StandIn.{stand-same}
 use Rattle.promises.specs.KeptAsFull.{Askable, SameAnswers}
 use Rattle.promises.specs.laws.KeptAsFull.{selected-as-full}
 use Rattle.promises.specs.Demands.{Fixed, AskedOfKept, RightOf, LikeFull, InPlaceOf}
-use Rattle.promises.specs.laws.Demand1.{judged-number, told-counted, told-numbered, wrote, question-told, demand-1}
+use Rattle.promises.specs.laws.Demand1.{judged-number, told-counted, told-numbered, wrote, writes-alike, question-told, demand-1}
 use Rattle.promises.specs.laws.Demand2.{stood-told, stood-fixed, written-set}
 
 -- ---- DEMAND 3: kept readings in the place of the recording
@@ -105,33 +105,13 @@ module _ (marks recording held : List ℕ) (fine : AcceptedMarks marks) (a : Acc
   }
 
 -- two calls alike in all but their outputs, which have one length
-same-written : (recording text out out′ : List ℕ) (r r′ : ℕ) (after after′ : List ℕ) → length out ≡ length out′ → QuestionCall recording text out r after
+same-written : (recording text : List ℕ) {out out′ : List ℕ} {r r′ : ℕ} {after after′ : List ℕ} → length out ≡ length out′ → QuestionCall recording text out r after
     → QuestionCall recording text out′ r′ after′ → (r ≡ r′) × (numberIn r ≡ 0 → take (lowIn r) after ≡ take (lowIn r) after′)
-same-written recording text out out′ r r′ after after′ e w w′ = (
-  same,
-  λ z.
-      let b = bytes-of out r after w z in
-      let b′ = bytes-of out′ r′ after′ w′ (ap numberIn (sym same) ∙ z) in
-      let q : questionOf recording text (length out) ≡ questionOf recording text (length out′) = ap (questionOf recording text) e in
-      let x = b .1 in
-      let y = b′ .1 in
-      let s : b .0 ≡ b′ .0 = same-bytes (b .0) (b′ .0) (sym x ∙ q ∙ y) in
-      b .3 ∙ s ∙ sym (b′ .3) ∙ ap (λ (n : ℕ). take (lowIn n) after′) (sym same),
-)
-  where
-    same : r ≡ r′
-    same = w .returned ∙ ap (λ (n : ℕ). packed (counted (questionOf recording text n))) e ∙ sym (w′ .returned)
-
-    same-bytes : (x y : List ℕ) → result x ≡ result y → x ≡ y
-    same-bytes x y e = cc
-
-    bytes-of : (out : List ℕ) (r : ℕ) (after : List ℕ) → QuestionCall recording text out r after → numberIn r ≡ 0
-        → (b : List ℕ) × (questionOf recording text (length out) ≡ result b) × (lowIn r ≡ length b) × (take (lowIn r) after ≡ b) × (drop (lowIn r) after ≡ drop (lowIn r) out)
-    bytes-of out r after w z =
-        let q : Request = question recording text (length out) in
-        let o : Outcome (List ℕ) = questionOf recording text (length out) in
-        wrote o out r after (question-in-half recording text (length out))
-        (told-numbered q (order q) (counted o) (told-counted q (order q) o (question-told recording text (length out)))) w z
+same-written recording text {out} e w w′ =
+    let q : Request = question recording text (length out) in
+    let o : Outcome (List ℕ) = questionOf recording text (length out) in
+    writes-alike (ap (questionOf recording text) e) (question-in-half recording text (length out))
+    (told-numbered q (order q) (counted o) (told-counted q (order q) o (question-told recording text (length out)))) w w′
 
 -- "the same set in the same bytes, or the same refusal": of every selection that includes the kept readings
 pub like-full : (marks : List ℕ) → AcceptedMarks marks → {recording held text : List ℕ} → Accepted recording → Selection (marksOf marks) recording held → AskedOfKept marks text
@@ -139,7 +119,7 @@ pub like-full : (marks : List ℕ) → AcceptedMarks marks → {recording held t
     → QuestionCall recording text out′ r′ after′ → LikeFull recording text out r r′ after after′
 like-full marks fine {recording} {held} {text} a s l {out} {out′} e {r} {r′} {after} {after′} w w′ =
     let v = selected-question marks recording held fine a s l w in
-    let k = same-written recording text out out′ r r′ after after′ e v w′ in
+    let k = same-written recording text e v w′ in
     record {
       same = k .0;
       same-bytes = k .1;

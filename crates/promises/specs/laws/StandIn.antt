@@ -98,29 +98,36 @@ coded-single ks full held s = (
   λ z. length-coded held ∙ sym (length-records held) ∙ s .single .1 (length-records full ∙ sym (length-coded full) ∙ z),
 )
 
+-- ---- two accepted recordings of which a text means the same
+
+module _ (full held : List ℕ) (accepted : Accepted full) (accepted′ : Accepted held) (some : noRecord full .meets ≡ false) (some′ : noRecord held .meets ≡ false) (p : Text) (both : Same (readings held) (readings full) p) where
+  range-full : InRange (readings full)
+  range-full = accepted-recorded full accepted .in-range
+
+  range-held : InRange (readings held)
+  range-held = accepted-recorded held accepted′ .in-range
+
+  -- THE ANSWERED SET
+  pub meant-val : (n : ℕ) → val (coded held) n p 0 ≡ val (coded full) n p 0
+  meant-val n = same-test _ _ (val-holds (readings held) range-held n p 0 (omega arith)) (both .truth (whole n)) (val-holds (readings full) range-full n p 0 (omega arith))
+
+  -- REFUSALS 9 AND 8
+  pub meant-lines : setLines held p ≡ setLines full p
+  meant-lines = ap₂ (λ (e f : Bool). line 9 e ∷ line 8 f ∷ [])
+      (same-test _ _ (nine-tops (readings held) range-held p) (both .nine) (nine-tops (readings full) range-full p))
+      (same-test _ _ (eight-overfull (readings held) range-held (some-readings held some′) p) (both .eight) (eight-overfull (readings full) range-full (some-readings full some) p))
+
 -- ---- for an accepted recording
 
 module _ (ks full held : List ℕ) (s : StandIn ks full held) (accepted : Accepted full) (some : noRecord full .meets ≡ false) (p : Text) (plain : Plain ks p) where
   some-held : noRecord held .meets ≡ false
   some-held = ap (λ (l : Line). l .meets) (same-noRecord ks full held s) ∙ some
 
-  both-same : Same (readings held) (readings full) p
-  both-same = stand-same ks full held s some-held p plain
-
-  range-full : InRange (readings full)
-  range-full = accepted-recorded full accepted .in-range
-
-  range-held : InRange (readings held)
-  range-held = accepted-recorded held (s .accepted) .in-range
-
   pub stand-val : (n : ℕ) → val (coded held) n p 0 ≡ val (coded full) n p 0
-  stand-val n = same-test _ _ (val-holds (readings held) range-held n p 0 (omega arith)) (both-same .truth (whole n)) (val-holds (readings full) range-full n p 0 (omega arith))
+  stand-val = meant-val full held accepted (s .accepted) some some-held p (stand-same ks full held s some-held p plain)
 
-  -- REFUSALS 9 AND 8
   pub stand-setLines : setLines held p ≡ setLines full p
-  stand-setLines = ap₂ (λ (e f : Bool). line 9 e ∷ line 8 f ∷ [])
-      (same-test _ _ (nine-tops (readings held) range-held p) (both-same .nine) (nine-tops (readings full) range-full p))
-      (same-test _ _ (eight-overfull (readings held) range-held (some-readings held some-held) p) (both-same .eight) (eight-overfull (readings full) range-full (some-readings full some) p))
+  stand-setLines = meant-lines full held accepted (s .accepted) some some-held p (stand-same ks full held s some-held p plain)
 
 module _ (marks full held : List ℕ) (s : StandIn (marksOf marks) full held) (accepted : Accepted full) where
   module _ (text : List ℕ) (askable : Askable marks text) where

@@ -1,0 +1,205 @@
+-- Two recordings that differ in B alone and keep different readings: secrecy is not empty, and each part of refusal 14 is needed. A is 11, 19, 14, 15, 16 at T 0 to 40;
+-- B is 0, but 4 at T 20 in the one and 3 at T 30 in the other; all is flat. So the one keeps T 0, 10, 20, 40, the other T 0, 10, 30, 40.
+use Prim.Native.Nat.{ℕ, _<_}
+use native.Mathlib.Omega.{arith}
+use mathlib.Core.Path.{_≡_, refl, sym, ap, subst, _∙_}
+use mathlib.Core.Bool.{true}
+use mathlib.Core.List.{List, [], _∷_, _++_, map}
+use lib.IntN.{pos}
+use lib.Signed.{leZ-yes}
+use Rattle.number.specs.Axis.{axis}
+use Rattle.number.specs.Least.{least}
+use Rattle.number.specs.Words.{turned, signed}
+use Rattle.refusal.specs.Outcome.{refused, NoneMeets}
+use Rattle.recording.specs.Condition.{someOf}
+use Rattle.recording.specs.Reading.{Reading, A, B, value, nothing}
+use Rattle.recording.specs.Recording.{reading, readings, inRange, fieldsOf, fields, lawful, firstBad, Accepted}
+use Rattle.runset.specs.laws.Cuts.{lowCuts, highCuts}
+use Rattle.grammar.specs.Bytes.{bytes}
+use Rattle.grammar.specs.Size.{tooDeep}
+use Rattle.grammar.specs.Syntax.{high, lowafter, listed}
+use Rattle.grammar.specs.inner.Lexer.{unsignedAt, numberAt, operandAt, comparisonAt, timedAt, argumentsAt, namedAt, headedAt, leafAt}
+use Rattle.grammar.specs.inner.Parse.{parse, parsed}
+use Rattle.text.specs.Told.{textLines}
+use Rattle.meaning.specs.Ranges.{_to_, Lo, Hi}
+use Rattle.meaning.specs.Named.{Part, SamePart, Agree, none, more}
+use Rattle.meaning.specs.inner.Recorded.{InRange}
+use Rattle.meaning.specs.inner.Coded.{Coded, code, codedValue, codedAfter}
+use Rattle.meaning.specs.inner.Truth.{truth, val, someNode, refused9}
+use Rattle.meaning.specs.laws.Extreme.{Greatest, Least, greatest-some, least-some}
+use Rattle.meaning.specs.laws.Lines.{Example, _is_, at, Holding, within, up-to, from-on, told}
+use Rattle.meaning.specs.laws.Pick.{all-at}
+use Rattle.question.specs.Question.{questionOf}
+use Rattle.marks.specs.Marks.{marksOf}
+use Rattle.lab.specs.Lab.{labQuestionOf}
+use Rattle.lab.specs.inner.Barred.{notForLaboratory}
+use Rattle.lab.specs.laws.Plain.{question-allowed, question-barred}
+use Rattle.thin.specs.Thin.{keptBytes}
+use Rattle.promises.specs.MarkedLines.{bytesOfRuns, writtenIn, Asked}
+use Rattle.promises.specs.Secrecy.{Public, the-batch, the-additions, AllButB}
+use Rattle.promises.specs.laws.MarkedLines.{asked, listed-eight}
+
+-- a flat record: time, A and B
+abbrev pub flat : ℕ → ℕ → ℕ → List ℕ
+flat time a b = time ∷ 0 ∷ 0 ∷ 0 ∷ a ∷ 0 ∷ 0 ∷ 0 ∷ b ∷ 0 ∷ 0 ∷ 0 ∷ 1 ∷ 1 ∷ 0 ∷ 0 ∷ []
+
+abbrev pub one : List ℕ
+one = flat 0 11 0 ++ flat 10 19 0 ++ flat 20 14 4 ++ flat 30 15 0 ++ flat 40 16 0
+
+abbrev pub other : List ℕ
+other = flat 0 11 0 ++ flat 10 19 0 ++ flat 20 14 0 ++ flat 30 15 3 ++ flat 40 16 0
+
+-- what they keep without marks
+abbrev pub one-kept : List ℕ
+one-kept = flat 0 11 0 ++ flat 10 19 0 ++ flat 20 14 4 ++ flat 40 16 0
+
+abbrev pub other-kept : List ℕ
+other-kept = flat 0 11 0 ++ flat 10 19 0 ++ flat 30 15 3 ++ flat 40 16 0
+
+-- TWO RECORDINGS
+pub record TwoRecordings : Type 0 where
+  -- they differ in B alone, and keep different readings
+  pub but-for-B : AllButB one other
+  pub keep : keptBytes [] one ≡ one-kept
+  pub other-keep : keptBytes [] other ≡ other-kept
+  -- a laboratory text is answered: `high(A)` is Lo..19, of the kept readings of either
+  pub answered : (room : ℕ) → labQuestionOf one-kept [] (bytes "high(A)") room ≡ writtenIn room (bytesOfRuns ((Lo to pos 19) ∷ []))
+  pub other-answered : (room : ℕ) → labQuestionOf other-kept [] (bytes "high(A)") room ≡ writtenIn room (bytesOfRuns ((Lo to pos 19) ∷ []))
+  -- B must not be named: the plain call tells the two apart by `high(B)`, and 14 refuses it
+  pub told-by-B : Asked one-kept (bytes "high(B)") ((Lo to pos 4) ∷ []) × Asked other-kept (bytes "high(B)") ((Lo to pos 3) ∷ [])
+  pub B-refused : (room : ℕ) → labQuestionOf one-kept [] (bytes "high(B)") room ≡ refused 14 0
+  -- an after-time must be a mark: `lowafter(A,10)` names A alone, and still the plain call tells the kept readings apart; 14 refuses it
+  pub told-by-time : Asked one-kept (bytes "lowafter(A,10)") ((pos 14 to Hi) ∷ []) × Asked other-kept (bytes "lowafter(A,10)") ((pos 15 to Hi) ∷ [])
+  pub time-refused : (room : ℕ) → labQuestionOf one-kept [] (bytes "lowafter(A,10)") room ≡ refused 14 0
+
+-- ---- the readings
+
+abbrev at-rest : ℕ → ℕ → ℕ → Reading
+at-rest t x y = record { time = t; a = pos x; b = pos y; slope-a = 1; slope-b = 1; pigment = 0 }
+
+abbrev ones-kept : List Reading
+ones-kept = at-rest 0 11 0 ∷ at-rest 10 19 0 ∷ at-rest 20 14 4 ∷ at-rest 40 16 0 ∷ []
+
+abbrev others-kept : List Reading
+others-kept = at-rest 0 11 0 ∷ at-rest 10 19 0 ∷ at-rest 30 15 3 ∷ at-rest 40 16 0 ∷ []
+
+-- at one time with one A, whatever the two Bs
+agree : (t x y z : ℕ) → Agree Public (at-rest t x y) (at-rest t x z)
+agree t x y z = record { time = refl; part = same }
+  where
+    same : (n : Part) → Public n → SamePart n (at-rest t x y) (at-rest t x z)
+    same n the-batch = (refl, refl)
+    same n the-additions = refl
+
+accepted : Accepted one
+unfolding reading signed turned fieldsOf fields lawful firstBad least
+accepted = (refl, (refl, (refl, tt)))
+
+other-accepted : Accepted other
+unfolding reading signed turned fieldsOf fields lawful firstBad least
+other-accepted = (refl, (refl, (refl, tt)))
+
+kept-accepted : Accepted one-kept
+unfolding reading signed turned fieldsOf fields lawful firstBad least
+kept-accepted = (refl, (refl, (refl, tt)))
+
+other-kept-accepted : Accepted other-kept
+unfolding reading signed turned fieldsOf fields lawful firstBad least
+other-kept-accepted = (refl, (refl, (refl, tt)))
+
+differ-in-B : AllButB one other
+unfolding reading signed turned
+differ-in-B = record {
+  accepted = accepted;
+  other-accepted = other-accepted;
+  agree = more (agree 0 11 0 0) (more (agree 10 19 0 0) (more (agree 20 14 4 0) (more (agree 30 15 0 3) (more (agree 40 16 0 0) none))));
+}
+
+-- ---- the sets
+
+in-range : InRange ones-kept
+in-range i h A = all-at nothing (λ x. inRange (value A x)) ones-kept refl i h
+in-range i h B = all-at nothing (λ x. inRange (value B x)) ones-kept refl i h
+
+other-in-range : InRange others-kept
+other-in-range i h A = all-at nothing (λ x. inRange (value A x)) others-kept refl i h
+other-in-range i h B = all-at nothing (λ x. inRange (value B x)) others-kept refl i h
+
+abbrev one-coded : List Coded
+one-coded = map code ones-kept
+
+abbrev other-coded : List Coded
+other-coded = map code others-kept
+
+high-A : Greatest (λ (x : Coded). true) (codedValue A) one-coded (at 19)
+high-A = record { one = refl; all = refl }
+
+other-high-A : Greatest (λ (x : Coded). true) (codedValue A) other-coded (at 19)
+other-high-A = record { one = refl; all = refl }
+
+high-B : Greatest (λ (x : Coded). true) (codedValue B) one-coded (at 4)
+high-B = record { one = refl; all = refl }
+
+other-high-B : Greatest (λ (x : Coded). true) (codedValue B) other-coded (at 3)
+other-high-B = record { one = refl; all = refl }
+
+low-after : Least (codedAfter (at 10)) (codedValue A) one-coded (at 14)
+low-after = record { one = refl; all = refl }
+
+other-low-after : Least (codedAfter (at 10)) (codedValue A) other-coded (at 15)
+other-low-after = record { one = refl; all = refl }
+
+-- ---- the lines
+
+one-high-A : Holding (readings one-kept) (listed (high A) is ((Lo to pos 19) ∷ []))
+unfolding reading signed turned val truth
+one-high-A = told ones-kept in-range (listed (high A) is ((Lo to pos 19) ∷ [])) ((refl, refl), tt)
+    (λ n h. greatest-some (λ x. true) (codedValue A) one-coded n (at 19) high-A ∙ up-to n (at 19)) (leZ-yes tt)
+
+two-high-A : Holding (readings other-kept) (listed (high A) is ((Lo to pos 19) ∷ []))
+unfolding reading signed turned val truth
+two-high-A = told others-kept other-in-range (listed (high A) is ((Lo to pos 19) ∷ [])) ((refl, refl), tt)
+    (λ n h. greatest-some (λ x. true) (codedValue A) other-coded n (at 19) other-high-A ∙ up-to n (at 19)) (leZ-yes tt)
+
+one-high-B : Holding (readings one-kept) (listed (high B) is ((Lo to pos 4) ∷ []))
+unfolding reading signed turned val truth
+one-high-B = told ones-kept in-range (listed (high B) is ((Lo to pos 4) ∷ [])) ((refl, refl), tt)
+    (λ n h. greatest-some (λ x. true) (codedValue B) one-coded n (at 4) high-B ∙ up-to n (at 4)) (leZ-yes tt)
+
+two-high-B : Holding (readings other-kept) (listed (high B) is ((Lo to pos 3) ∷ []))
+unfolding reading signed turned val truth
+two-high-B = told others-kept other-in-range (listed (high B) is ((Lo to pos 3) ∷ [])) ((refl, refl), tt)
+    (λ n h. greatest-some (λ x. true) (codedValue B) other-coded n (at 3) other-high-B ∙ up-to n (at 3)) (leZ-yes tt)
+
+one-lowafter : Holding (readings one-kept) (listed (lowafter A (at 10)) is ((pos 14 to Hi) ∷ []))
+unfolding reading signed turned val truth
+one-lowafter = told ones-kept in-range (listed (lowafter A (at 10)) is ((pos 14 to Hi) ∷ [])) ((refl, refl), tt)
+    (λ n h. least-some (codedAfter (at 10)) (codedValue A) one-coded n (at 14) low-after ∙ from-on n (at 14) h) (leZ-yes tt)
+
+two-lowafter : Holding (readings other-kept) (listed (lowafter A (at 10)) is ((pos 15 to Hi) ∷ []))
+unfolding reading signed turned val truth
+two-lowafter = told others-kept other-in-range (listed (lowafter A (at 10)) is ((pos 15 to Hi) ∷ [])) ((refl, refl), tt)
+    (λ n h. least-some (codedAfter (at 10)) (codedValue A) other-coded n (at 15) other-low-after ∙ from-on n (at 15) h) (leZ-yes tt)
+
+-- THE TWO RECORDINGS ARE AS TOLD
+pub two-recordings : TwoRecordings
+unfolding tooDeep least parsed parse unsignedAt numberAt operandAt comparisonAt timedAt argumentsAt namedAt headedAt leafAt lowCuts highCuts refused9 someNode marksOf keptBytes reading signed turned notForLaboratory fieldsOf fields lawful firstBad
+two-recordings = record {
+  but-for-B = differ-in-B;
+  keep = refl;
+  other-keep = refl;
+  answered = λ room. question-allowed one-kept [] (bytes "high(A)") (refl, (refl, tt)) room
+      ∙ asked one-kept kept-accepted refl one-high-A (bytes "high(A)") refl (refl, (refl, (refl, tt))) refl refl refl (listed-eight one-kept (high A)) .call room;
+  other-answered = λ room. question-allowed other-kept [] (bytes "high(A)") (refl, (refl, tt)) room
+      ∙ asked other-kept other-kept-accepted refl two-high-A (bytes "high(A)") refl (refl, (refl, (refl, tt))) refl refl refl (listed-eight other-kept (high A)) .call room;
+  told-by-B = (
+    asked one-kept kept-accepted refl one-high-B (bytes "high(B)") refl (refl, (refl, (refl, tt))) refl refl refl (listed-eight one-kept (high B)),
+    asked other-kept other-kept-accepted refl two-high-B (bytes "high(B)") refl (refl, (refl, (refl, tt))) refl refl refl (listed-eight other-kept (high B)),
+  );
+  B-refused = λ room. question-barred one-kept [] (bytes "high(B)") (refl, (refl, (refl, (refl, (refl, (refl, (refl, tt))))))) refl refl room;
+  told-by-time = (
+    asked one-kept kept-accepted refl one-lowafter (bytes "lowafter(A,10)") refl (refl, (refl, (refl, tt))) refl refl refl (listed-eight one-kept (lowafter A 2000000010)),
+    asked other-kept other-kept-accepted refl two-lowafter (bytes "lowafter(A,10)") refl (refl, (refl, (refl, tt))) refl refl refl (listed-eight other-kept (lowafter A 2000000010)),
+  );
+  time-refused = λ room. question-barred one-kept [] (bytes "lowafter(A,10)") (refl, (refl, (refl, (refl, (refl, (refl, (refl, tt))))))) refl refl room;
+}
