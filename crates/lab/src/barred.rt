@@ -5,7 +5,7 @@ ghost use lib.ListN.{length};
 ghost use Rattle.grammar.specs.Syntax.{Text};
 ghost use Rattle.parser.specs.inner.Rows.{Laid};
 ghost use Rattle.marks.specs.Marks.{marksOf};
-ghost use Rattle.lab.specs.inner.Barred.{isMark, namesBoth, hasCurve, rowNamesB, isTemporal, rowBarred, notForLaboratory};
+ghost use Rattle.lab.specs.inner.Barred.{isMarkIndex, namesBoth, hasCurve, rowNamesB, isTemporal, rowBarred, notForLaboratory};
 use grammar::Row;
 use grammar::kinds;
 use text::table::between;
@@ -54,7 +54,7 @@ fn names_b(kind: u32, first: u32) -> bool
 
 // Whether the number with this index on the axis is a mark.
 fn is_mark(marks: &[u8], index: u32) -> bool
-    ensures { λ r. ⌜ r ≡ isMark (marksOf (now (marks .entry))) index ⌝ }
+    ensures { λ r. ⌜ r ≡ isMarkIndex (marksOf (now (marks .entry))) index ⌝ }
 {
     if index < number::ORIGIN {
         return false;

@@ -15,8 +15,8 @@ use Rattle.meaning.specs.Named.{Part, curve, additions, atomNames, listedNames}
 use Rattle.meaning.specs.inner.Truth.{someNode}
 
 -- the number with the index k is one of the marks
-abbrev pub isMark : List ℕ → ℕ → Bool
-isMark marks k = someOf (λ m. eqb k (markIndex m)) marks
+abbrev pub isMarkIndex : List ℕ → ℕ → Bool
+isMarkIndex marks k = someOf (λ m. eqb k (markIndex m)) marks
 
 -- the part is B
 abbrev pub isB : Part → Bool
@@ -27,7 +27,7 @@ isB additions = false
 -- a node that a laboratory may not write: it names B, is F, G, X, U or W, or has an after-time that is no mark
 abbrev pub barred : List ℕ → Text → Bool
 barred marks (atom k) = someOf isB (atomNames k)
-barred marks (listed q) = someOf isB (listedNames q) || someOf (λ k. not (isMark marks k)) (afterTime q)
+barred marks (listed q) = someOf isB (listedNames q) || someOf (λ k. not (isMarkIndex marks k)) (afterTime q)
 barred marks (or p q) = false
 barred marks (and p q) = false
 barred marks (neg p) = false
@@ -55,4 +55,4 @@ abbrev pub isTemporal : ℕ → Bool
 isTemporal k = within NEXT GLOBALLY k || within UNTIL WEAK-UNTIL k
 
 unfoldable pub rowBarred : List ℕ → Row → Bool
-rowBarred marks r = rowNamesB (r .kind) (r .first) || cond (within LOWAFTER CAPAFTER (r .kind)) (not (isMark marks (r .number))) (isTemporal (r .kind))
+rowBarred marks r = rowNamesB (r .kind) (r .first) || cond (within LOWAFTER CAPAFTER (r .kind)) (not (isMarkIndex marks (r .number))) (isTemporal (r .kind))

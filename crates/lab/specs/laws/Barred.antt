@@ -18,7 +18,7 @@ use Rattle.parser.specs.inner.Rows.{Laid}
 use Rattle.text.specs.laws.Table.{Each, each, unary-kinds, binary-kinds, ByRow, held-nodes, held-some}
 use Rattle.meaning.specs.Alike.{markIndex}
 use Rattle.meaning.specs.inner.Truth.{someNode}
-use Rattle.lab.specs.inner.Barred.{isMark, isB, barred, notForLaboratory, rowNamesB, rowBarred}
+use Rattle.lab.specs.inner.Barred.{isMarkIndex, isB, barred, notForLaboratory, rowNamesB, rowBarred}
 
 -- ---- tests one after the other
 
@@ -41,12 +41,12 @@ mark-test k m h = same _ _
     (λ e. eq-eqb k (markIndex m) (omega (arith, eqb-true (k - origin) m e)))
     (λ e. eq-eqb (k - origin) m (omega (arith, eqb-true k (markIndex m) e)))
 
-pub mark-there : (marks : List ℕ) (k : ℕ) → origin ≤ k → someOf (eqb (k - origin)) marks ≡ isMark marks k
+pub mark-there : (marks : List ℕ) (k : ℕ) → origin ≤ k → someOf (eqb (k - origin)) marks ≡ isMarkIndex marks k
 mark-there [] k h = refl
 mark-there (m ∷ marks) k h = λ i. mark-test k m h i || mark-there marks k h i
 
 -- a number below 0 is no mark
-pub mark-below : (marks : List ℕ) (k : ℕ) → k < origin → isMark marks k ≡ false
+pub mark-below : (marks : List ℕ) (k : ℕ) → k < origin → isMarkIndex marks k ≡ false
 mark-below [] k h = refl
 mark-below (m ∷ marks) k h = λ i. ne-eqb k (markIndex m) (λ e. omega arith) i || mark-below marks k h i
 
@@ -93,9 +93,9 @@ module _ (marks : List ℕ) (b n : ℕ) where
                 (
                   of-curve 7 refl (λ a. is-b a false) a,
                   (
-                    of-curve 8 (or-false (not (isMark marks n))) (λ a. is-b a (not (isMark marks n))) a,
+                    of-curve 8 (or-false (not (isMarkIndex marks n))) (λ a. is-b a (not (isMarkIndex marks n))) a,
                     (
-                      of-curve 9 (or-false (not (isMark marks n))) (λ a. is-b a (not (isMark marks n))) a,
+                      of-curve 9 (or-false (not (isMarkIndex marks n))) (λ a. is-b a (not (isMarkIndex marks n))) a,
                       (
                         of-curve 10 refl (λ a. is-b a false) a,
                         (

@@ -11,8 +11,8 @@ use Rattle.question.specs.Question.{read}
 use Rattle.lab.specs.inner.Barred.{notForLaboratory}
 
 -- on A, the time and pigments, with the mark as after-time
-abbrev pub asked : List (List ℕ)
-asked =
+abbrev pub laboratoryTexts : List (List ℕ)
+laboratoryTexts =
     bytes "high(A)"
     ∷ bytes "peaks(A)&!gaps(A)|dose(7)"
     ∷ bytes "lowafter(A,40)"
@@ -20,8 +20,8 @@ asked =
     ∷ []
 
 -- on B, on both curves, with F, G, X, U or W, and with an after-time that is no mark; one below 0 never is
-abbrev pub notAsked : List (List ℕ)
-notAsked =
+abbrev pub otherTexts : List (List ℕ)
+otherTexts =
     bytes "high(B)"
     ∷ bytes "high(A)|!(B=3)"
     ∷ bytes "rise(B)"
@@ -39,10 +39,10 @@ notAsked =
 abbrev barredTexts : List (List ℕ) → List Bool
 barredTexts texts = map (λ (t : List ℕ). notForLaboratory (40 ∷ []) (read t)) texts
 
-pub texts-asked : barredTexts asked ≡ map (λ (t : List ℕ). false) asked
+pub laboratory-texts : barredTexts laboratoryTexts ≡ map (λ (t : List ℕ). false) laboratoryTexts
 unfolding notForLaboratory someNode parsed parse unsignedAt numberAt pigmentAt pigmentLeafAt operandAt comparisonAt timedAt argumentsAt namedAt headedAt leafAt
-texts-asked = refl
+laboratory-texts = refl
 
-pub texts-not-asked : barredTexts notAsked ≡ map (λ (t : List ℕ). true) notAsked
+pub other-texts : barredTexts otherTexts ≡ map (λ (t : List ℕ). true) otherTexts
 unfolding notForLaboratory someNode parsed parse unsignedAt numberAt pigmentAt pigmentLeafAt operandAt comparisonAt timedAt argumentsAt namedAt headedAt leafAt
-texts-not-asked = refl
+other-texts = refl

@@ -19,7 +19,7 @@ use Rattle.meaning.specs.laws.Alike.{plain-node}
 use Rattle.meaning.specs.laws.Overfull.{some-node}
 use Rattle.marks.specs.Marks.{marksOf}
 use Rattle.lab.specs.Lab.{LaboratoryText}
-use Rattle.lab.specs.inner.Barred.{isMark, isB, barred, notForLaboratory}
+use Rattle.lab.specs.inner.Barred.{isMarkIndex, isB, barred, notForLaboratory}
 
 -- ---- lists
 
@@ -33,16 +33,16 @@ member-some P (y ∷ l) e = or-cases (P y) (someOf P l) e (λ q. (y, List·Mem�
 
 -- ---- among the marks
 
-marked-is : (marks : List ℕ) (k : ℕ) → List·Memᴰ k (map markIndex marks) → isMark marks k ≡ true
+marked-is : (marks : List ℕ) (k : ℕ) → List·Memᴰ k (map markIndex marks) → isMarkIndex marks k ≡ true
 marked-is [] k m = absurd (List·Memᴰ·not-nil m)
 marked-is (m ∷ marks) k h =
-    ⊎-elim (λ e. or-left (eqb k (markIndex m)) (isMark marks k) (eq-eqb k (markIndex m) e)) (λ t. or-right (eqb k (markIndex m)) (isMark marks k) (marked-is marks k t))
+    ⊎-elim (λ e. or-left (eqb k (markIndex m)) (isMarkIndex marks k) (eq-eqb k (markIndex m) e)) (λ t. or-right (eqb k (markIndex m)) (isMarkIndex marks k) (marked-is marks k t))
     (List·Memᴰ·cases-cons h)
 
-is-marked : (marks : List ℕ) (k : ℕ) → isMark marks k ≡ true → List·Memᴰ k (map markIndex marks)
+is-marked : (marks : List ℕ) (k : ℕ) → isMarkIndex marks k ≡ true → List·Memᴰ k (map markIndex marks)
 is-marked [] k e = absurd (false≢true e)
 is-marked (m ∷ marks) k e =
-    or-cases (eqb k (markIndex m)) (isMark marks k) e (λ q. List·Memᴰ·head (eqb-true k (markIndex m) q)) (λ q. List·Memᴰ·tail (is-marked marks k q))
+    or-cases (eqb k (markIndex m)) (isMarkIndex marks k) e (λ q. List·Memᴰ·head (eqb-true k (markIndex m) q)) (λ q. List·Memᴰ·tail (is-marked marks k q))
 
 -- ---- the part that is B
 
@@ -83,8 +83,8 @@ module _ (marks : List ℕ) where
   clear-flat (weakUntil p q) h = absurd (true≢false h)
 
   listed-marked : (q : Listed) → barred marks (listed q) ≡ false → (k : ℕ) → List·Memᴰ k (afterTime q) → List·Memᴰ k (map markIndex marks)
-  listed-marked q h k m = is-marked marks k (by-test (isMark marks k) (λ e.
-      clash (some-member (λ k. not (isMark marks k)) (afterTime q) k m (ap not e)) (none-right (someOf isB (nodeNames (listed q))) _ h)))
+  listed-marked q h k m = is-marked marks k (by-test (isMarkIndex marks k) (λ e.
+      clash (some-member (λ k. not (isMarkIndex marks k)) (afterTime q) k m (ap not e)) (none-right (someOf isB (nodeNames (listed q))) _ h)))
 
   two-marked : (p q : Text) → ((k : ℕ) → List·Memᴰ k (afterTimes p) → List·Memᴰ k (map markIndex marks)) → ((k : ℕ) → List·Memᴰ k (afterTimes q) → List·Memᴰ k (map markIndex marks))
       → (k : ℕ) → List·Memᴰ k (afterTimes p ++ afterTimes q) → List·Memᴰ k (map markIndex marks)
@@ -131,10 +131,10 @@ module _ (marks : List ℕ) where
     where
       go : (q : Text) → Node q p → Plain marks q → barred marks q ≡ true → ⊥
       go (atom k) n h e = let b = member-some isB (nodeNames (atom k)) e in t .no-B (atom k, n, subst (λ (x : Part). List·Memᴰ x (nodeNames (atom k))) (is-B (b .0) (b .2)) (b .1))
-      go (listed l) n h e = or-cases (someOf isB (nodeNames (listed l))) (someOf (λ k. not (isMark marks k)) (afterTime l)) e
+      go (listed l) n h e = or-cases (someOf isB (nodeNames (listed l))) (someOf (λ k. not (isMarkIndex marks k)) (afterTime l)) e
           (λ x. let b = member-some isB (nodeNames (listed l)) x in t .no-B (listed l, n, subst (λ (x : Part). List·Memᴰ x (nodeNames (listed l))) (is-B (b .0) (b .2)) (b .1)))
-          (λ x. let b = member-some (λ k. not (isMark marks k)) (afterTime l) x in
-          clash (marked-is marks (b .0) (h .marked (b .0) (b .1))) (not-true (isMark marks (b .0)) (b .2)))
+          (λ x. let b = member-some (λ k. not (isMarkIndex marks k)) (afterTime l) x in
+          clash (marked-is marks (b .0) (h .marked (b .0) (b .1))) (not-true (isMarkIndex marks (b .0)) (b .2)))
       go (or c d) n h e = false≢true e
       go (and c d) n h e = false≢true e
       go (neg c) n h e = false≢true e

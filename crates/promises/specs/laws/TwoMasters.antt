@@ -1,5 +1,5 @@
--- Two recordings that differ in B alone and keep different readings: secrecy is not empty, and each part of refusal 14 is needed. A is 11, 19, 14, 15, 16 at T 0 to 40;
--- B is 0, but 4 at T 20 in the one and 3 at T 30 in the other; all is flat. So the one keeps T 0, 10, 20, 40, the other T 0, 10, 30, 40.
+-- Recordings R4 and R5, our own, which differ in B alone and keep different readings: secrecy is not empty, and each part of refusal 14 is needed. A is 11, 19, 14, 15, 16 at T 0 to 40;
+-- B is 0, but 4 at T 20 in R4 and 3 at T 30 in R5; all is flat. So R4 keeps T 0, 10, 20, 40, and R5 T 0, 10, 30, 40.
 use Prim.Native.Nat.{ℕ, _<_}
 use native.Mathlib.Omega.{arith}
 use mathlib.Core.Path.{_≡_, refl, sym, ap, subst, _∙_}
@@ -35,53 +35,57 @@ use Rattle.lab.specs.Lab.{labQuestionOf}
 use Rattle.lab.specs.inner.Barred.{notForLaboratory}
 use Rattle.lab.specs.laws.Plain.{question-allowed, question-barred}
 use Rattle.thin.specs.Thin.{keptBytes}
+use Rattle.thin.specs.laws.Examples.{mark10}
 use Rattle.promises.specs.MarkedLines.{bytesOfRuns, writtenIn, Asked}
 use Rattle.promises.specs.Secrecy.{Public, the-batch, the-additions, AllButB}
 use Rattle.promises.specs.laws.MarkedLines.{asked, listed-eight}
 
 -- a flat record: time, A and B
-abbrev pub flat : ℕ → ℕ → ℕ → List ℕ
-flat time a b = time ∷ 0 ∷ 0 ∷ 0 ∷ a ∷ 0 ∷ 0 ∷ 0 ∷ b ∷ 0 ∷ 0 ∷ 0 ∷ 1 ∷ 1 ∷ 0 ∷ 0 ∷ []
+abbrev pub steady : ℕ → ℕ → ℕ → List ℕ
+steady time a b = time ∷ 0 ∷ 0 ∷ 0 ∷ a ∷ 0 ∷ 0 ∷ 0 ∷ b ∷ 0 ∷ 0 ∷ 0 ∷ 1 ∷ 1 ∷ 0 ∷ 0 ∷ []
 
-abbrev pub one : List ℕ
-one = flat 0 11 0 ++ flat 10 19 0 ++ flat 20 14 4 ++ flat 30 15 0 ++ flat 40 16 0
+abbrev pub R4 : List ℕ
+R4 = steady 0 11 0 ++ steady 10 19 0 ++ steady 20 14 4 ++ steady 30 15 0 ++ steady 40 16 0
 
-abbrev pub other : List ℕ
-other = flat 0 11 0 ++ flat 10 19 0 ++ flat 20 14 0 ++ flat 30 15 3 ++ flat 40 16 0
+abbrev pub R5 : List ℕ
+R5 = steady 0 11 0 ++ steady 10 19 0 ++ steady 20 14 0 ++ steady 30 15 3 ++ steady 40 16 0
 
 -- what they keep without marks
-abbrev pub one-kept : List ℕ
-one-kept = flat 0 11 0 ++ flat 10 19 0 ++ flat 20 14 4 ++ flat 40 16 0
+abbrev pub R4-kept : List ℕ
+R4-kept = steady 0 11 0 ++ steady 10 19 0 ++ steady 20 14 4 ++ steady 40 16 0
 
-abbrev pub other-kept : List ℕ
-other-kept = flat 0 11 0 ++ flat 10 19 0 ++ flat 30 15 3 ++ flat 40 16 0
+abbrev pub R5-kept : List ℕ
+R5-kept = steady 0 11 0 ++ steady 10 19 0 ++ steady 30 15 3 ++ steady 40 16 0
 
 -- TWO RECORDINGS
 pub record TwoRecordings : Type 0 where
   -- they differ in B alone, and keep different readings
-  pub but-for-B : AllButB one other
-  pub keep : keptBytes [] one ≡ one-kept
-  pub other-keep : keptBytes [] other ≡ other-kept
+  pub but-for-B : AllButB R4 R5
+  pub keep : keptBytes [] R4 ≡ R4-kept
+  pub other-keep : keptBytes [] R5 ≡ R5-kept
   -- a laboratory text is answered: `high(A)` is Lo..19, of the kept readings of either
-  pub answered : (room : ℕ) → labQuestionOf one-kept [] (bytes "high(A)") room ≡ writtenIn room (bytesOfRuns ((Lo to pos 19) ∷ []))
-  pub other-answered : (room : ℕ) → labQuestionOf other-kept [] (bytes "high(A)") room ≡ writtenIn room (bytesOfRuns ((Lo to pos 19) ∷ []))
+  pub answered : (room : ℕ) → labQuestionOf R4-kept [] (bytes "high(A)") room ≡ writtenIn room (bytesOfRuns ((Lo to pos 19) ∷ []))
+  pub other-answered : (room : ℕ) → labQuestionOf R5-kept [] (bytes "high(A)") room ≡ writtenIn room (bytesOfRuns ((Lo to pos 19) ∷ []))
   -- B must not be named: the plain call tells the two apart by `high(B)`, and 14 refuses it
-  pub told-by-B : Asked one-kept (bytes "high(B)") ((Lo to pos 4) ∷ []) × Asked other-kept (bytes "high(B)") ((Lo to pos 3) ∷ [])
-  pub B-refused : (room : ℕ) → labQuestionOf one-kept [] (bytes "high(B)") room ≡ refused 14 0
+  pub told-by-B : Asked R4-kept (bytes "high(B)") ((Lo to pos 4) ∷ []) × Asked R5-kept (bytes "high(B)") ((Lo to pos 3) ∷ [])
+  pub B-refused : (room : ℕ) → labQuestionOf R4-kept [] (bytes "high(B)") room ≡ refused 14 0
   -- an after-time must be a mark: `lowafter(A,10)` names A alone, and still the plain call tells the kept readings apart; 14 refuses it
-  pub told-by-time : Asked one-kept (bytes "lowafter(A,10)") ((pos 14 to Hi) ∷ []) × Asked other-kept (bytes "lowafter(A,10)") ((pos 15 to Hi) ∷ [])
-  pub time-refused : (room : ℕ) → labQuestionOf one-kept [] (bytes "lowafter(A,10)") room ≡ refused 14 0
+  pub told-by-time : Asked R4-kept (bytes "lowafter(A,10)") ((pos 14 to Hi) ∷ []) × Asked R5-kept (bytes "lowafter(A,10)") ((pos 15 to Hi) ∷ [])
+  pub time-refused : (room : ℕ) → labQuestionOf R4-kept [] (bytes "lowafter(A,10)") room ≡ refused 14 0
+  -- and the marks must be those of the thinning: with the mark 10, of readings kept without marks, a laboratory's call tells the two apart. Nothing is promised there
+  pub other-marks : (room : ℕ) → (labQuestionOf R4-kept mark10 (bytes "lowafter(A,10)") room ≡ writtenIn room (bytesOfRuns ((pos 14 to Hi) ∷ [])))
+      × (labQuestionOf R5-kept mark10 (bytes "lowafter(A,10)") room ≡ writtenIn room (bytesOfRuns ((pos 15 to Hi) ∷ [])))
 
 -- ---- the readings
 
 abbrev at-rest : ℕ → ℕ → ℕ → Reading
 at-rest t x y = record { time = t; a = pos x; b = pos y; slope-a = 1; slope-b = 1; pigment = 0 }
 
-abbrev ones-kept : List Reading
-ones-kept = at-rest 0 11 0 ∷ at-rest 10 19 0 ∷ at-rest 20 14 4 ∷ at-rest 40 16 0 ∷ []
+abbrev r4-kept : List Reading
+r4-kept = at-rest 0 11 0 ∷ at-rest 10 19 0 ∷ at-rest 20 14 4 ∷ at-rest 40 16 0 ∷ []
 
-abbrev others-kept : List Reading
-others-kept = at-rest 0 11 0 ∷ at-rest 10 19 0 ∷ at-rest 30 15 3 ∷ at-rest 40 16 0 ∷ []
+abbrev r5-kept : List Reading
+r5-kept = at-rest 0 11 0 ∷ at-rest 10 19 0 ∷ at-rest 30 15 3 ∷ at-rest 40 16 0 ∷ []
 
 -- at one time with one A, whatever the two Bs
 agree : (t x y z : ℕ) → Agree Public (at-rest t x y) (at-rest t x z)
@@ -91,23 +95,23 @@ agree t x y z = record { time = refl; part = same }
     same n the-batch = (refl, refl)
     same n the-additions = refl
 
-accepted : Accepted one
+accepted : Accepted R4
 unfolding reading signed turned fieldsOf fields lawful firstBad least
 accepted = (refl, (refl, (refl, tt)))
 
-other-accepted : Accepted other
+other-accepted : Accepted R5
 unfolding reading signed turned fieldsOf fields lawful firstBad least
 other-accepted = (refl, (refl, (refl, tt)))
 
-kept-accepted : Accepted one-kept
+kept-accepted : Accepted R4-kept
 unfolding reading signed turned fieldsOf fields lawful firstBad least
 kept-accepted = (refl, (refl, (refl, tt)))
 
-other-kept-accepted : Accepted other-kept
+other-kept-accepted : Accepted R5-kept
 unfolding reading signed turned fieldsOf fields lawful firstBad least
 other-kept-accepted = (refl, (refl, (refl, tt)))
 
-differ-in-B : AllButB one other
+differ-in-B : AllButB R4 R5
 unfolding reading signed turned
 differ-in-B = record {
   accepted = accepted;
@@ -117,19 +121,19 @@ differ-in-B = record {
 
 -- ---- the sets
 
-in-range : InRange ones-kept
-in-range i h A = all-at nothing (λ x. inRange (value A x)) ones-kept refl i h
-in-range i h B = all-at nothing (λ x. inRange (value B x)) ones-kept refl i h
+in-range : InRange r4-kept
+in-range i h A = all-at nothing (λ x. inRange (value A x)) r4-kept refl i h
+in-range i h B = all-at nothing (λ x. inRange (value B x)) r4-kept refl i h
 
-other-in-range : InRange others-kept
-other-in-range i h A = all-at nothing (λ x. inRange (value A x)) others-kept refl i h
-other-in-range i h B = all-at nothing (λ x. inRange (value B x)) others-kept refl i h
+other-in-range : InRange r5-kept
+other-in-range i h A = all-at nothing (λ x. inRange (value A x)) r5-kept refl i h
+other-in-range i h B = all-at nothing (λ x. inRange (value B x)) r5-kept refl i h
 
 abbrev one-coded : List Coded
-one-coded = map code ones-kept
+one-coded = map code r4-kept
 
 abbrev other-coded : List Coded
-other-coded = map code others-kept
+other-coded = map code r5-kept
 
 high-A : Greatest (λ (x : Coded). true) (codedValue A) one-coded (at 19)
 high-A = record { one = refl; all = refl }
@@ -151,34 +155,34 @@ other-low-after = record { one = refl; all = refl }
 
 -- ---- the lines
 
-one-high-A : Holding (readings one-kept) (listed (high A) is ((Lo to pos 19) ∷ []))
+one-high-A : Holding (readings R4-kept) (listed (high A) is ((Lo to pos 19) ∷ []))
 unfolding reading signed turned val truth
-one-high-A = told ones-kept in-range (listed (high A) is ((Lo to pos 19) ∷ [])) ((refl, refl), tt)
+one-high-A = told r4-kept in-range (listed (high A) is ((Lo to pos 19) ∷ [])) ((refl, refl), tt)
     (λ n h. greatest-some (λ x. true) (codedValue A) one-coded n (at 19) high-A ∙ up-to n (at 19)) (leZ-yes tt)
 
-two-high-A : Holding (readings other-kept) (listed (high A) is ((Lo to pos 19) ∷ []))
+two-high-A : Holding (readings R5-kept) (listed (high A) is ((Lo to pos 19) ∷ []))
 unfolding reading signed turned val truth
-two-high-A = told others-kept other-in-range (listed (high A) is ((Lo to pos 19) ∷ [])) ((refl, refl), tt)
+two-high-A = told r5-kept other-in-range (listed (high A) is ((Lo to pos 19) ∷ [])) ((refl, refl), tt)
     (λ n h. greatest-some (λ x. true) (codedValue A) other-coded n (at 19) other-high-A ∙ up-to n (at 19)) (leZ-yes tt)
 
-one-high-B : Holding (readings one-kept) (listed (high B) is ((Lo to pos 4) ∷ []))
+one-high-B : Holding (readings R4-kept) (listed (high B) is ((Lo to pos 4) ∷ []))
 unfolding reading signed turned val truth
-one-high-B = told ones-kept in-range (listed (high B) is ((Lo to pos 4) ∷ [])) ((refl, refl), tt)
+one-high-B = told r4-kept in-range (listed (high B) is ((Lo to pos 4) ∷ [])) ((refl, refl), tt)
     (λ n h. greatest-some (λ x. true) (codedValue B) one-coded n (at 4) high-B ∙ up-to n (at 4)) (leZ-yes tt)
 
-two-high-B : Holding (readings other-kept) (listed (high B) is ((Lo to pos 3) ∷ []))
+two-high-B : Holding (readings R5-kept) (listed (high B) is ((Lo to pos 3) ∷ []))
 unfolding reading signed turned val truth
-two-high-B = told others-kept other-in-range (listed (high B) is ((Lo to pos 3) ∷ [])) ((refl, refl), tt)
+two-high-B = told r5-kept other-in-range (listed (high B) is ((Lo to pos 3) ∷ [])) ((refl, refl), tt)
     (λ n h. greatest-some (λ x. true) (codedValue B) other-coded n (at 3) other-high-B ∙ up-to n (at 3)) (leZ-yes tt)
 
-one-lowafter : Holding (readings one-kept) (listed (lowafter A (at 10)) is ((pos 14 to Hi) ∷ []))
+one-lowafter : Holding (readings R4-kept) (listed (lowafter A (at 10)) is ((pos 14 to Hi) ∷ []))
 unfolding reading signed turned val truth
-one-lowafter = told ones-kept in-range (listed (lowafter A (at 10)) is ((pos 14 to Hi) ∷ [])) ((refl, refl), tt)
+one-lowafter = told r4-kept in-range (listed (lowafter A (at 10)) is ((pos 14 to Hi) ∷ [])) ((refl, refl), tt)
     (λ n h. least-some (codedAfter (at 10)) (codedValue A) one-coded n (at 14) low-after ∙ from-on n (at 14) h) (leZ-yes tt)
 
-two-lowafter : Holding (readings other-kept) (listed (lowafter A (at 10)) is ((pos 15 to Hi) ∷ []))
+two-lowafter : Holding (readings R5-kept) (listed (lowafter A (at 10)) is ((pos 15 to Hi) ∷ []))
 unfolding reading signed turned val truth
-two-lowafter = told others-kept other-in-range (listed (lowafter A (at 10)) is ((pos 15 to Hi) ∷ [])) ((refl, refl), tt)
+two-lowafter = told r5-kept other-in-range (listed (lowafter A (at 10)) is ((pos 15 to Hi) ∷ [])) ((refl, refl), tt)
     (λ n h. least-some (codedAfter (at 10)) (codedValue A) other-coded n (at 15) other-low-after ∙ from-on n (at 15) h) (leZ-yes tt)
 
 -- THE TWO RECORDINGS ARE AS TOLD
@@ -188,18 +192,22 @@ two-recordings = record {
   but-for-B = differ-in-B;
   keep = refl;
   other-keep = refl;
-  answered = λ room. question-allowed one-kept [] (bytes "high(A)") (refl, (refl, tt)) room
-      ∙ asked one-kept kept-accepted refl one-high-A (bytes "high(A)") refl (refl, (refl, (refl, tt))) refl refl refl (listed-eight one-kept (high A)) .call room;
-  other-answered = λ room. question-allowed other-kept [] (bytes "high(A)") (refl, (refl, tt)) room
-      ∙ asked other-kept other-kept-accepted refl two-high-A (bytes "high(A)") refl (refl, (refl, (refl, tt))) refl refl refl (listed-eight other-kept (high A)) .call room;
+  answered = λ room. question-allowed R4-kept [] (bytes "high(A)") (refl, (refl, tt)) room
+      ∙ asked R4-kept kept-accepted refl one-high-A (bytes "high(A)") refl (refl, (refl, (refl, tt))) refl refl refl (listed-eight R4-kept (high A)) .call room;
+  other-answered = λ room. question-allowed R5-kept [] (bytes "high(A)") (refl, (refl, tt)) room
+      ∙ asked R5-kept other-kept-accepted refl two-high-A (bytes "high(A)") refl (refl, (refl, (refl, tt))) refl refl refl (listed-eight R5-kept (high A)) .call room;
   told-by-B = (
-    asked one-kept kept-accepted refl one-high-B (bytes "high(B)") refl (refl, (refl, (refl, tt))) refl refl refl (listed-eight one-kept (high B)),
-    asked other-kept other-kept-accepted refl two-high-B (bytes "high(B)") refl (refl, (refl, (refl, tt))) refl refl refl (listed-eight other-kept (high B)),
+    asked R4-kept kept-accepted refl one-high-B (bytes "high(B)") refl (refl, (refl, (refl, tt))) refl refl refl (listed-eight R4-kept (high B)),
+    asked R5-kept other-kept-accepted refl two-high-B (bytes "high(B)") refl (refl, (refl, (refl, tt))) refl refl refl (listed-eight R5-kept (high B)),
   );
-  B-refused = λ room. question-barred one-kept [] (bytes "high(B)") (refl, (refl, (refl, (refl, (refl, (refl, (refl, tt))))))) refl refl room;
+  B-refused = λ room. question-barred R4-kept [] (bytes "high(B)") (refl, (refl, (refl, (refl, (refl, (refl, (refl, tt))))))) refl refl room;
   told-by-time = (
-    asked one-kept kept-accepted refl one-lowafter (bytes "lowafter(A,10)") refl (refl, (refl, (refl, tt))) refl refl refl (listed-eight one-kept (lowafter A 2000000010)),
-    asked other-kept other-kept-accepted refl two-lowafter (bytes "lowafter(A,10)") refl (refl, (refl, (refl, tt))) refl refl refl (listed-eight other-kept (lowafter A 2000000010)),
+    asked R4-kept kept-accepted refl one-lowafter (bytes "lowafter(A,10)") refl (refl, (refl, (refl, tt))) refl refl refl (listed-eight R4-kept (lowafter A 2000000010)),
+    asked R5-kept other-kept-accepted refl two-lowafter (bytes "lowafter(A,10)") refl (refl, (refl, (refl, tt))) refl refl refl (listed-eight R5-kept (lowafter A 2000000010)),
   );
-  time-refused = λ room. question-barred one-kept [] (bytes "lowafter(A,10)") (refl, (refl, (refl, (refl, (refl, (refl, (refl, tt))))))) refl refl room;
+  time-refused = λ room. question-barred R4-kept [] (bytes "lowafter(A,10)") (refl, (refl, (refl, (refl, (refl, (refl, (refl, tt))))))) refl refl room;
+  other-marks = λ room. (
+    question-allowed R4-kept mark10 (bytes "lowafter(A,10)") (refl, (refl, tt)) room ∙ asked R4-kept kept-accepted refl one-lowafter (bytes "lowafter(A,10)") refl (refl, (refl, (refl, tt))) refl refl refl (listed-eight R4-kept (lowafter A 2000000010)) .call room,
+    question-allowed R5-kept mark10 (bytes "lowafter(A,10)") (refl, (refl, tt)) room ∙ asked R5-kept other-kept-accepted refl two-lowafter (bytes "lowafter(A,10)") refl (refl, (refl, (refl, tt))) refl refl refl (listed-eight R5-kept (lowafter A 2000000010)) .call room,
+  );
 }
