@@ -1,5 +1,5 @@
--- Recordings R4 and R5, our own, which differ in B alone and keep different readings: secrecy is not empty, and each part of refusal 14 is needed. A is 11, 19, 14, 15, 16 at T 0 to 40;
--- B is 0, but 4 at T 20 in R4 and 3 at T 30 in R5; all is flat. So R4 keeps T 0, 10, 20, 40, and R5 T 0, 10, 30, 40.
+-- Recordings R6 and R7, our own, which differ in B alone and keep different readings: secrecy is not empty, and each part of refusal 14 is needed. A is 11, 19, 14, 15, 16 at T 0 to 40;
+-- B is 0, but 4 at T 20 in R6 and 3 at T 30 in R7; all is flat. So R6 keeps T 0, 10, 20, 40, and R7 T 0, 10, 30, 40.
 use Prim.Native.Nat.{ℕ, _<_}
 use native.Mathlib.Omega.{arith}
 use mathlib.Core.Path.{_≡_, refl, sym, ap, subst, _∙_}
@@ -44,37 +44,37 @@ use Rattle.promises.specs.laws.MarkedLines.{asked, listed-eight}
 abbrev pub steady : ℕ → ℕ → ℕ → List ℕ
 steady time a b = time ∷ 0 ∷ 0 ∷ 0 ∷ a ∷ 0 ∷ 0 ∷ 0 ∷ b ∷ 0 ∷ 0 ∷ 0 ∷ 1 ∷ 1 ∷ 0 ∷ 0 ∷ []
 
-abbrev pub R4 : List ℕ
-R4 = steady 0 11 0 ++ steady 10 19 0 ++ steady 20 14 4 ++ steady 30 15 0 ++ steady 40 16 0
+abbrev pub R6 : List ℕ
+R6 = steady 0 11 0 ++ steady 10 19 0 ++ steady 20 14 4 ++ steady 30 15 0 ++ steady 40 16 0
 
-abbrev pub R5 : List ℕ
-R5 = steady 0 11 0 ++ steady 10 19 0 ++ steady 20 14 0 ++ steady 30 15 3 ++ steady 40 16 0
+abbrev pub R7 : List ℕ
+R7 = steady 0 11 0 ++ steady 10 19 0 ++ steady 20 14 0 ++ steady 30 15 3 ++ steady 40 16 0
 
 -- what they keep without marks
-abbrev pub R4-kept : List ℕ
-R4-kept = steady 0 11 0 ++ steady 10 19 0 ++ steady 20 14 4 ++ steady 40 16 0
+abbrev pub R6-kept : List ℕ
+R6-kept = steady 0 11 0 ++ steady 10 19 0 ++ steady 20 14 4 ++ steady 40 16 0
 
-abbrev pub R5-kept : List ℕ
-R5-kept = steady 0 11 0 ++ steady 10 19 0 ++ steady 30 15 3 ++ steady 40 16 0
+abbrev pub R7-kept : List ℕ
+R7-kept = steady 0 11 0 ++ steady 10 19 0 ++ steady 30 15 3 ++ steady 40 16 0
 
 -- TWO RECORDINGS
 pub record TwoRecordings : Type 0 where
   -- they differ in B alone, and keep different readings
-  pub but-for-B : AllButB R4 R5
-  pub keep : keptBytes [] R4 ≡ R4-kept
-  pub other-keep : keptBytes [] R5 ≡ R5-kept
+  pub but-for-B : AllButB R6 R7
+  pub keep : keptBytes [] R6 ≡ R6-kept
+  pub other-keep : keptBytes [] R7 ≡ R7-kept
   -- a laboratory text is answered: `high(A)` is Lo..19, of the kept readings of either
-  pub answered : (room : ℕ) → labQuestionOf R4-kept [] (bytes "high(A)") room ≡ writtenIn room (bytesOfRuns ((Lo to pos 19) ∷ []))
-  pub other-answered : (room : ℕ) → labQuestionOf R5-kept [] (bytes "high(A)") room ≡ writtenIn room (bytesOfRuns ((Lo to pos 19) ∷ []))
+  pub answered : (room : ℕ) → labQuestionOf R6-kept [] (bytes "high(A)") room ≡ writtenIn room (bytesOfRuns ((Lo to pos 19) ∷ []))
+  pub other-answered : (room : ℕ) → labQuestionOf R7-kept [] (bytes "high(A)") room ≡ writtenIn room (bytesOfRuns ((Lo to pos 19) ∷ []))
   -- B must not be named: the plain call tells the two apart by `high(B)`, and 14 refuses it
-  pub told-by-B : Asked R4-kept (bytes "high(B)") ((Lo to pos 4) ∷ []) × Asked R5-kept (bytes "high(B)") ((Lo to pos 3) ∷ [])
-  pub B-refused : (room : ℕ) → labQuestionOf R4-kept [] (bytes "high(B)") room ≡ refused 14 0
+  pub told-by-B : Asked R6-kept (bytes "high(B)") ((Lo to pos 4) ∷ []) × Asked R7-kept (bytes "high(B)") ((Lo to pos 3) ∷ [])
+  pub B-refused : (room : ℕ) → labQuestionOf R6-kept [] (bytes "high(B)") room ≡ refused 14 0
   -- an after-time must be a mark: `lowafter(A,10)` names A alone, and still the plain call tells the kept readings apart; 14 refuses it
-  pub told-by-time : Asked R4-kept (bytes "lowafter(A,10)") ((pos 14 to Hi) ∷ []) × Asked R5-kept (bytes "lowafter(A,10)") ((pos 15 to Hi) ∷ [])
-  pub time-refused : (room : ℕ) → labQuestionOf R4-kept [] (bytes "lowafter(A,10)") room ≡ refused 14 0
+  pub told-by-time : Asked R6-kept (bytes "lowafter(A,10)") ((pos 14 to Hi) ∷ []) × Asked R7-kept (bytes "lowafter(A,10)") ((pos 15 to Hi) ∷ [])
+  pub time-refused : (room : ℕ) → labQuestionOf R6-kept [] (bytes "lowafter(A,10)") room ≡ refused 14 0
   -- and the marks must be those of the thinning: with the mark 10, of readings kept without marks, a laboratory's call tells the two apart. Nothing is promised there
-  pub other-marks : (room : ℕ) → (labQuestionOf R4-kept mark10 (bytes "lowafter(A,10)") room ≡ writtenIn room (bytesOfRuns ((pos 14 to Hi) ∷ [])))
-      × (labQuestionOf R5-kept mark10 (bytes "lowafter(A,10)") room ≡ writtenIn room (bytesOfRuns ((pos 15 to Hi) ∷ [])))
+  pub other-marks : (room : ℕ) → (labQuestionOf R6-kept mark10 (bytes "lowafter(A,10)") room ≡ writtenIn room (bytesOfRuns ((pos 14 to Hi) ∷ [])))
+      × (labQuestionOf R7-kept mark10 (bytes "lowafter(A,10)") room ≡ writtenIn room (bytesOfRuns ((pos 15 to Hi) ∷ [])))
 
 -- ---- the readings
 
@@ -95,23 +95,23 @@ agree t x y z = record { time = refl; part = same }
     same n the-batch = (refl, refl)
     same n the-additions = refl
 
-accepted : Accepted R4
+accepted : Accepted R6
 unfolding reading signed turned fieldsOf fields lawful firstBad least
 accepted = (refl, (refl, (refl, tt)))
 
-other-accepted : Accepted R5
+other-accepted : Accepted R7
 unfolding reading signed turned fieldsOf fields lawful firstBad least
 other-accepted = (refl, (refl, (refl, tt)))
 
-kept-accepted : Accepted R4-kept
+kept-accepted : Accepted R6-kept
 unfolding reading signed turned fieldsOf fields lawful firstBad least
 kept-accepted = (refl, (refl, (refl, tt)))
 
-other-kept-accepted : Accepted R5-kept
+other-kept-accepted : Accepted R7-kept
 unfolding reading signed turned fieldsOf fields lawful firstBad least
 other-kept-accepted = (refl, (refl, (refl, tt)))
 
-differ-in-B : AllButB R4 R5
+differ-in-B : AllButB R6 R7
 unfolding reading signed turned
 differ-in-B = record {
   accepted = accepted;
@@ -155,32 +155,32 @@ other-low-after = record { one = refl; all = refl }
 
 -- ---- the lines
 
-one-high-A : Holding (readings R4-kept) (listed (high A) is ((Lo to pos 19) ∷ []))
+one-high-A : Holding (readings R6-kept) (listed (high A) is ((Lo to pos 19) ∷ []))
 unfolding reading signed turned val truth
 one-high-A = told r4-kept in-range (listed (high A) is ((Lo to pos 19) ∷ [])) ((refl, refl), tt)
     (λ n h. greatest-some (λ x. true) (codedValue A) one-coded n (at 19) high-A ∙ up-to n (at 19)) (leZ-yes tt)
 
-two-high-A : Holding (readings R5-kept) (listed (high A) is ((Lo to pos 19) ∷ []))
+two-high-A : Holding (readings R7-kept) (listed (high A) is ((Lo to pos 19) ∷ []))
 unfolding reading signed turned val truth
 two-high-A = told r5-kept other-in-range (listed (high A) is ((Lo to pos 19) ∷ [])) ((refl, refl), tt)
     (λ n h. greatest-some (λ x. true) (codedValue A) other-coded n (at 19) other-high-A ∙ up-to n (at 19)) (leZ-yes tt)
 
-one-high-B : Holding (readings R4-kept) (listed (high B) is ((Lo to pos 4) ∷ []))
+one-high-B : Holding (readings R6-kept) (listed (high B) is ((Lo to pos 4) ∷ []))
 unfolding reading signed turned val truth
 one-high-B = told r4-kept in-range (listed (high B) is ((Lo to pos 4) ∷ [])) ((refl, refl), tt)
     (λ n h. greatest-some (λ x. true) (codedValue B) one-coded n (at 4) high-B ∙ up-to n (at 4)) (leZ-yes tt)
 
-two-high-B : Holding (readings R5-kept) (listed (high B) is ((Lo to pos 3) ∷ []))
+two-high-B : Holding (readings R7-kept) (listed (high B) is ((Lo to pos 3) ∷ []))
 unfolding reading signed turned val truth
 two-high-B = told r5-kept other-in-range (listed (high B) is ((Lo to pos 3) ∷ [])) ((refl, refl), tt)
     (λ n h. greatest-some (λ x. true) (codedValue B) other-coded n (at 3) other-high-B ∙ up-to n (at 3)) (leZ-yes tt)
 
-one-lowafter : Holding (readings R4-kept) (listed (lowafter A (at 10)) is ((pos 14 to Hi) ∷ []))
+one-lowafter : Holding (readings R6-kept) (listed (lowafter A (at 10)) is ((pos 14 to Hi) ∷ []))
 unfolding reading signed turned val truth
 one-lowafter = told r4-kept in-range (listed (lowafter A (at 10)) is ((pos 14 to Hi) ∷ [])) ((refl, refl), tt)
     (λ n h. least-some (codedAfter (at 10)) (codedValue A) one-coded n (at 14) low-after ∙ from-on n (at 14) h) (leZ-yes tt)
 
-two-lowafter : Holding (readings R5-kept) (listed (lowafter A (at 10)) is ((pos 15 to Hi) ∷ []))
+two-lowafter : Holding (readings R7-kept) (listed (lowafter A (at 10)) is ((pos 15 to Hi) ∷ []))
 unfolding reading signed turned val truth
 two-lowafter = told r5-kept other-in-range (listed (lowafter A (at 10)) is ((pos 15 to Hi) ∷ [])) ((refl, refl), tt)
     (λ n h. least-some (codedAfter (at 10)) (codedValue A) other-coded n (at 15) other-low-after ∙ from-on n (at 15) h) (leZ-yes tt)
@@ -192,22 +192,22 @@ two-recordings = record {
   but-for-B = differ-in-B;
   keep = refl;
   other-keep = refl;
-  answered = λ room. question-allowed R4-kept [] (bytes "high(A)") (refl, (refl, tt)) room
-      ∙ asked R4-kept kept-accepted refl one-high-A (bytes "high(A)") refl (refl, (refl, (refl, tt))) refl refl refl (listed-eight R4-kept (high A)) .call room;
-  other-answered = λ room. question-allowed R5-kept [] (bytes "high(A)") (refl, (refl, tt)) room
-      ∙ asked R5-kept other-kept-accepted refl two-high-A (bytes "high(A)") refl (refl, (refl, (refl, tt))) refl refl refl (listed-eight R5-kept (high A)) .call room;
+  answered = λ room. question-allowed R6-kept [] (bytes "high(A)") (refl, (refl, tt)) room
+      ∙ asked R6-kept kept-accepted refl one-high-A (bytes "high(A)") refl (refl, (refl, (refl, tt))) refl refl refl (listed-eight R6-kept (high A)) .call room;
+  other-answered = λ room. question-allowed R7-kept [] (bytes "high(A)") (refl, (refl, tt)) room
+      ∙ asked R7-kept other-kept-accepted refl two-high-A (bytes "high(A)") refl (refl, (refl, (refl, tt))) refl refl refl (listed-eight R7-kept (high A)) .call room;
   told-by-B = (
-    asked R4-kept kept-accepted refl one-high-B (bytes "high(B)") refl (refl, (refl, (refl, tt))) refl refl refl (listed-eight R4-kept (high B)),
-    asked R5-kept other-kept-accepted refl two-high-B (bytes "high(B)") refl (refl, (refl, (refl, tt))) refl refl refl (listed-eight R5-kept (high B)),
+    asked R6-kept kept-accepted refl one-high-B (bytes "high(B)") refl (refl, (refl, (refl, tt))) refl refl refl (listed-eight R6-kept (high B)),
+    asked R7-kept other-kept-accepted refl two-high-B (bytes "high(B)") refl (refl, (refl, (refl, tt))) refl refl refl (listed-eight R7-kept (high B)),
   );
-  B-refused = λ room. question-barred R4-kept [] (bytes "high(B)") (refl, (refl, (refl, (refl, (refl, (refl, (refl, tt))))))) refl refl room;
+  B-refused = λ room. question-barred R6-kept [] (bytes "high(B)") (refl, (refl, (refl, (refl, (refl, (refl, (refl, tt))))))) refl refl room;
   told-by-time = (
-    asked R4-kept kept-accepted refl one-lowafter (bytes "lowafter(A,10)") refl (refl, (refl, (refl, tt))) refl refl refl (listed-eight R4-kept (lowafter A 2000000010)),
-    asked R5-kept other-kept-accepted refl two-lowafter (bytes "lowafter(A,10)") refl (refl, (refl, (refl, tt))) refl refl refl (listed-eight R5-kept (lowafter A 2000000010)),
+    asked R6-kept kept-accepted refl one-lowafter (bytes "lowafter(A,10)") refl (refl, (refl, (refl, tt))) refl refl refl (listed-eight R6-kept (lowafter A 2000000010)),
+    asked R7-kept other-kept-accepted refl two-lowafter (bytes "lowafter(A,10)") refl (refl, (refl, (refl, tt))) refl refl refl (listed-eight R7-kept (lowafter A 2000000010)),
   );
-  time-refused = λ room. question-barred R4-kept [] (bytes "lowafter(A,10)") (refl, (refl, (refl, (refl, (refl, (refl, (refl, tt))))))) refl refl room;
+  time-refused = λ room. question-barred R6-kept [] (bytes "lowafter(A,10)") (refl, (refl, (refl, (refl, (refl, (refl, (refl, tt))))))) refl refl room;
   other-marks = λ room. (
-    question-allowed R4-kept mark10 (bytes "lowafter(A,10)") (refl, (refl, tt)) room ∙ asked R4-kept kept-accepted refl one-lowafter (bytes "lowafter(A,10)") refl (refl, (refl, (refl, tt))) refl refl refl (listed-eight R4-kept (lowafter A 2000000010)) .call room,
-    question-allowed R5-kept mark10 (bytes "lowafter(A,10)") (refl, (refl, tt)) room ∙ asked R5-kept other-kept-accepted refl two-lowafter (bytes "lowafter(A,10)") refl (refl, (refl, (refl, tt))) refl refl refl (listed-eight R5-kept (lowafter A 2000000010)) .call room,
+    question-allowed R6-kept mark10 (bytes "lowafter(A,10)") (refl, (refl, tt)) room ∙ asked R6-kept kept-accepted refl one-lowafter (bytes "lowafter(A,10)") refl (refl, (refl, (refl, tt))) refl refl refl (listed-eight R6-kept (lowafter A 2000000010)) .call room,
+    question-allowed R7-kept mark10 (bytes "lowafter(A,10)") (refl, (refl, tt)) room ∙ asked R7-kept other-kept-accepted refl two-lowafter (bytes "lowafter(A,10)") refl (refl, (refl, (refl, tt))) refl refl refl (listed-eight R7-kept (lowafter A 2000000010)) .call room,
   );
 }
