@@ -1,7 +1,7 @@
 /*
 ** mill.h: questions about recordings of bead mills, and their thinning.
 **
-** Six calls on plain bytes. Each answers with its result or with one numbered
+** Nine calls on plain bytes. Each answers with its result or with one numbered
 ** refusal, for every input that can be handed in; a caller needs to test
 ** nothing first. A call reads only the bytes that it is given, keeps nothing
 ** from one call to the next, takes no memory from the heap, and may run in any
@@ -126,7 +126,8 @@ extern "C" {
 ** Bytes of stack with which each call does. Measured on x86-64 with the deepest
 ** inputs known, and rounded up: 170,471 for questions and degrees (31 times !
 ** before lag), 1,191 for pairs, 8,311 for thinning, 103,039 for bands (256 times
-** an open bracket), 471 for order sheets. No proof bounds the stack.
+** an open bracket), 471 for order sheets. The laboratory's calls need little more
+** than those that they stand for. No proof bounds the stack.
 */
 #define MILL_STACK_QUESTION 196608
 #define MILL_STACK_DEGREE 196608
@@ -134,6 +135,9 @@ extern "C" {
 #define MILL_STACK_THIN 16384
 #define MILL_STACK_BAND 131072
 #define MILL_STACK_ORDER 4096
+#define MILL_STACK_LAB_QUESTION 196608
+#define MILL_STACK_LAB_DEGREE 196608
+#define MILL_STACK_LAB_PAIR 4096
 
 /* Slopes of a record. */
 #define MILL_FALLING 0
@@ -160,11 +164,12 @@ extern "C" {
 #define MILL_NO_READING 6       /* the text has no reading */
 #define MILL_TEXT_TOO_LARGE 7   /* it has over MILL_MAX_NODES nodes or over MILL_MAX_BRACKETS open brackets */
 #define MILL_TOO_MANY_RUNS 8    /* some node's set at some record has over MILL_MAX_RUNS runs; without F, G, X, U, W: at the first */
-#define MILL_TOO_MANY_TOPS 9    /* gaps, steps, lag or mill_pair of a curve with over MILL_MAX_TOPS tops */
+#define MILL_TOO_MANY_TOPS 9    /* gaps, steps, lag or a pair of a curve with over MILL_MAX_TOPS tops */
 #define MILL_SHORT_OUTPUT 10    /* the output is shorter than the result */
 #define MILL_BAD_MARKS 11       /* the marks are not 4 bytes each, over MILL_MAX_MARKS, or over MILL_MAX_MARK */
 #define MILL_BAD_TARGET 12      /* the target is off the axis, or the curve number is not 0 or 1 */
 #define MILL_BAD_SHEET 13       /* the order sheet has an odd length, over MILL_MAX_LINES lines, or a number not 1 to MILL_MAX_PIGMENT */
+#define MILL_NOT_FOR_LABORATORY 14 /* the laboratory may not ask it: see mill_lab_question */
 #define MILL_BAD_BAND 16        /* e is not 0 to MILL_MAX_BAND */
 #define MILL_NOT_BAND_QUESTION 17 /* the text is not one of high, low, lowafter, capafter and ampl alone */
 
@@ -376,6 +381,89 @@ uint64_t mill_band(const uint8_t *recording, size_t recording_len, const uint8_t
 #define MILL_SHEET_BROKEN 1 /* a line is broken: time and line are written */
 uint64_t mill_order(const uint8_t *recording, size_t recording_len, const uint8_t *sheet, size_t sheet_len, uint32_t *time,
                     uint32_t *line);
+
+/*
+** The question call for a buyer's laboratory, which is not to learn the master's
+** curve, B. mill_lab_degree and mill_lab_pair stand beside it.
+**
+** MILL_NOT_FOR_LABORATORY refuses a text that names B (A>B too), cross, crossup or
+** lag, that holds F, G, X, U or W, or that has an after-time which is not among the
+** marks. T, P=k and dose(k) may be asked. A call that neither this nor
+** MILL_BAD_MARKS refuses answers just as mill_question does.
+**
+** Take two recordings that are not refused and agree in times, A, slopes of A and
+** pigments, whatever their B. Hand in either, whole or as it was thinned under these
+** marks, and all else alike, with outputs of one length: the calls return the same and
+** write the same. So what the laboratory is told does not depend on B.
+**
+** This is what a works must do for it:
+**
+** - answer the laboratory by these three calls and no other, and never hand it the
+**   readings: kept ones too have B in them, and their number and their times depend
+**   on it;
+** - put in the marks itself, the very ones with which the readings were thinned, all
+**   of them and no others; the readings do not tell them, so note them beside these;
+** - not let it see how long a call takes: that may depend on B.
+**
+** With marks other than those of the thinning nothing is promised, and B may show.
+** Take nine readings at the times 0 to 80 by tens, A 10 down to 2 and flat, B 0 and
+** flat; and the same with B 5 at 20. Thinned without marks, the second keeps the
+** reading at 20 and the first does not. Asked with the mark 10, capafter(A,10) is 2 and
+** more of the first, and 8 and more of the second.
+**
+** What the laboratory is told of A after 40, marks being those of the thinning and
+** number_at as above:
+**
+**     uint8_t set[MILL_SET_BYTES];
+**     size_t at;
+**     uint64_t r = mill_lab_question(recording, recording_len, marks, marks_len, (const uint8_t *)"lowafter(A,40)", 14,
+**                                    set, sizeof set);
+**     if (MILL_NUMBER(r) != 0)
+**         return report(MILL_NUMBER(r), MILL_PLACE(r));
+**     for (at = 0; at < r; at += MILL_RUN_BYTES)
+**         printf("%ld %ld\n", (long)number_at(set + at), (long)number_at(set + at + 4));
+**
+** Refusals, in order: 1, 2, 3, 4, 5, 6, 7, 11, 14, 9, 8, 10.
+*/
+uint64_t mill_lab_question(const uint8_t *recording, size_t recording_len, const uint8_t *marks, size_t marks_len,
+                           const uint8_t *text, size_t text_len, uint8_t *out, size_t out_len);
+
+/*
+** The degree call for a laboratory: what mill_lab_question says holds of it, and a
+** call that neither MILL_BAD_MARKS nor MILL_NOT_FOR_LABORATORY refuses answers just as
+** mill_degree does.
+**
+**     double distance, degree;
+**     uint64_t r = mill_lab_degree(recording, recording_len, marks, marks_len, (const uint8_t *)"capafter(A,40)", 14, 80,
+**                                  &distance, &degree);
+**     if (MILL_NUMBER(r) != 0)
+**         return report(MILL_NUMBER(r), MILL_PLACE(r));
+**     if (r == MILL_SHORT)
+**         printf("distance %.0f, degree %g\n", distance, degree);
+**     else
+**         printf("%s\n", r == MILL_MET ? "met" : "no value");
+**
+** Refusals, in order: 1, 2, 3, 4, 5, 6, 7, 11, 14, 12, 9, 8.
+*/
+uint64_t mill_lab_degree(const uint8_t *recording, size_t recording_len, const uint8_t *marks, size_t marks_len,
+                         const uint8_t *text, size_t text_len, int64_t target, double *distance, double *degree);
+
+/*
+** The pair call for a laboratory: MILL_NOT_FOR_LABORATORY refuses MILL_CURVE_B, else
+** it answers just as mill_pair does. It takes no marks: what mill_lab_question says
+** holds of it under whichever marks the readings were thinned.
+**
+**     uint32_t earlier, later;
+**     uint64_t r = mill_lab_pair(recording, recording_len, MILL_CURVE_A, 40, &earlier, &later);
+**     if (MILL_NUMBER(r) != 0)
+**         return report(MILL_NUMBER(r), MILL_PLACE(r));
+**     if (r == MILL_PAIR)
+**         printf("%lu %lu\n", (unsigned long)earlier, (unsigned long)later);
+**
+** Refusals, in order: 1, 2, 3, 4, 12, 14, 9.
+*/
+uint64_t mill_lab_pair(const uint8_t *recording, size_t recording_len, uint32_t curve, int64_t target, uint32_t *earlier,
+                       uint32_t *later);
 
 #ifdef __cplusplus
 }

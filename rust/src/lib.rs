@@ -135,6 +135,9 @@ pub enum Refusal {
     BadTarget,
     /// 13: the order sheet has over 32 lines, or a number that is not 1 to 16.
     BadSheet,
+    /// 14: the laboratory may not ask it: a text that names B, `cross`, `crossup` or `lag`, has one of F, G, X, U and W or an after-time
+    /// that is not among the marks; a pair of curve B.
+    NotForLaboratory,
     /// 16: the band is not 0 to 1,000,000 units.
     BadBand,
     /// 17: the text is not one of `high`, `low`, `lowafter`, `capafter` and `ampl` alone.
@@ -158,6 +161,7 @@ impl Refusal {
             Refusal::BadMarks => sys::MILL_BAD_MARKS,
             Refusal::BadTarget => sys::MILL_BAD_TARGET,
             Refusal::BadSheet => sys::MILL_BAD_SHEET,
+            Refusal::NotForLaboratory => sys::MILL_NOT_FOR_LABORATORY,
             Refusal::BadBand => sys::MILL_BAD_BAND,
             Refusal::NotBandQuestion => sys::MILL_NOT_BAND_QUESTION,
         }
@@ -188,6 +192,7 @@ impl Refusal {
             sys::MILL_BAD_MARKS => Refusal::BadMarks,
             sys::MILL_BAD_TARGET => Refusal::BadTarget,
             sys::MILL_BAD_SHEET => Refusal::BadSheet,
+            sys::MILL_NOT_FOR_LABORATORY => Refusal::NotForLaboratory,
             sys::MILL_BAD_BAND => Refusal::BadBand,
             sys::MILL_NOT_BAND_QUESTION => Refusal::NotBandQuestion,
             number => unreachable!("the library gives no refusal {number}"),
@@ -212,8 +217,7 @@ mod calls {
     pub fn question(recording: &[u8], text: &[u8]) -> Result<Vec<Run>, Refusal> {
         let mut out = [0; sys::MILL_SET_BYTES];
         let length = question_into(recording, text, &mut out)?;
-        let number = |at: usize| i32::from_le_bytes([out[at], out[at + 1], out[at + 2], out[at + 3]]);
-        Ok((0..length).step_by(sys::MILL_RUN_BYTES).map(|at| Run { low: number(at), high: number(at + 4) }).collect())
+        Ok(runs(&out[..length]))
     }
 
     /// The same set as bytes in `out`, 8 to a run, and how many they are. What is behind them stays as it was.
@@ -232,35 +236,21 @@ mod calls {
         let returned = unsafe {
             sys::mill_degree(recording.as_ptr(), recording.len(), text.as_ptr(), text.len(), target, &mut distance, &mut degree)
         };
-        match (Refusal::of_returned(returned), returned) {
-            (Some(refusal), _) => Err(refusal),
-            (None, sys::MILL_MET) => Ok(Degree::Met),
-            (None, sys::MILL_SHORT) => Ok(Degree::Short { distance, degree }),
-            (None, sys::MILL_NO_VALUE) => Ok(Degree::NoValue),
-            (None, other) => unreachable!("mill_degree gives no {other}"),
-        }
+        nearness(returned, distance, degree)
     }
 
     /// The first two tops of the curve whose times lie `target` apart, if there are any: least earlier time, then least later time.
     pub fn pair(recording: &[u8], curve: Curve, target: i64) -> Result<Option<Pair>, Refusal> {
-        let curve = match curve {
-            Curve::A => sys::MILL_CURVE_A,
-            Curve::B => sys::MILL_CURVE_B,
-        };
         let (mut earlier, mut later) = (0, 0);
         // SAFETY: the pointer is a live slice's with its length, the others are live numbers'.
-        let returned = unsafe { sys::mill_pair(recording.as_ptr(), recording.len(), curve, target, &mut earlier, &mut later) };
-        match (Refusal::of_returned(returned), returned) {
-            (Some(refusal), _) => Err(refusal),
-            (None, sys::MILL_PAIR) => Ok(Some(Pair { earlier, later })),
-            (None, sys::MILL_NO_PAIR) => Ok(None),
-            (None, other) => unreachable!("mill_pair gives no {other}"),
-        }
+        let returned =
+            unsafe { sys::mill_pair(recording.as_ptr(), recording.len(), number_of(curve), target, &mut earlier, &mut later) };
+        two_times(returned, earlier, later)
     }
 
     /// The kept readings of the recording under the marks.
     pub fn thin(recording: &[u8], marks: &[u32]) -> Result<Vec<u8>, Refusal> {
-        let marks: Vec<u8> = marks.iter().flat_map(|mark| mark.to_le_bytes()).collect();
+        let marks = mark_bytes(marks);
         let mut out = vec![0; recording.len().min(sys::MILL_MAX_RECORDS * sys::MILL_RECORD_BYTES)];
         let length = thin_into(recording, &marks, &mut out)?;
         out.truncate(length);
@@ -304,6 +294,92 @@ mod calls {
         }
     }
 
+    /// As [`question`], for a buyer's laboratory, which is not to learn the master's curve. The marks are those with which the
+    /// readings were thinned: with others nothing is promised.
+    pub fn lab_question(recording: &[u8], marks: &[u32], text: &[u8]) -> Result<Vec<Run>, Refusal> {
+        let mut out = [0; sys::MILL_SET_BYTES];
+        let length = lab_question_into(recording, &mark_bytes(marks), text, &mut out)?;
+        Ok(runs(&out[..length]))
+    }
+
+    /// As [`question_into`], for a laboratory.
+    pub fn lab_question_into(recording: &[u8], marks: &[u8], text: &[u8], out: &mut [u8]) -> Result<usize, Refusal> {
+        // SAFETY: each pointer is a live slice's with its own length, and `out` is borrowed alone.
+        let returned = unsafe {
+            let (recording_at, marks_at, text_at) = (recording.as_ptr(), marks.as_ptr(), text.as_ptr());
+            let (room, out) = (out.len(), out.as_mut_ptr());
+            sys::mill_lab_question(recording_at, recording.len(), marks_at, marks.len(), text_at, text.len(), out, room)
+        };
+        bytes_written(returned)
+    }
+
+    /// As [`degree`], for a laboratory.
+    pub fn lab_degree(recording: &[u8], marks: &[u32], text: &[u8], target: i64) -> Result<Degree, Refusal> {
+        let (marks, mut distance, mut degree) = (mark_bytes(marks), 0.0, 0.0);
+        // SAFETY: each pointer is a live slice's with its own length, or a live number's.
+        let returned = unsafe {
+            let (recording_at, marks_at, text_at) = (recording.as_ptr(), marks.as_ptr(), text.as_ptr());
+            let (distance, degree) = (&mut distance, &mut degree);
+            sys::mill_lab_degree(
+                recording_at,
+                recording.len(),
+                marks_at,
+                marks.len(),
+                text_at,
+                text.len(),
+                target,
+                distance,
+                degree,
+            )
+        };
+        nearness(returned, distance, degree)
+    }
+
+    /// As [`pair`], for a laboratory.
+    pub fn lab_pair(recording: &[u8], curve: Curve, target: i64) -> Result<Option<Pair>, Refusal> {
+        let (mut earlier, mut later) = (0, 0);
+        // SAFETY: the pointer is a live slice's with its length, the others are live numbers'.
+        let returned = unsafe {
+            sys::mill_lab_pair(recording.as_ptr(), recording.len(), number_of(curve), target, &mut earlier, &mut later)
+        };
+        two_times(returned, earlier, later)
+    }
+
+    fn number_of(curve: Curve) -> u32 {
+        match curve {
+            Curve::A => sys::MILL_CURVE_A,
+            Curve::B => sys::MILL_CURVE_B,
+        }
+    }
+
+    fn mark_bytes(marks: &[u32]) -> Vec<u8> {
+        marks.iter().flat_map(|mark| mark.to_le_bytes()).collect()
+    }
+
+    fn runs(set: &[u8]) -> Vec<Run> {
+        let number = |at: usize| i32::from_le_bytes([set[at], set[at + 1], set[at + 2], set[at + 3]]);
+        (0..set.len()).step_by(sys::MILL_RUN_BYTES).map(|at| Run { low: number(at), high: number(at + 4) }).collect()
+    }
+
+    fn nearness(returned: u64, distance: f64, degree: f64) -> Result<Degree, Refusal> {
+        match (Refusal::of_returned(returned), returned) {
+            (Some(refusal), _) => Err(refusal),
+            (None, sys::MILL_MET) => Ok(Degree::Met),
+            (None, sys::MILL_SHORT) => Ok(Degree::Short { distance, degree }),
+            (None, sys::MILL_NO_VALUE) => Ok(Degree::NoValue),
+            (None, other) => unreachable!("a degree call gives no {other}"),
+        }
+    }
+
+    fn two_times(returned: u64, earlier: u32, later: u32) -> Result<Option<Pair>, Refusal> {
+        match (Refusal::of_returned(returned), returned) {
+            (Some(refusal), _) => Err(refusal),
+            (None, sys::MILL_PAIR) => Ok(Some(Pair { earlier, later })),
+            (None, sys::MILL_NO_PAIR) => Ok(None),
+            (None, other) => unreachable!("a pair call gives no {other}"),
+        }
+    }
+
     fn bytes_written(returned: u64) -> Result<usize, Refusal> {
         match Refusal::of_returned(returned) {
             Some(refusal) => Err(refusal),
@@ -313,4 +389,6 @@ mod calls {
 }
 
 #[cfg(feature = "library")]
-pub use calls::{band, degree, order, pair, question, question_into, thin, thin_into};
+pub use calls::{
+    band, degree, lab_degree, lab_pair, lab_question, lab_question_into, order, pair, question, question_into, thin, thin_into,
+};

@@ -35,6 +35,9 @@ pub const MILL_STACK_PAIR: usize = 4_096;
 pub const MILL_STACK_THIN: usize = 16_384;
 pub const MILL_STACK_BAND: usize = 131_072;
 pub const MILL_STACK_ORDER: usize = 4_096;
+pub const MILL_STACK_LAB_QUESTION: usize = 196_608;
+pub const MILL_STACK_LAB_DEGREE: usize = 196_608;
+pub const MILL_STACK_LAB_PAIR: usize = 4_096;
 
 pub const MILL_FALLING: u8 = 0;
 pub const MILL_FLAT: u8 = 1;
@@ -69,6 +72,7 @@ pub const MILL_SHORT_OUTPUT: u32 = 10;
 pub const MILL_BAD_MARKS: u32 = 11;
 pub const MILL_BAD_TARGET: u32 = 12;
 pub const MILL_BAD_SHEET: u32 = 13;
+pub const MILL_NOT_FOR_LABORATORY: u32 = 14;
 pub const MILL_BAD_BAND: u32 = 16;
 pub const MILL_NOT_BAND_QUESTION: u32 = 17;
 
@@ -140,5 +144,37 @@ extern "C" {
         sheet_len: usize,
         time: *mut u32,
         line: *mut u32,
+    ) -> u64;
+
+    pub fn mill_lab_question(
+        recording: *const u8,
+        recording_len: usize,
+        marks: *const u8,
+        marks_len: usize,
+        text: *const u8,
+        text_len: usize,
+        out: *mut u8,
+        out_len: usize,
+    ) -> u64;
+
+    pub fn mill_lab_degree(
+        recording: *const u8,
+        recording_len: usize,
+        marks: *const u8,
+        marks_len: usize,
+        text: *const u8,
+        text_len: usize,
+        target: i64,
+        distance: *mut f64,
+        degree: *mut f64,
+    ) -> u64;
+
+    pub fn mill_lab_pair(
+        recording: *const u8,
+        recording_len: usize,
+        curve: u32,
+        target: i64,
+        earlier: *mut u32,
+        later: *mut u32,
     ) -> u64;
 }

@@ -244,6 +244,67 @@ static void orders(void)
     EXPECT(mill_order(kept, kept_len, sheet, 4, &time, &line) == MILL_SHEET_BROKEN && time == 40 && line == 1);
 }
 
+/* What a laboratory is told of a recording, with the one mark or without marks: the number of a refusal, 0 for an answer of one run. */
+static uint32_t laboratory(const uint8_t *recording, size_t length, const uint8_t *mark, const char *text, int64_t low, int64_t high)
+{
+    uint8_t out[MILL_RUN_BYTES], before[sizeof out];
+    uint64_t r;
+    memset(out, 0x5A, sizeof out);
+    memcpy(before, out, sizeof out);
+    r = mill_lab_question(recording, length, mark, mark == NULL ? 0 : MILL_MARK_BYTES, (const uint8_t *)text, strlen(text), out,
+                          sizeof out);
+    if (MILL_NUMBER(r) != 0)
+        EXPECT(MILL_PLACE(r) == 0 && memcmp(out, before, sizeof out) == 0);
+    else
+        EXPECT(r == MILL_RUN_BYTES && number_at(out) == low && number_at(out + 4) == high);
+    return MILL_NUMBER(r);
+}
+
+static void laboratories(void)
+{
+    static const char *const shut[] = {"B=v",  "A>B",    "fall(B)", "high(B)", "lowafter(B,10)", "cross",
+                                       "lag",  "F(A=v)", "X(T=v)",  "crossup", "high(A)&dips(B)", "capafter(A,11)"};
+    static const uint8_t peaks[] = {'p', 'e', 'a', 'k', 's', '(', 'A', ')'}, lag[] = {'l', 'a', 'g'};
+    const int64_t low = MILL_AXIS_LOW, high = MILL_AXIS_HIGH;
+    uint8_t mark[MILL_MARK_BYTES], one[R2_BYTES], other[R2_BYTES], kept[R2_BYTES];
+    uint32_t earlier = 77, later = 78;
+    double distance = 77, degree = 7.5;
+    size_t length, i;
+    put32(mark, 10);
+    for (i = 0; i < sizeof shut / sizeof shut[0]; i++)
+        EXPECT(laboratory(r2, R2_BYTES, mark, shut[i], 0, 0) == MILL_NOT_FOR_LABORATORY);
+    EXPECT(laboratory(r2, R2_BYTES, mark, "high(A)", low, 10) == 0);
+    EXPECT(laboratory(r2, R2_BYTES, mark, "capafter(A,10)", 8, high) == 0);
+    EXPECT(laboratory(r2, R2_BYTES, NULL, "capafter(A,10)", 0, 0) == MILL_NOT_FOR_LABORATORY);
+    EXPECT(laboratory(r3, R2_BYTES, NULL, "dose(7)", 20, 20) == 0);
+    EXPECT(MILL_NUMBER(mill_lab_question(r2, R2_BYTES, mark, 3, lag, 3, NULL, 0)) == MILL_BAD_MARKS);
+    EXPECT(MILL_NUMBER(mill_lab_degree(r2, R2_BYTES, mark, 3, lag, 3, 0, &distance, &degree)) == MILL_BAD_MARKS);
+    EXPECT(MILL_NUMBER(mill_lab_degree(r2, R2_BYTES, mark, 4, lag, 3, INT64_MAX, &distance, &degree)) == MILL_NOT_FOR_LABORATORY);
+    EXPECT(MILL_NUMBER(mill_lab_degree(r2, R2_BYTES, mark, 4, peaks, 8, INT64_MAX, &distance, &degree)) == MILL_BAD_TARGET);
+    EXPECT(mill_lab_degree(r2, R2_BYTES, mark, 4, peaks, 8, 40, &distance, &degree) == MILL_MET);
+    EXPECT(MILL_NUMBER(mill_lab_pair(r1, R1_BYTES, MILL_CURVE_B, 40, &earlier, &later)) == MILL_NOT_FOR_LABORATORY);
+    EXPECT(MILL_NUMBER(mill_lab_pair(r1, R1_BYTES, MILL_CURVE_B, INT64_MAX, &earlier, &later)) == MILL_BAD_TARGET);
+    EXPECT(MILL_NUMBER(mill_lab_pair(r1, R1_BYTES, 2, 40, &earlier, &later)) == MILL_BAD_TARGET);
+    EXPECT(mill_lab_pair(r1, R1_BYTES, MILL_CURVE_A, 41, &earlier, &later) == MILL_NO_PAIR);
+    EXPECT(earlier == 77 && later == 78 && distance == 77 && memcmp(&degree, &(double){7.5}, sizeof degree) == 0);
+    EXPECT(mill_lab_degree(r2, R2_BYTES, NULL, 0, peaks, 8, 43, &distance, &degree) == MILL_SHORT);
+    EXPECT(distance == 3 && memcmp(&degree, &(double){0.25}, sizeof degree) == 0);
+    EXPECT(mill_lab_pair(r1, R1_BYTES, MILL_CURVE_A, 40, &earlier, &later) == MILL_PAIR && earlier == 30 && later == 70);
+    /* The header's two recordings that differ in B at 20: thinned without marks and asked with one, B shows. */
+    for (i = 0; i < R2_RECORDS; i++) {
+        put_record(one + MILL_RECORD_BYTES * i, 10 * (uint32_t)i, 10 - (int32_t)i, 0, MILL_FLAT, MILL_FLAT);
+        put_record(other + MILL_RECORD_BYTES * i, 10 * (uint32_t)i, 10 - (int32_t)i, i == 2 ? 5 : 0, MILL_FLAT, MILL_FLAT);
+    }
+    length = (size_t)mill_thin(one, sizeof one, NULL, 0, kept, sizeof kept);
+    EXPECT(laboratory(kept, length, mark, "capafter(A,10)", 2, high) == 0);
+    length = (size_t)mill_thin(other, sizeof other, NULL, 0, kept, sizeof kept);
+    EXPECT(laboratory(kept, length, mark, "capafter(A,10)", 8, high) == 0);
+    length = (size_t)mill_thin(one, sizeof one, mark, sizeof mark, kept, sizeof kept);
+    EXPECT(laboratory(kept, length, mark, "capafter(A,10)", 8, high) == 0);
+    length = (size_t)mill_thin(other, sizeof other, mark, sizeof mark, kept, sizeof kept);
+    EXPECT(laboratory(kept, length, mark, "capafter(A,10)", 8, high) == 0);
+}
+
 /* Tops of A at 10, 20, 40 and 50: (10, 40) and (20, 50) lie 30 apart. The second record is the one that is not kept. */
 static void first_of_several_pairs(void)
 {
@@ -310,6 +371,24 @@ static void make_additions(uint32_t additions, uint32_t apart)
         put_record(large + MILL_RECORD_BYTES * i, i, 0, 0, MILL_FLAT, MILL_FLAT);
         large[MILL_RECORD_BYTES * i + 14] = i % apart == 0 && i / apart < additions;
     }
+}
+
+/* MILL_MAX_RUNS tops of A, and one more. */
+static void tops_for_a_laboratory(void)
+{
+    static const uint8_t peaks[] = {'p', 'e', 'a', 'k', 's', '(', 'A', ')'};
+    const size_t length = sizeof large - MILL_RECORD_BYTES;
+    uint8_t out[MILL_SET_BYTES];
+    uint32_t earlier, later;
+    double distance, degree;
+    make_tops(MILL_MAX_RUNS);
+    EXPECT(mill_lab_question(large, length, NULL, 0, peaks, 8, out, sizeof out) == MILL_SET_BYTES);
+    EXPECT(mill_lab_degree(large, length, NULL, 0, peaks, 8, 2, &distance, &degree) == MILL_SHORT);
+    EXPECT(mill_lab_pair(large, length, MILL_CURVE_A, 2, &earlier, &later) == MILL_PAIR);
+    make_tops(MILL_MAX_RUNS + 1);
+    EXPECT(MILL_NUMBER(mill_lab_question(large, length, NULL, 0, peaks, 8, out, sizeof out)) == MILL_TOO_MANY_RUNS);
+    EXPECT(MILL_NUMBER(mill_lab_degree(large, length, NULL, 0, peaks, 8, 2, &distance, &degree)) == MILL_TOO_MANY_RUNS);
+    EXPECT(MILL_NUMBER(mill_lab_pair(large, length, MILL_CURVE_A, 2, &earlier, &later)) == MILL_TOO_MANY_TOPS);
 }
 
 static uint32_t refused(const uint8_t *recording, size_t length, const char *text)
@@ -599,6 +678,8 @@ int main(void)
     first_of_several_pairs();
     bands();
     orders();
+    laboratories();
+    tops_for_a_laboratory();
     refusals();
     nothing_at_all();
     thinning_of_r1();

@@ -124,6 +124,19 @@ void orders()
     EXPECT(mill_order(additions, length, sheet, sizeof sheet, &time, &line) == MILL_SHEET_BROKEN && time == 0 && line == 1);
 }
 
+void laboratories()
+{
+    const uint8_t text[] = {'a', 'm', 'p', 'l', '(', 'A', ')'}, shut[] = {'a', 'm', 'p', 'l', '(', 'B', ')'};
+    uint8_t out[MILL_RUN_BYTES];
+    uint32_t earlier = 7, later = 7;
+    double distance = 7, degree = 7;
+    EXPECT(mill_lab_question(r1, length, NULL, 0, text, sizeof text, out, sizeof out) == MILL_RUN_BYTES);
+    EXPECT(MILL_NUMBER(mill_lab_question(r1, length, NULL, 0, shut, sizeof shut, out, sizeof out)) == MILL_NOT_FOR_LABORATORY);
+    EXPECT(mill_lab_degree(r1, length, NULL, 0, text, sizeof text, 60, &distance, &degree) == MILL_MET && distance == 7);
+    EXPECT(MILL_NUMBER(mill_lab_pair(r1, length, MILL_CURVE_B, 40, &earlier, &later)) == MILL_NOT_FOR_LABORATORY && later == 7);
+    EXPECT(mill_lab_pair(r1, length, MILL_CURVE_A, 40, &earlier, &later) == MILL_PAIR && earlier == 30 && later == 70);
+}
+
 void thinning()
 {
     uint8_t mark[MILL_MARK_BYTES], whole[length], held[length], out[length];
@@ -153,6 +166,7 @@ int main()
     pairs();
     bands();
     orders();
+    laboratories();
     thinning();
     std::printf("boundary.cpp: %d failures\n", failures);
     return failures == 0 ? 0 : 1;

@@ -5,7 +5,9 @@ use crate::support::r1::r1_bytes;
 use crate::support::r2::r2_bytes;
 use crate::support::recordings::flat;
 use mill::reference::recording::bytes;
-use mill::sys::{mill_band, mill_degree, mill_order, mill_pair, mill_question, mill_thin};
+use mill::sys::{
+    mill_band, mill_degree, mill_lab_degree, mill_lab_pair, mill_lab_question, mill_order, mill_pair, mill_question, mill_thin,
+};
 use std::ptr::{null, null_mut};
 
 fn refusal(number: u64) -> u64 {
@@ -30,6 +32,29 @@ fn null_with_length_0() {
         assert_eq!(mill_thin(recording, length, null(), 0, room.as_mut_ptr(), 128), 128);
         assert_eq!(room.to_vec(), mill::thin(&r1, &[]).unwrap());
     }
+}
+
+#[test]
+fn null_with_length_0_in_the_laboratory() {
+    let r1 = r1_bytes();
+    let (recording, length) = (r1.as_ptr(), r1.len());
+    let (mut distance, mut degree, mut out, mut earlier, mut later) = (77.0, 7.5, [9u8; 64], 77, 78);
+    let high = b"high(A)".as_ptr();
+    // SAFETY: each pointer lies before as many bytes as its length says; null goes with 0.
+    unsafe {
+        assert_eq!(mill_lab_question(null(), 0, null(), 0, null(), 0, null_mut(), 0), refusal(4));
+        assert_eq!(mill_lab_question(recording, length, null(), 0, null(), 0, out.as_mut_ptr(), 64), refusal(5));
+        assert_eq!(mill_lab_question(recording, length, null(), 0, high, 7, null_mut(), 0), refusal(10));
+        assert_eq!(mill_lab_question(recording, length, null(), 0, b"dips(B)".as_ptr(), 7, null_mut(), 0), refusal(14));
+        assert_eq!(mill_lab_question(recording, length, null(), 0, b"dose(1)".as_ptr(), 7, null_mut(), 0), 0);
+        assert_eq!(mill_lab_degree(null(), 0, null(), 0, null(), 0, i64::MIN, &mut distance, &mut degree), refusal(4));
+        assert_eq!(mill_lab_degree(recording, length, null(), 0, null(), 0, 0, &mut distance, &mut degree), refusal(5));
+        assert_eq!(mill_lab_degree(recording, length, null(), 0, high, 7, 0, &mut distance, &mut degree), 0);
+        assert_eq!(mill_lab_pair(null(), 0, 1, 40, &mut earlier, &mut later), refusal(4));
+        // Marks, text and recording may lie in one another.
+        assert_eq!(mill_lab_question(recording, length, recording.add(64), 4, recording, 20, out.as_mut_ptr(), 64), refusal(6));
+    }
+    assert_eq!((distance, degree, out, earlier, later), (77.0, 7.5, [9; 64], 77, 78));
 }
 
 #[test]
@@ -152,8 +177,21 @@ fn lengths_past_32_bits_in_questions() {
             assert_eq!(mill_question(r1.as_ptr(), 128, at, length, out.as_mut_ptr(), 64), refusal(5));
             assert_eq!(mill_degree(r1.as_ptr(), 128, at, length, 0, &mut distance, &mut degree), refusal(5));
         }
+        for (length, number) in [(WRAPPED, 2), (WRAPPED + 1, 1)] {
+            assert_eq!(mill_lab_question(at, length, at, 4, text.as_ptr(), 7, out.as_mut_ptr(), 64), refusal(number));
+            assert_eq!(mill_lab_degree(at, length, at, 4, text.as_ptr(), 7, 0, &mut distance, &mut degree), refusal(number));
+        }
+        for length in [WRAPPED, WRAPPED + 4, WRAPPED + 7] {
+            assert_eq!(mill_lab_question(r1.as_ptr(), 128, null(), 0, at, length, out.as_mut_ptr(), 64), refusal(5));
+            assert_eq!(mill_lab_question(r1.as_ptr(), 128, at, length, text.as_ptr(), 7, out.as_mut_ptr(), 64), refusal(11));
+            assert_eq!(
+                mill_lab_degree(r1.as_ptr(), 128, at, length, text.as_ptr(), 7, 0, &mut distance, &mut degree),
+                refusal(11)
+            );
+        }
         assert_eq!((distance, degree, out), (77.0, 7.5, [9; 64]));
         // An output of over 4 GiB is room enough.
+        assert_eq!(mill_lab_question(r1.as_ptr(), 128, null(), 0, text.as_ptr(), 7, at, WRAPPED), 8);
         assert_eq!(mill_question(r1.as_ptr(), 128, text.as_ptr(), 7, at, WRAPPED), 8);
     }
 }

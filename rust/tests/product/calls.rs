@@ -10,9 +10,10 @@ use std::collections::BTreeMap;
 use std::panic::Location;
 
 /// The memory of a thread's calls.
-struct Desk {
-    recording: Guarded,
-    second: Guarded,
+pub struct Desk {
+    pub recording: Guarded,
+    pub second: Guarded,
+    pub third: Guarded,
     out: Guarded,
     numbers: [Guarded; 4],
     /// What outputs hold before a call, from a place that changes with the turn.
@@ -28,6 +29,7 @@ thread_local! {
     static DESK: RefCell<Desk> = RefCell::new(Desk {
         recording: Guarded::input(MOST_LENGTH),
         second: Guarded::input(1 << 16),
+        third: Guarded::input(1 << 16),
         out: Guarded::output(MOST_LENGTH),
         numbers: [(); 4].map(|()| Guarded::output(8)),
         filling: (0..MOST_LENGTH + 256).map(|at| (at % 251) as u8).collect(),
@@ -35,18 +37,23 @@ thread_local! {
     });
 }
 
+/// Works with the thread's memory.
+pub fn at_the_desk<T>(work: impl FnOnce(&mut Desk) -> T) -> T {
+    DESK.with_borrow_mut(work)
+}
+
 /// Counts a call, and notes where it is made.
 #[track_caller]
-fn count() {
+pub fn count() {
     cases::calling(Location::caller());
     compared::count();
 }
 
 impl Desk {
-    /// Where things lie changes from call to call: the recording, the other input, the output.
-    fn turn(&mut self) -> [Against; 3] {
+    /// Where things lie changes from call to call: the recording, the other input, the output, a third input.
+    pub fn turn(&mut self) -> [Against; 4] {
         self.turn += 1;
-        [1, 3, 9].map(|each| [Against::Rear, Against::Front, Against::Neither][(self.turn / each % 3) as usize])
+        [1, 3, 9, 27].map(|each| [Against::Rear, Against::Front, Against::Neither][(self.turn / each % 3) as usize])
     }
 
     /// A call that writes bytes: its return value, and what it wrote.
@@ -57,16 +64,21 @@ impl Desk {
         room: usize,
         call: unsafe extern "C" fn(*const u8, usize, *const u8, usize, *mut u8, usize) -> u64,
     ) -> (u64, Vec<u8>) {
-        let [first, other, output] = self.turn();
+        let [first, other, output, _] = self.turn();
         let recording_at = self.recording.put(recording, first);
         let second_at = self.second.put(second, other);
+        // SAFETY: each pointer lies before as many bytes as its length says.
+        self.written(room, output, |out| unsafe { call(recording_at, recording.len(), second_at, second.len(), out, room) })
+    }
+
+    /// What a call returns that is handed an output of so many bytes, and what it wrote; that all else is untouched.
+    pub fn written(&mut self, room: usize, output: Against, call: impl FnOnce(*mut u8) -> u64) -> (u64, Vec<u8>) {
         let out_at = self.out.place(room, output);
         let start = self.out.offset(room, output);
         let (from, to) = (start.saturating_sub(CANARY), (start + room + CANARY).min(self.out.bytes().len()));
         let filling = &self.filling[self.turn as usize % 251..][..to - from];
         self.out.bytes()[from..to].copy_from_slice(filling);
-        // SAFETY: each pointer lies before as many bytes as its length says.
-        let returned = unsafe { call(recording_at, recording.len(), second_at, second.len(), out_at, room) };
+        let returned = call(out_at);
         let written = if returned >> 32 == 0 { returned as usize } else { 0 };
         assert!(written <= room, "{written} bytes written into {room}; {}", place());
         let result = self.out.bytes()[start..start + written].to_vec();
@@ -78,7 +90,7 @@ impl Desk {
     }
 
     /// Places for four numbers of so many bytes, filled.
-    fn number_places(&mut self, against: Against, size: usize) -> [*mut u8; 4] {
+    pub fn number_places(&mut self, against: Against, size: usize) -> [*mut u8; 4] {
         let turn = self.turn;
         let against = aligned(against);
         for number in &mut self.numbers {
@@ -88,8 +100,13 @@ impl Desk {
         [0, 1, 2, 3].map(|which| self.numbers[which].place(size, against))
     }
 
+    /// What number places hold before a call.
+    pub fn filler(&self) -> u8 {
+        filler(self.turn)
+    }
+
     /// The bytes at the number places, and that the bytes beside them are untouched.
-    fn numbers_after(&mut self, against: Against, size: usize) -> [Vec<u8>; 4] {
+    pub fn numbers_after(&mut self, against: Against, size: usize) -> [Vec<u8>; 4] {
         let turn = self.turn;
         let against = aligned(against);
         let mut read = |which: usize, size: usize| {
@@ -121,7 +138,7 @@ fn filler(turn: u64) -> u8 {
 }
 
 /// The case, as one reads it in a failure.
-fn place() -> String {
+pub fn place() -> String {
     let (name, case) = cases::current();
     let (file, line) = cases::called();
     format!("case '{name}:{case}' at {file}:{line}")
@@ -147,7 +164,7 @@ impl Tally {
     }
 }
 
-fn number_of<T>(expected: &Result<T, Refused>) -> u32 {
+pub fn number_of<T>(expected: &Result<T, Refused>) -> u32 {
     expected.as_ref().err().map_or(0, |refused| refused.number)
 }
 
@@ -177,7 +194,8 @@ pub fn thin_as(recording: &[u8], marks: &[u8], room: usize, expected: &Result<Ve
     same_bytes(expected, found, || format!("mill_thin, {room} bytes of output\nmarks {}\n{}", hex(marks), hex(recording)));
 }
 
-fn same_bytes(expected: &Result<Vec<u8>, Refused>, found: (u64, Vec<u8>), call: impl Fn() -> String) {
+/// Holds what a call that writes bytes returned and wrote to what is expected.
+pub fn same_bytes(expected: &Result<Vec<u8>, Refused>, found: (u64, Vec<u8>), call: impl Fn() -> String) {
     let expected = match expected {
         Ok(bytes) => (bytes.len() as u64, bytes.clone()),
         Err(refused) => (refused.returned(), Vec::new()),
@@ -200,8 +218,8 @@ fn same_bytes(expected: &Result<Vec<u8>, Refused>, found: (u64, Vec<u8>), call: 
 pub fn degree(recording: &[u8], text: &[u8], target: i64) -> u32 {
     count();
     let expected = reference::degree(recording, text, target);
-    let (returned, distance, degree, filler) = DESK.with_borrow_mut(|desk| {
-        let [first, other, output] = desk.turn();
+    let (returned, numbers, filler) = DESK.with_borrow_mut(|desk| {
+        let [first, other, output, _] = desk.turn();
         let recording_at = desk.recording.put(recording, first);
         let text_at = desk.second.put(text, other);
         let [distance, degree, ..] = desk.number_places(output, 8);
@@ -210,30 +228,54 @@ pub fn degree(recording: &[u8], text: &[u8], target: i64) -> u32 {
             sys::mill_degree(recording_at, recording.len(), text_at, text.len(), target, distance.cast(), degree.cast())
         };
         let [distance, degree, ..] = desk.numbers_after(output, 8);
-        (returned, distance, degree, filler(desk.turn))
+        (returned, [distance, degree], desk.filler())
     });
-    let untouched = (vec![filler; 8], vec![filler; 8]);
-    let (expected_return, (expected_distance, expected_degree)) = match expected {
-        Ok(Degree::Met) => (0, untouched),
-        Ok(Degree::Short { distance, degree }) => (1, (distance.to_le_bytes().to_vec(), degree.to_le_bytes().to_vec())),
-        Ok(Degree::NoValue) => (2, untouched),
-        Err(refused) => (refused.returned(), untouched),
-    };
-    if (returned, &distance, &degree) != (expected_return, &expected_distance, &expected_degree) {
+    let call = || format!("mill_degree of target {target}\n{}\n{}", shown(text), hex(recording));
+    same_numbers(degree_numbers(&expected), returned, &numbers, filler, call);
+    number_of(&expected)
+}
+
+/// What a degree call returns, and the bytes of the two numbers where they are written.
+pub fn degree_numbers(expected: &Result<Degree, Refused>) -> (u64, Option<[Vec<u8>; 2]>) {
+    match expected {
+        Ok(Degree::Met) => (0, None),
+        Ok(Degree::Short { distance, degree }) => (1, Some([distance.to_le_bytes().to_vec(), degree.to_le_bytes().to_vec()])),
+        Ok(Degree::NoValue) => (2, None),
+        Err(refused) => (refused.returned(), None),
+    }
+}
+
+/// What a pair call returns, and the bytes of the two times where they are written.
+pub fn pair_numbers(expected: &Result<Option<(u32, u32)>, Refused>) -> (u64, Option<[Vec<u8>; 2]>) {
+    match expected {
+        Ok(None) => (0, None),
+        Ok(Some((earlier, later))) => (1, Some([earlier, later].map(|time| time.to_le_bytes().to_vec()))),
+        Err(refused) => (refused.returned(), None),
+    }
+}
+
+/// Holds what a call that writes numbers returned, and what its places hold, to what is expected: bytes, or none where the places stay.
+pub fn same_numbers<const N: usize>(
+    (expected_return, expected): (u64, Option<[Vec<u8>; N]>),
+    returned: u64,
+    numbers: &[Vec<u8>; N],
+    filler: u8,
+    call: impl Fn() -> String,
+) {
+    let untouched = || numbers.each_ref().map(|number| vec![filler; number.len()]);
+    let expected = expected.unwrap_or_else(untouched);
+    if (returned, numbers) != (expected_return, &expected) {
+        let written = |numbers: &[Vec<u8>; N]| numbers.iter().map(|number| hex(number)).collect::<Vec<_>>().join(" ");
         panic!(
-            "{}\nexpected {} {} {}\nfound    {} {} {}\nin mill_degree of target {target}\n{}\n{}",
+            "{}\nexpected {} {}\nfound    {} {}\nin {}",
             place(),
             outcome(expected_return),
-            hex(&expected_distance),
-            hex(&expected_degree),
+            written(&expected),
             outcome(returned),
-            hex(&distance),
-            hex(&degree),
-            shown(text),
-            hex(recording)
+            written(numbers),
+            call()
         );
     }
-    number_of(&expected)
 }
 
 /// Asks for a pair and compares the two times; the outcome's number.
@@ -241,32 +283,17 @@ pub fn degree(recording: &[u8], text: &[u8], target: i64) -> u32 {
 pub fn pair(recording: &[u8], curve: u32, target: i64) -> u32 {
     count();
     let expected = reference::pair(recording, curve, target);
-    let (returned, earlier, later, filler) = DESK.with_borrow_mut(|desk| {
-        let [first, _, output] = desk.turn();
+    let (returned, numbers, filler) = DESK.with_borrow_mut(|desk| {
+        let [first, _, output, _] = desk.turn();
         let recording_at = desk.recording.put(recording, first);
         let [earlier, later, ..] = desk.number_places(output, 4);
         // SAFETY: the pointer lies before as many bytes as its length says, the others before their numbers.
         let returned = unsafe { sys::mill_pair(recording_at, recording.len(), curve, target, earlier.cast(), later.cast()) };
         let [earlier, later, ..] = desk.numbers_after(output, 4);
-        (returned, earlier, later, filler(desk.turn))
+        (returned, [earlier, later], desk.filler())
     });
-    let untouched = earlier == [filler; 4] && later == [filler; 4];
-    let time = |bytes: &[u8]| u32::from_le_bytes(bytes.try_into().unwrap());
-    let fits = match &expected {
-        Err(refused) => returned == refused.returned() && untouched,
-        Ok(None) => returned == 0 && untouched,
-        Ok(Some(times)) => returned == 1 && *times == (time(&earlier), time(&later)),
-    };
-    if !fits {
-        panic!(
-            "{}\nexpected {expected:?}\nfound    {} {} {}\nin mill_pair of curve {curve}, target {target}\n{}",
-            place(),
-            outcome(returned),
-            hex(&earlier),
-            hex(&later),
-            hex(recording)
-        );
-    }
+    let call = || format!("mill_pair of curve {curve}, target {target}\n{}", hex(recording));
+    same_numbers(pair_numbers(&expected), returned, &numbers, filler, call);
     number_of(&expected)
 }
 
@@ -276,30 +303,17 @@ pub fn order(recording: &[u8], sheet: &[u8]) -> u32 {
     count();
     let expected = reference::order(recording, sheet);
     let (returned, found, filler) = DESK.with_borrow_mut(|desk| {
-        let [first, other, output] = desk.turn();
+        let [first, other, output, _] = desk.turn();
         let recording_at = desk.recording.put(recording, first);
         let sheet_at = desk.second.put(sheet, other);
         let [time, line, ..] = desk.number_places(output, 4).map(|place| place.cast());
         // SAFETY: each pointer lies before as many bytes as its length says, or before its number.
         let returned = unsafe { sys::mill_order(recording_at, recording.len(), sheet_at, sheet.len(), time, line) };
         let [time, line, ..] = desk.numbers_after(output, 4);
-        (returned, [time, line], filler(desk.turn))
+        (returned, [time, line], desk.filler())
     });
-    let (expected_return, expected_places) = match expected {
-        Err(refused) => (refused.returned(), [(); 2].map(|()| vec![filler; 4])),
-        Ok(None) => (0, [(); 2].map(|()| vec![filler; 4])),
-        Ok(Some((time, line))) => (1, [time, line].map(|number| number.to_le_bytes().to_vec())),
-    };
-    if (returned, &found) != (expected_return, &expected_places) {
-        panic!(
-            "{}\nexpected {} {expected_places:?}\nfound    {} {found:?}\nin mill_order of sheet {}\n{}",
-            place(),
-            outcome(expected_return),
-            outcome(returned),
-            hex(sheet),
-            hex(recording)
-        );
-    }
+    let call = || format!("mill_order of sheet {}\n{}", hex(sheet), hex(recording));
+    same_numbers(pair_numbers(&expected), returned, &found, filler, call);
     number_of(&expected)
 }
 
@@ -309,14 +323,14 @@ pub fn band(recording: &[u8], text: &[u8], e: i64) -> u32 {
     count();
     let expected = reference::band(recording, text, e);
     let (returned, ends, filler) = DESK.with_borrow_mut(|desk| {
-        let [first, other, output] = desk.turn();
+        let [first, other, output, _] = desk.turn();
         let recording_at = desk.recording.put(recording, first);
         let text_at = desk.second.put(text, other);
         let [low, high, lowest, highest] = desk.number_places(output, 4).map(|place| place.cast());
         // SAFETY: each pointer lies before as many bytes as its length says, or before its number.
         let returned =
             unsafe { sys::mill_band(recording_at, recording.len(), text_at, text.len(), e, low, high, lowest, highest) };
-        (returned, desk.numbers_after(output, 4), filler(desk.turn))
+        (returned, desk.numbers_after(output, 4), desk.filler())
     });
     let (mut expected_return, mut expected_ends) = (0, [(); 4].map(|()| vec![filler; 4]));
     match &expected {
@@ -356,19 +370,19 @@ pub fn bytes_of(
     DESK.with_borrow_mut(|desk| desk.writing(recording, second, room, call))
 }
 
-fn outcome(returned: u64) -> String {
+pub fn outcome(returned: u64) -> String {
     match sys::mill_number(returned) {
         0 => format!("result {}", sys::mill_place(returned)),
         number => format!("refused {number} {}", sys::mill_place(returned)),
     }
 }
 
-fn shown(text: &[u8]) -> String {
+pub fn shown(text: &[u8]) -> String {
     format!("text '{}'", text.escape_ascii())
 }
 
 /// Bytes in hexadecimal, whole; a recording of any length can be put together from them again.
-fn hex(bytes: &[u8]) -> String {
+pub fn hex(bytes: &[u8]) -> String {
     let digits: String = bytes.iter().map(|byte| format!("{byte:02x}")).collect();
     format!("[{} bytes] {digits}", bytes.len())
 }

@@ -2,6 +2,7 @@
 //! byte of a record, fields at and past their limits, and random damage.
 
 use crate::calls::{degree, pair, question, thin, Tally};
+use crate::lab::{lab_degree, lab_pair, lab_question};
 use crate::support::cases::{begin, cases};
 use crate::support::r1::r1_bytes;
 use crate::support::r2::r2_bytes;
@@ -16,6 +17,9 @@ fn all_calls(recording: &[u8]) -> u32 {
     question(recording, b"dose(3)|dose(16)&P=3", MILL_SET_BYTES);
     degree(recording, b"high(B)", 7);
     thin(recording, &[40, 0, 0, 0], 65_536);
+    lab_question(recording, &[40, 0, 0, 0], b"lowafter(A,40)|peaks(A)", MILL_SET_BYTES);
+    lab_degree(recording, &[], b"ampl(A)", 7);
+    lab_pair(recording, 0, 40);
     pair(recording, 0, 40)
 }
 

@@ -202,7 +202,9 @@ fn the_declarations_are_the_same() {
     let found = differences(header::TEXT, RUST, RATTLE);
     assert!(found.is_empty(), "{}", found.join("\n"));
     let calls: Vec<String> = in_c(header::TEXT).into_iter().map(|call| call.name).collect();
-    assert_eq!(calls, ["mill_question", "mill_degree", "mill_pair", "mill_thin", "mill_band", "mill_order"]);
+    let of_laboratory = ["mill_lab_question", "mill_lab_degree", "mill_lab_pair"];
+    assert_eq!(calls[..6], ["mill_question", "mill_degree", "mill_pair", "mill_thin", "mill_band", "mill_order"]);
+    assert_eq!(calls[6..], of_laboratory);
 }
 
 /// The libraries that open a layer to the tests are declared in Rust alone.

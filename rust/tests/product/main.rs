@@ -13,6 +13,7 @@ mod edges;
 mod exhaustive;
 mod guarded;
 mod header;
+mod lab;
 mod laws;
 mod limits;
 mod order;

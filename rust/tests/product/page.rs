@@ -4,10 +4,11 @@
 //! An answer is `empty`; or runs in ascending order, parted by `, `, each a number or `low..high`, with `Lo` and `Hi` for the
 //! axis ends; or `refused` with number and place. ```` ```mill kept ```` asks R1's kept readings without marks,
 //! ```` ```mill kept 40 50 ```` those with these marks, ```` ```mill kept 40 with 20 50 ```` these with the readings at 20 and 50 put back.
+//! ```` ```mill kept 40 lab 40 ```` asks them as a laboratory does that comes with the marks behind `lab`.
 //! ```` ```mill degree 51 ```` asks for degrees of this target: `met`,
 //! `distance d, degree g` or `no value`. ```` ```mill band 5 ```` asks within this band: `certain` and a set, `; possible` and a
 //! set. ```` ```mill order ```` checks order sheets, lines `a b` parted by `, `: `met`, or `line k broken at t`.
-//! ```` ```mill R2 ````, ```` ```mill R3 ```` and ```` ```mill R4 ````, with any of these behind it, ask R2, R3 and R4, and
+//! ```` ```mill R2 ```` to ```` ```mill R5 ````, with any of these behind it, ask R2 to R5, and
 //! ```` ```mill R4 old ```` the readings that document 01's own rule kept of R4.
 //! Blank lines, and lines that begin with `#`, say nothing. A block ```` ```ask ```` holds lines `$ echo 'text' | ask`, each with
 //! what the program prints below it. Other fenced blocks are not looked at.
@@ -17,6 +18,7 @@ use crate::support::r1::{self, r1_bytes};
 use crate::support::r2::{self, r2_bytes};
 use crate::support::r3::{self, r3_bytes};
 use crate::support::r4::{self, r4_bytes};
+use crate::support::r5::r5_bytes;
 use mill::reference::recording::{bytes, in_rules};
 use mill::{Degree, Order, Refusal, Run};
 
@@ -27,6 +29,7 @@ enum Recording {
     R2,
     R3,
     R4,
+    R5,
 }
 
 /// How an example is asked, and its answer written.
@@ -36,6 +39,8 @@ enum Asked {
     OfKept(Vec<u32>),
     /// Of those with these marks, with the readings at these times put back.
     OfPinned(Vec<u32>, Vec<u32>),
+    /// Of those with these marks, as a laboratory that comes with those marks.
+    OfLaboratory(Vec<u32>, Vec<u32>),
     OfOldList,
     Degree(i64),
     Band(i64),
@@ -105,6 +110,7 @@ fn block_of(name: &str) -> Result<Block, String> {
         ["mill", "R2", ref how @ ..] => (Recording::R2, how),
         ["mill", "R3", ref how @ ..] => (Recording::R3, how),
         ["mill", "R4", ref how @ ..] => (Recording::R4, how),
+        ["mill", "R5", ref how @ ..] => (Recording::R5, how),
         ["mill", ref how @ ..] => (Recording::R1, how),
         ["ask"] => return Ok(Block::Examples(Recording::R1, Asked::AtThePrompt)),
         _ => return Ok(Block::Other),
@@ -114,8 +120,9 @@ fn block_of(name: &str) -> Result<Block, String> {
         ["old"] => Asked::OfOldList,
         ["kept", numbers @ ..] => {
             let read = |words: &[&str]| words.iter().map(|word| word.parse()).collect::<Result<Vec<u32>, _>>().map_err(unread);
-            match numbers.iter().position(|word| *word == "with") {
+            match numbers.iter().position(|word| ["with", "lab"].contains(word)) {
                 None => Asked::OfKept(read(numbers)?),
+                Some(at) if numbers[at] == "lab" => Asked::OfLaboratory(read(&numbers[..at])?, read(&numbers[at + 1..])?),
                 Some(at) => Asked::OfPinned(read(&numbers[..at])?, read(&numbers[at + 1..])?),
             }
         }
@@ -134,6 +141,7 @@ fn answer(example: &Example) -> String {
         Recording::R2 => r2_bytes(),
         Recording::R3 => r3_bytes(),
         Recording::R4 => r4_bytes(),
+        Recording::R5 => r5_bytes(),
     };
     let text = example.text.as_bytes();
     let written = match &example.asked {
@@ -149,6 +157,10 @@ fn answer(example: &Example) -> String {
             assert_eq!(selection.len(), kept.len() + 16 * pins.len(), "readings that are there, and not kept");
             assert_eq!(mill::thin(&selection, marks).as_ref(), Ok(&kept), "thinned back");
             mill::question(&selection, text).map(|runs| on_the_page(&runs))
+        }
+        Asked::OfLaboratory(marks, own) => {
+            let kept = mill::thin(&recording, marks).expect("accepted marks");
+            mill::lab_question(&kept, own, text).map(|runs| on_the_page(&runs))
         }
         Asked::OfOldList => {
             let old = kept_by(Rule::Document01, &in_rules(&recording).unwrap(), &[]);
@@ -278,6 +290,11 @@ fn the_page_answers_as_the_library() {
         examples.iter().any(|example| matches!(example.asked, Asked::OfPinned(..))),
         "{path} has no example with readings put back"
     );
+    for recording in [Recording::R2, Recording::R5] {
+        let asks = |example: &Example| matches!(&example.asked, Asked::OfLaboratory(marks, own) if marks == own);
+        let of_it = |example: &Example| example.recording == recording && asks(example);
+        assert!(examples.iter().any(of_it), "{path} has no example of the laboratory");
+    }
     for name in names {
         assert!(examples.iter().any(|example| example.text.contains(name)), "{path} has no example with {name}");
     }
@@ -327,6 +344,13 @@ X(A=v) => 9
 F(T=v) => 0, 10, 20, 30, 40, 50, 60, 70, 80
 F(T=v) => 50, 70
 ```
+```mill R5 kept 10 lab 10
+capafter(A,10) => 8..Hi
+high(B) => refused 14 0
+```
+```mill R5 kept lab 10
+capafter(A,10) => 7..Hi
+```
 ```mill R3 kept
 dose(16) => 40
 dose(7) => 20, 60
@@ -360,26 +384,28 @@ refused 6 0
 ```
 ";
     let found = examples(page).unwrap();
-    assert_eq!(found.len(), 30);
+    assert_eq!(found.len(), 33);
     let wrong = wrong(&found);
-    assert_eq!(wrong.len(), 10, "{wrong:?}");
+    assert_eq!(wrong.len(), 11, "{wrong:?}");
     assert_eq!(wrong[0], "line 7: A=v|A>90 => 40, and not refused 9 9");
     assert_eq!(wrong[1], "line 22: F(T=v&A=55) => 50, and not empty");
     assert_eq!(wrong[2], "line 26: peaks(A) => distance 19, degree 0.05, and not distance 19, degree 0.06");
     assert_eq!(wrong[3], "line 32: peaks(A) => 40, and not 40, 60");
     assert_eq!(wrong[4], "line 39: F(T=v) => 0, 10, 20, 30, 40, 50, 60, 70, 80, and not 50, 70");
-    assert_eq!(wrong[5], "line 43: dose(7) => 20, and not 20, 60");
-    assert_eq!(wrong[6], "line 50: peaks(A) => empty, and not 40");
-    assert_eq!(wrong[7], "line 54: high(A) => certain Lo..85; possible Lo..95, and not certain Lo..85; possible Lo..94");
-    assert_eq!(wrong[8], "line 58: 7 16, 16 7 => line 1 broken at 20, and not line 0 broken at 20");
-    assert_eq!(wrong[9], "line 67: lag => runs 0\n, and not runs 1\n");
+    assert_eq!(wrong[5], "line 46: capafter(A,10) => 8..Hi, and not 7..Hi");
+    assert_eq!(wrong[6], "line 50: dose(7) => 20, and not 20, 60");
+    assert_eq!(wrong[7], "line 57: peaks(A) => empty, and not 40");
+    assert_eq!(wrong[8], "line 61: high(A) => certain Lo..85; possible Lo..95, and not certain Lo..85; possible Lo..94");
+    assert_eq!(wrong[9], "line 65: 7 16, 16 7 => line 1 broken at 20, and not line 0 broken at 20");
+    assert_eq!(wrong[10], "line 74: lag => runs 0\n, and not runs 1\n");
     assert!(examples("```mill\nlag\n```\n").is_err());
     assert!(examples("```mill\nlag => empty\n").is_err());
     assert!(examples("```mill keep\n```\n").is_err());
-    assert!(examples("```mill R5\n```\n").is_err());
+    assert!(examples("```mill R6\n```\n").is_err());
     assert!(examples("```mill kept R2\n```\n").is_err());
     assert!(examples("```mill kept x\n```\n").is_err());
     assert!(examples("```mill kept 10 with x\n```\n").is_err());
+    assert!(examples("```mill kept 10 lab x\n```\n").is_err());
     assert!(examples("```mill degree\n```\n").is_err());
     assert!(examples("```mill band x\n```\n").is_err());
     assert!(examples("```mill order 3\n```\n").is_err());

@@ -6,7 +6,9 @@ use crate::support::recordings::{flat, put_top, with_tops};
 use crate::support::small_stack::on_stack_of;
 use crate::support::{header, painted};
 use mill::reference::recording::bytes;
-use mill::sys::{mill_band, mill_degree, mill_order, mill_pair, mill_question, mill_thin};
+use mill::sys::{
+    mill_band, mill_degree, mill_lab_degree, mill_lab_pair, mill_lab_question, mill_order, mill_pair, mill_question, mill_thin,
+};
 use std::collections::BTreeMap;
 
 /// A recording of 4,096 readings under which sets grow to 250 runs, with additions.
@@ -100,6 +102,9 @@ enum Job {
     Thin(Vec<u8>),
     Band(Vec<u8>, String),
     Order(Vec<u8>),
+    LabQuestion(Vec<u8>, String),
+    LabDegree(Vec<u8>, String),
+    LabPair(Vec<u8>, i64),
 }
 
 impl Job {
@@ -112,6 +117,9 @@ impl Job {
             Job::Thin(_) => ("mill_thin", header::stack("THIN")),
             Job::Band(..) => ("mill_band", header::stack("BAND")),
             Job::Order(_) => ("mill_order", header::stack("ORDER")),
+            Job::LabQuestion(..) => ("mill_lab_question", header::stack("LAB_QUESTION")),
+            Job::LabDegree(..) => ("mill_lab_degree", header::stack("LAB_DEGREE")),
+            Job::LabPair(..) => ("mill_lab_pair", header::stack("LAB_PAIR")),
         }
     }
 }
@@ -122,8 +130,20 @@ fn jobs() -> Vec<Job> {
         for text in texts() {
             jobs.push(Job::Question(recording.clone(), text.clone()));
             jobs.push(Job::Degree(recording.clone(), text.clone()));
-            jobs.push(Job::Band(recording.clone(), text));
+            jobs.push(Job::Band(recording.clone(), text.clone()));
+            // Of A alone, and as it is.
+            let of_a = text.replace("B=v", "A=v").replace("steps(B)", "steps(A)").replace("lag", "gaps(A)");
+            for text in [of_a, text] {
+                jobs.push(Job::LabQuestion(recording.clone(), text.clone()));
+                jobs.push(Job::LabDegree(recording.clone(), text));
+            }
         }
+        for text in ["lowafter(A,1)&capafter(A,256)".to_string(), "!".repeat(29) + "lowafter(A,1)", "!".repeat(31) + "peaks(A)"] {
+            jobs.push(Job::LabQuestion(recording.clone(), text.clone()));
+            jobs.push(Job::LabDegree(recording.clone(), text));
+        }
+        jobs.push(Job::LabPair(recording.clone(), 16));
+        jobs.push(Job::LabPair(recording.clone(), 5));
         for question in ["high(A)", "low(B)", "lowafter(A,100)", "capafter(B,100)", "ampl(A)"] {
             jobs.push(Job::Band(recording.clone(), format!("{}{question}{}", "(".repeat(15), ")".repeat(15))));
         }
@@ -157,6 +177,16 @@ fn run(job: &Job, out: &mut [u8]) -> u64 {
                 let (at, length) = (recording.as_ptr(), recording.len());
                 mill_band(at, length, text.as_ptr(), text.len(), 9, &mut low, &mut high, &mut lowest, &mut highest)
             }
+            Job::LabQuestion(recording, text) => {
+                let (at, length, room, out) = (recording.as_ptr(), recording.len(), out.len(), out.as_mut_ptr());
+                mill_lab_question(at, length, MARKS.as_ptr(), MARKS.len(), text.as_ptr(), text.len(), out, room)
+            }
+            Job::LabDegree(recording, text) => {
+                let (mut distance, mut degree) = (0f64, 0f64);
+                let (at, length, marks) = (recording.as_ptr(), recording.len(), MARKS.as_ptr());
+                mill_lab_degree(at, length, marks, MARKS.len(), text.as_ptr(), text.len(), 7, &mut distance, &mut degree)
+            }
+            Job::LabPair(recording, target) => mill_lab_pair(recording.as_ptr(), recording.len(), 0, *target, &mut one, &mut two),
             Job::Order(recording) => {
                 mill_order(recording.as_ptr(), recording.len(), SHEET.as_ptr(), SHEET.len(), &mut one, &mut two)
             }
@@ -214,7 +244,10 @@ fn a_stack_that_is_too_small_is_seen() {
         (Job::Pair(recording.clone(), 16), 512),
         (Job::Thin(recording.clone()), 4_096),
         (Job::Band(recording.clone(), "(".repeat(256)), 65_536),
-        (Job::Order(recording), 128),
+        (Job::Order(recording.clone()), 128),
+        (Job::LabQuestion(recording.clone(), "(".repeat(256)), 65_536),
+        (Job::LabDegree(recording.clone(), "(".repeat(256)), 65_536),
+        (Job::LabPair(recording, 16), 512),
     ];
     if let Ok(which) = std::env::var(LESS) {
         let which: usize = which.parse().unwrap();

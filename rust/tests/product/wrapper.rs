@@ -96,6 +96,9 @@ fn every_refusal() {
         (11, mill::thin(&recording, &[0; 9]).unwrap_err()),
         (12, mill::pair(&recording, Curve::B, 2_000_000_001).unwrap_err()),
         (13, mill::order(&recording, &[[1, 2]; 33]).unwrap_err()),
+        (14, mill::lab_question(&recording, &[], b"lag").unwrap_err()),
+        (14, mill::lab_degree(&recording, &[], b"lag", 2_000_000_001).unwrap_err()),
+        (14, mill::lab_pair(&recording, Curve::B, 40).unwrap_err()),
         (16, mill::band(&recording, b"high(A)", 1_000_001).unwrap_err()),
         (17, mill::band(&recording, b"peaks(A)", 0).unwrap_err()),
     ];

@@ -20,7 +20,7 @@ pub fn numbers() -> BTreeMap<String, i64> {
     found
 }
 
-/// The bytes of stack with which a call does, by the header: `QUESTION`, `DEGREE`, `PAIR`, `THIN`, `BAND` or `ORDER`.
+/// The bytes of stack with which a call does, by the header: `QUESTION`, `DEGREE`, `LAB_PAIR` and so on.
 pub fn stack(call: &str) -> usize {
     numbers()[&format!("MILL_STACK_{call}")].try_into().unwrap()
 }

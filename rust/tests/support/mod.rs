@@ -10,6 +10,7 @@ pub mod r1;
 pub mod r2;
 pub mod r3;
 pub mod r4;
+pub mod r5;
 pub mod random;
 pub mod recordings;
 pub mod sheets;
