@@ -81,11 +81,11 @@ pub record TwoRecordings : Type 0 where
 abbrev at-rest : ℕ → ℕ → ℕ → Reading
 at-rest t x y = record { time = t; a = pos x; b = pos y; slope-a = 1; slope-b = 1; pigment = 0 }
 
-abbrev r4-kept : List Reading
-r4-kept = at-rest 0 11 0 ∷ at-rest 10 19 0 ∷ at-rest 20 14 4 ∷ at-rest 40 16 0 ∷ []
+abbrev r6-kept : List Reading
+r6-kept = at-rest 0 11 0 ∷ at-rest 10 19 0 ∷ at-rest 20 14 4 ∷ at-rest 40 16 0 ∷ []
 
-abbrev r5-kept : List Reading
-r5-kept = at-rest 0 11 0 ∷ at-rest 10 19 0 ∷ at-rest 30 15 3 ∷ at-rest 40 16 0 ∷ []
+abbrev r7-kept : List Reading
+r7-kept = at-rest 0 11 0 ∷ at-rest 10 19 0 ∷ at-rest 30 15 3 ∷ at-rest 40 16 0 ∷ []
 
 -- at one time with one A, whatever the two Bs
 agree : (t x y z : ℕ) → Agree Public (at-rest t x y) (at-rest t x z)
@@ -121,19 +121,19 @@ differ-in-B = record {
 
 -- ---- the sets
 
-in-range : InRange r4-kept
-in-range i h A = all-at nothing (λ x. inRange (value A x)) r4-kept refl i h
-in-range i h B = all-at nothing (λ x. inRange (value B x)) r4-kept refl i h
+in-range : InRange r6-kept
+in-range i h A = all-at nothing (λ x. inRange (value A x)) r6-kept refl i h
+in-range i h B = all-at nothing (λ x. inRange (value B x)) r6-kept refl i h
 
-other-in-range : InRange r5-kept
-other-in-range i h A = all-at nothing (λ x. inRange (value A x)) r5-kept refl i h
-other-in-range i h B = all-at nothing (λ x. inRange (value B x)) r5-kept refl i h
+other-in-range : InRange r7-kept
+other-in-range i h A = all-at nothing (λ x. inRange (value A x)) r7-kept refl i h
+other-in-range i h B = all-at nothing (λ x. inRange (value B x)) r7-kept refl i h
 
 abbrev one-coded : List Coded
-one-coded = map code r4-kept
+one-coded = map code r6-kept
 
 abbrev other-coded : List Coded
-other-coded = map code r5-kept
+other-coded = map code r7-kept
 
 high-A : Greatest (λ (x : Coded). true) (codedValue A) one-coded (at 19)
 high-A = record { one = refl; all = refl }
@@ -157,32 +157,32 @@ other-low-after = record { one = refl; all = refl }
 
 one-high-A : Holding (readings R6-kept) (listed (high A) is ((Lo to pos 19) ∷ []))
 unfolding reading signed turned val truth
-one-high-A = told r4-kept in-range (listed (high A) is ((Lo to pos 19) ∷ [])) ((refl, refl), tt)
+one-high-A = told r6-kept in-range (listed (high A) is ((Lo to pos 19) ∷ [])) ((refl, refl), tt)
     (λ n h. greatest-some (λ x. true) (codedValue A) one-coded n (at 19) high-A ∙ up-to n (at 19)) (leZ-yes tt)
 
 two-high-A : Holding (readings R7-kept) (listed (high A) is ((Lo to pos 19) ∷ []))
 unfolding reading signed turned val truth
-two-high-A = told r5-kept other-in-range (listed (high A) is ((Lo to pos 19) ∷ [])) ((refl, refl), tt)
+two-high-A = told r7-kept other-in-range (listed (high A) is ((Lo to pos 19) ∷ [])) ((refl, refl), tt)
     (λ n h. greatest-some (λ x. true) (codedValue A) other-coded n (at 19) other-high-A ∙ up-to n (at 19)) (leZ-yes tt)
 
 one-high-B : Holding (readings R6-kept) (listed (high B) is ((Lo to pos 4) ∷ []))
 unfolding reading signed turned val truth
-one-high-B = told r4-kept in-range (listed (high B) is ((Lo to pos 4) ∷ [])) ((refl, refl), tt)
+one-high-B = told r6-kept in-range (listed (high B) is ((Lo to pos 4) ∷ [])) ((refl, refl), tt)
     (λ n h. greatest-some (λ x. true) (codedValue B) one-coded n (at 4) high-B ∙ up-to n (at 4)) (leZ-yes tt)
 
 two-high-B : Holding (readings R7-kept) (listed (high B) is ((Lo to pos 3) ∷ []))
 unfolding reading signed turned val truth
-two-high-B = told r5-kept other-in-range (listed (high B) is ((Lo to pos 3) ∷ [])) ((refl, refl), tt)
+two-high-B = told r7-kept other-in-range (listed (high B) is ((Lo to pos 3) ∷ [])) ((refl, refl), tt)
     (λ n h. greatest-some (λ x. true) (codedValue B) other-coded n (at 3) other-high-B ∙ up-to n (at 3)) (leZ-yes tt)
 
 one-lowafter : Holding (readings R6-kept) (listed (lowafter A (at 10)) is ((pos 14 to Hi) ∷ []))
 unfolding reading signed turned val truth
-one-lowafter = told r4-kept in-range (listed (lowafter A (at 10)) is ((pos 14 to Hi) ∷ [])) ((refl, refl), tt)
+one-lowafter = told r6-kept in-range (listed (lowafter A (at 10)) is ((pos 14 to Hi) ∷ [])) ((refl, refl), tt)
     (λ n h. least-some (codedAfter (at 10)) (codedValue A) one-coded n (at 14) low-after ∙ from-on n (at 14) h) (leZ-yes tt)
 
 two-lowafter : Holding (readings R7-kept) (listed (lowafter A (at 10)) is ((pos 15 to Hi) ∷ []))
 unfolding reading signed turned val truth
-two-lowafter = told r5-kept other-in-range (listed (lowafter A (at 10)) is ((pos 15 to Hi) ∷ [])) ((refl, refl), tt)
+two-lowafter = told r7-kept other-in-range (listed (lowafter A (at 10)) is ((pos 15 to Hi) ∷ [])) ((refl, refl), tt)
     (λ n h. least-some (codedAfter (at 10)) (codedValue A) other-coded n (at 15) other-low-after ∙ from-on n (at 15) h) (leZ-yes tt)
 
 -- THE TWO RECORDINGS ARE AS TOLD
