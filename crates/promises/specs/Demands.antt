@@ -14,6 +14,7 @@ use Rattle.number.specs.Words.{signed}
 use Rattle.refusal.specs.Outcome.{result}
 use Rattle.refusal.specs.Numbers.{numberOf, placeOf}
 use Rattle.refusal.specs.declared.Refusal.{Refusal}
+use Rattle.recording.specs.Reading.{curveOf}
 use Rattle.recording.specs.Recording.{readings, Accepted}
 use Rattle.runset.specs.Runs.{setBytes}
 use Rattle.runset.specs.Written.{inBytes}
@@ -26,6 +27,7 @@ use Rattle.meaning.specs.Overfull.{IsSet}
 use Rattle.meaning.specs.Alike.{markIndex}
 use Rattle.degree.specs.Degree.{Value}
 use Rattle.degree.specs.Nearest.{Near}
+use Rattle.pair.specs.Pair.{times, none, FirstFitting}
 use Rattle.band.specs.Band.{OfExtremes, Certain, Possible}
 use Rattle.sheet.specs.Sheet.{sheetOf}
 use Rattle.sheet.specs.Finding.{allMet, brokenAt, TrueFinding}
@@ -133,8 +135,15 @@ pub record OrderTold (recording sheet : List ℕ) (time line r time-after line-a
   pub met : lowIn r ≡ 0 → TrueFinding (readings recording) (sheetOf sheet) allMet × (time-after ≡ time) × (line-after ≡ line)
   pub broken : lowIn r ≡ 1 → TrueFinding (readings recording) (sheetOf sheet) (brokenAt time-after line-after)
 
--- DEMAND 2, of what the question call wrote, and of what the degree call told (`Near`: by the same reading, of the target as the number at index v of the axis)
--- the band call (`BandTold`) and the order call (`OrderTold`). Document 02, Paper 7, of a laboratory's call: "One that neither 11 nor 14 refuses answers as the
+-- document 02, Paper 2, of what the pair call tells: 1, and at the places stand the times of the first pair of tops that fits, the earlier first; or 0, no two tops fit, and
+-- both places stay
+pub record PairTold (recording : List ℕ) (curve : ℕ) (target : ℤ) (earlier later r earlier-after later-after : ℕ) : Type 0 where
+  pub none-or-pair : (lowIn r ≡ 0) ⊎ (lowIn r ≡ 1)
+  pub no-pair : lowIn r ≡ 0 → FirstFitting (readings recording) (curveOf curve) target none × (earlier-after ≡ earlier) × (later-after ≡ later)
+  pub a-pair : lowIn r ≡ 1 → FirstFitting (readings recording) (curveOf curve) target (times earlier-after later-after)
+
+-- DEMAND 2, of what the question call wrote, and of what the degree call told (`Near`: by the same reading, of the target as the number at index v of the axis),
+-- the pair call (`PairTold`), the band call (`BandTold`) and the order call (`OrderTold`). Document 02, Paper 7, of a laboratory's call: "One that neither 11 nor 14 refuses answers as the
 -- plain call does", whatever it is handed
 pub record Demand2 : Type 0 where
   pub set-written : {recording text out : List ℕ} {r : ℕ} {after : List ℕ} → QuestionCall recording text out r after → numberIn r ≡ 0
@@ -145,6 +154,9 @@ pub record Demand2 : Type 0 where
   pub band-told : {recording text : List ℕ} (e : ℕ) {low high lowest highest r low-after high-after lowest-after highest-after : ℕ}
       → BandCall recording text (pos e) low high lowest highest r low-after high-after lowest-after highest-after → numberIn r ≡ 0
       → BandTold recording text e r low high lowest highest low-after high-after lowest-after highest-after
+  pub pair-told : {recording : List ℕ} {curve : ℕ} {target : ℤ} {earlier later r earlier-after later-after : ℕ}
+      → PairCall recording curve target earlier later r earlier-after later-after → numberIn r ≡ 0
+      → PairTold recording curve target earlier later r earlier-after later-after
   pub order-told : {recording sheet : List ℕ} {time line r time-after line-after : ℕ} → OrderCall recording sheet time line r time-after line-after → numberIn r ≡ 0
       → OrderTold recording sheet time line r time-after line-after
   pub lab-question-plain : (recording marks text : List ℕ) {out : List ℕ} {r : ℕ} {after : List ℕ} → LabQuestionCall recording marks text out r after

@@ -271,12 +271,11 @@ fn lie(how: usize, (l, h): Run) -> Run {
     }
 }
 
-/// Paper 4: joining stores each run of the result once. Every pair has its result within the limit; of each way in which runs lie to one another there are at
-/// least 100 pairs, and of those with an empty set.
+/// Paper 4: joining stores each run of the result once. Every pair has its result within the limit; every sixth pair lies in one of the five ways to one
+/// another, and every sixth has an empty set.
 #[test]
 fn joining_stores_each_run_once() {
     let mut r = Random(4);
-    let mut of = [0; 6];
     let mut pairs = 0;
     while pairs < 1000 {
         let how = pairs % 6;
@@ -288,23 +287,26 @@ fn joining_stores_each_run_once() {
         if want.len() > MOST_RUNS || (how < 5 && (a.is_empty() || b.is_empty())) {
             continue;
         }
+        assert!(how != 0 || want.len() <= a.len().max(b.len()), "touching runs are one: {a:?} {b:?}");
         assert_eq!(stores(&bytes(&a), &bytes(&b)), want.len() as u32, "{a:?} {b:?}");
-        of[how] += 1;
         pairs += 1;
     }
-    assert!(of.iter().all(|&n| n >= 100), "{of:?}");
 }
 
 /// And where sets are of any kind: the count, or that there are too many runs.
 #[test]
 fn joining_counts_at_random() {
     let mut r = Random(5);
+    let (mut over, mut near) = (0, 0);
     for _ in 0..2000 {
-        let mut one = || random_set(&mut r, -50, 900, 3);
+        let mut one = || random_set(&mut r, -50, 4000, 2);
         let (a, b) = (one(), one());
         let want = expected(Op::Or, &a, &b, &[]).len();
         let told = stores(&bytes(&a), &bytes(&b));
         assert_eq!(told, if want > MOST_RUNS { OVER } else { want as u32 });
+        over += usize::from(want > MOST_RUNS);
+        near += usize::from(want <= MOST_RUNS && want > MOST_RUNS - 16);
     }
+    assert!(over >= 100 && near >= 20, "{over} {near}");
     assert_eq!(stores(&[1, 2, 3, 4, 5, 6, 7, 127], &[]), REFUSED);
 }

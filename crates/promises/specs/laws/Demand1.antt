@@ -135,7 +135,7 @@ degrees-answered q (refused n i) distance degree′ r first second t h d = recor
   refusal-writes-nothing = λ k. ap₂ (λ (x y : ℕ). x ∷ y ∷ []) (d .first-place) (d .second-place);
 }
 
-pair-told : (bytes : List ℕ) (curve : ℕ) (target : ℤ) → AsTable (pair bytes curve target) (order (pair bytes curve target)) (pairOf bytes curve target)
+pub pair-told : (bytes : List ℕ) (curve : ℕ) (target : ℤ) → AsTable (pair bytes curve target) (order (pair bytes curve target)) (pairOf bytes curve target)
 unfolding pairOf
 pair-told bytes curve target =
     judged-told (pair bytes curve target) (pairLines bytes curve target) (order (pair bytes curve target)) (firstPair (readings bytes) (curveOf curve) target)

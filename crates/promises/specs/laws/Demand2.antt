@@ -12,6 +12,7 @@ use lib.Signed.{_≤ℤ_}
 use borrow.Author.Tests.{leb-true, le-leb}
 use Rattle.number.specs.Axis.{axis, origin, whole, OfAxis}
 use Rattle.refusal.specs.Outcome.{Outcome, result, refused, Line, judged, NoneMeets}
+use Rattle.recording.specs.Reading.{curveOf}
 use Rattle.recording.specs.Recording.{readings, recordingLines, noRecord}
 use Rattle.recording.specs.Output.{counted, outputLine}
 use Rattle.recording.specs.laws.Outcome.{judged-pass, result-none, none-append}
@@ -40,6 +41,8 @@ use Rattle.band.specs.laws.Meant.{band-meant}
 use Rattle.number.specs.Words.{signed, bits}
 use Rattle.number.specs.laws.Words.{bits-small, signed-bits}
 use Rattle.meaning.specs.laws.Whole.{stands-whole, le-index}
+use Rattle.pair.specs.Pair.{Given, times, none, firstPair, FirstFitting, acceptedLines, pairLines, pairOf}
+use Rattle.pair.specs.laws.Pair.{first-fitting}
 use Rattle.sheet.specs.Sheet.{sheetOf}
 use Rattle.sheet.specs.Finding.{Finding, allMet, brokenAt, TrueFinding}
 use Rattle.sheet.specs.inner.Found.{finding}
@@ -47,14 +50,14 @@ use Rattle.sheet.specs.Call.{orderLines, orderOf}
 use Rattle.sheet.specs.laws.Finding.{finding-true}
 use Rattle.reply.specs.Reply.{half, packed, InHalf, numberIn, lowIn}
 use Rattle.reply.specs.laws.Unpacked.{low-result, number-refused}
-use Rattle.boundary.specs.Boundary.{Degrees, valueTold, filled, bandTold, lowAfter, highAfter, InBands, findingTold, Orders}
-use Rattle.mill.specs.Calls.{QuestionCall, DegreeCall, BandCall, OrderCall}
-use Rattle.mill.specs.laws.Calls.{question-in-half, degree-in-half, band-in-half, order-in-half}
-use Rattle.promises.specs.Table.{Request, question, degree, order, acceptedOrder, band, ordering}
+use Rattle.boundary.specs.Boundary.{Degrees, valueTold, Pairs, pairTold, filled, bandTold, lowAfter, highAfter, InBands, findingTold, Orders}
+use Rattle.mill.specs.Calls.{QuestionCall, DegreeCall, PairCall, BandCall, OrderCall}
+use Rattle.mill.specs.laws.Calls.{question-in-half, degree-in-half, band-in-half, order-in-half, pair-in-half}
+use Rattle.promises.specs.Table.{Request, question, degree, order, acceptedOrder, band, ordering, pair}
 use Rattle.promises.specs.laws.Table.{number-bounds, AsTable, judged-told}
 use Rattle.promises.specs.laws.CallLines.{InPlace, in-its-place, answer-is, agree-asked}
-use Rattle.promises.specs.Demands.{Fixed, SetWritten, InRun, End, RunTold, BandTold, OrderTold}
-use Rattle.promises.specs.laws.Demand1.{told-counted, told-numbered, wrote, question-told, degree-told, band-judged, filled-few, order-judged}
+use Rattle.promises.specs.Demands.{Fixed, SetWritten, InRun, End, RunTold, BandTold, OrderTold, PairTold}
+use Rattle.promises.specs.laws.Demand1.{told-counted, told-numbered, wrote, question-told, degree-told, band-judged, filled-few, order-judged, pair-told}
 
 -- ---- DEMAND 2
 
@@ -223,6 +226,38 @@ band-meaning recording text e low high lowest highest r a b c d w z =
               (subst (λ (bit : ℕ). InRun bit c d (whole (k .0)) ↔ Possible (t .question) e (readings recording) (whole (k .0))) (sym second)
               (then (part-run lowest highest c d (x .possible) (o .1) (w .third-place) (w .fourth-place) (k .0)) (t .means .possible (k .0) (k .1))));
         }
+
+-- ---- DEMAND 2, of the pair call
+
+-- what the call gives is the first pair that fits
+given-pair : (bytes : List ℕ) (curve : ℕ) (target : ℤ) (g : Given) → pairOf bytes curve target ≡ result g → FirstFitting (readings bytes) (curveOf curve) target g
+unfolding pairOf
+given-pair bytes curve target g e =
+    let k = result-none (pairLines bytes curve target) (firstPair (readings bytes) (curveOf curve) target) g e in
+    subst (FirstFitting (readings bytes) (curveOf curve) target) (k .1)
+    (first-fitting (curveOf curve) bytes (none-append (recordingLines bytes) (acceptedLines bytes curve target) (k .0) .0) target)
+
+pub pair-meaning : (bytes : List ℕ) (curve : ℕ) (target : ℤ) (earlier later r first second : ℕ) → PairCall bytes curve target earlier later r first second → numberIn r ≡ 0
+    → PairTold bytes curve target earlier later r first second
+pair-meaning bytes curve target earlier later r first second w z = go (pairOf bytes curve target) refl w
+  where
+    go : (o : Outcome Given) → pairOf bytes curve target ≡ o → Pairs o earlier later r first second → PairTold bytes curve target earlier later r first second
+    go (result none) e w =
+        let z = ap lowIn (w .returned) in
+        record { none-or-pair = inl z; no-pair = λ h. (given-pair bytes curve target none e, w .first-place, w .second-place); a-pair = λ h. absurd (omega arith) }
+    go (result (times t u)) e w =
+        let z = ap lowIn (w .returned) in
+        record {
+          none-or-pair = inr z;
+          no-pair = λ h. absurd (omega arith);
+          a-pair = λ h. subst (FirstFitting (readings bytes) (curveOf curve) target) (sym (ap₂ times (w .first-place) (w .second-place))) (given-pair bytes curve target (times t u) e);
+        }
+    go (refused n i) e w =
+        let q : Request = pair bytes curve target in
+        let k = number-refused n i (subst (λ (o : Outcome Given). InHalf (pairTold o)) e (pair-in-half bytes curve target)) in
+        let b = told-numbered q (order q) (refused n i) (subst (AsTable q (order q)) e (pair-told bytes curve target)) in
+        let h = ap numberIn (w .returned) in
+        absurd (omega arith)
 
 -- ---- DEMAND 2, of the order call
 

@@ -16,7 +16,7 @@ use Rattle.promises.specs.laws.KeptAsFull.{selected-as-full}
 use Rattle.promises.specs.CallsMade.{readOff, takenFrom}
 use Rattle.promises.specs.Demands.{RightOf, Demand3, Demands}
 use Rattle.promises.specs.laws.Demand1.{demand-1}
-use Rattle.promises.specs.laws.Demand2.{written-set, degree-meant, band-meaning, order-meaning}
+use Rattle.promises.specs.laws.Demand2.{written-set, degree-meant, band-meaning, order-meaning, pair-meaning}
 use Rattle.promises.specs.laws.Laboratory.{question-plainly, degree-plainly, pair-plainly}
 use Rattle.promises.specs.laws.Lists.{thinned-calls, accepted-after, nothing-accepted, bad-calls, taken-join, all-given, list-as-model}
 use Rattle.promises.specs.laws.Selected.{in-place, stands-in, selected-place, like-full}
@@ -57,6 +57,8 @@ demands = record {
     degree-told = λ {recording} {text} target {distance} {value} {r} {distance-after} {value-after} d z. degree-meant recording text target distance value r distance-after value-after d z;
     band-told = λ {recording} {text} e {low} {high} {lowest} {highest} {r} {low-after} {high-after} {lowest-after} {highest-after} w z.
         band-meaning recording text e low high lowest highest r low-after high-after lowest-after highest-after w z;
+    pair-told = λ {recording} {curve} {target} {earlier} {later} {r} {earlier-after} {later-after} w z.
+        pair-meaning recording curve target earlier later r earlier-after later-after w z;
     order-told = λ {recording} {sheet} {time} {line} {r} {time-after} {line-after} w z. order-meaning recording sheet time line r time-after line-after w z;
     lab-question-plain = λ recording marks text {out} {r} {after} w h k. question-plainly recording marks text out r after w h k;
     lab-degree-plain = λ recording marks text target {distance} {value} {r} {distance-after} {value-after} w h k.
