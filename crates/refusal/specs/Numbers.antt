@@ -1,7 +1,7 @@
 -- Document 01, the table of refusals, and document 02, which adds to it: the number and the place of each.
 use Prim.Native.Nat.{ℕ}
 use Rattle.refusal.specs.declared.Refusal.{Refusal}
-use Rattle.refusal.specs.declared.Refusal.the-variants.{PartialRecord, TooManyRecords, BadRecord, NoRecord, TextLength, NoReading, TextTooLarge, TooManyRuns, TooManyTops, ShortOutput, BadMarks, BadTarget, BadSheet, NotForLaboratory, BadBand, NotBandQuestion}
+use Rattle.refusal.specs.declared.Refusal.the-variants.{PartialRecord, TooManyRecords, BadRecord, NoRecord, TextLength, NoReading, TextTooLarge, TooManyRuns, TooManyTops, ShortOutput, BadMarks, BadTarget, BadSheet, NotForLaboratory, NoReport, BadBand, NotBandQuestion}
 
 abbrev pub numberOf : Refusal → ℕ
 numberOf PartialRecord = 1
@@ -18,6 +18,7 @@ numberOf BadMarks = 11
 numberOf BadTarget = 12
 numberOf BadSheet = 13
 numberOf NotForLaboratory = 14
+numberOf NoReport = 15
 numberOf BadBand = 16
 numberOf NotBandQuestion = 17
 
@@ -37,5 +38,6 @@ placeOf BadMarks = 0
 placeOf BadTarget = 0
 placeOf BadSheet = 0
 placeOf NotForLaboratory = 0
+placeOf NoReport = 0
 placeOf BadBand = 0
 placeOf NotBandQuestion = 0

@@ -31,6 +31,8 @@ pub enum Refusal {
     BadSheet,
     // A laboratory may not ask this: the text names B, `cross`, `crossup` or `lag`, holds F, G, X, U or W, or has an after-time that is no mark; a pair of tops of B.
     NotForLaboratory,
+    // No report is under way: the named count is 0 or over 1,000, or a recording is handed in after the named count or after a refusal.
+    NoReport,
     // The band is not 0 to 1,000,000 units.
     BadBand,
     // The text is not one question that is answered within a band, alone.
@@ -56,6 +58,7 @@ pub fn number(r: Refusal) -> u32
         Refusal::BadTarget => 12,
         Refusal::BadSheet => 13,
         Refusal::NotForLaboratory => 14,
+        Refusal::NoReport => 15,
         Refusal::BadBand => 16,
         Refusal::NotBandQuestion => 17,
     }
@@ -80,6 +83,7 @@ pub fn place(r: Refusal) -> usize
         Refusal::BadTarget => 0,
         Refusal::BadSheet => 0,
         Refusal::NotForLaboratory => 0,
+        Refusal::NoReport => 0,
         Refusal::BadBand => 0,
         Refusal::NotBandQuestion => 0,
     }

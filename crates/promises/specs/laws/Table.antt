@@ -13,7 +13,7 @@ use Rattle.number.specs.laws.Least.{least-le, least-holds, least-first, least-i
 use Rattle.refusal.specs.Outcome.{Outcome, result, refused, Line, line, judged, NoneMeets}
 use Rattle.refusal.specs.Numbers.{numberOf, placeOf}
 use Rattle.refusal.specs.declared.Refusal.{Refusal}
-use Rattle.refusal.specs.declared.Refusal.the-variants.{PartialRecord, TooManyRecords, BadRecord, NoRecord, TextLength, NoReading, TextTooLarge, TooManyRuns, TooManyTops, ShortOutput, BadMarks, BadTarget, BadSheet, NotForLaboratory, BadBand, NotBandQuestion}
+use Rattle.refusal.specs.declared.Refusal.the-variants.{PartialRecord, TooManyRecords, BadRecord, NoRecord, TextLength, NoReading, TextTooLarge, TooManyRuns, TooManyTops, ShortOutput, BadMarks, BadTarget, BadSheet, NotForLaboratory, NoReport, BadBand, NotBandQuestion}
 use Rattle.recording.specs.Recording.{Raw, records, readings, lawful, firstBad, mostRecords, recordingLines, noRecord, Accepted}
 use Rattle.recording.specs.laws.Outcome.{no-result}
 use Rattle.promises.specs.Table.{Request, recordingIn, textIn, FirstBroken, Met, NoneMet, FirstMet}
@@ -37,7 +37,8 @@ refusalOf n p =
     (cond (eqb n 12) BadTarget
     (cond (eqb n 13) BadSheet
     (cond (eqb n 14) NotForLaboratory
-    (cond (eqb n 16) BadBand NotBandQuestion))))))))))))))
+    (cond (eqb n 15) NoReport
+    (cond (eqb n 16) BadBand NotBandQuestion)))))))))))))))
 
 refusal-back : (x : Refusal) → refusalOf (numberOf x) (placeOf x) ≡ x
 refusal-back PartialRecord = refl
@@ -54,6 +55,7 @@ refusal-back BadMarks = refl
 refusal-back BadTarget = refl
 refusal-back BadSheet = refl
 refusal-back NotForLaboratory = refl
+refusal-back NoReport = refl
 refusal-back BadBand = refl
 refusal-back NotBandQuestion = refl
 
@@ -72,6 +74,7 @@ number-bounds BadMarks = (omega arith, omega arith)
 number-bounds BadTarget = (omega arith, omega arith)
 number-bounds BadSheet = (omega arith, omega arith)
 number-bounds NotForLaboratory = (omega arith, omega arith)
+number-bounds NoReport = (omega arith, omega arith)
 number-bounds BadBand = (omega arith, omega arith)
 number-bounds NotBandQuestion = (omega arith, omega arith)
 
