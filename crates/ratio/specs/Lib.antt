@@ -1,2 +1,3 @@
+pub mod Apart
 pub mod Degree
 pub mod laws

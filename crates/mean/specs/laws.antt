@@ -1,0 +1,5 @@
+pub mod Rounding
+pub mod Fractions
+pub mod Chain
+pub mod Near
+pub mod Running
