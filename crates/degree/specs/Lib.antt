@@ -1,3 +1,4 @@
 pub mod Degree
 pub mod Nearest
+pub mod inner
 pub mod laws

@@ -1,5 +1,5 @@
 -- Document 01, "Degree and pair": what a value says of a recording. Numbers of the axis are given by their indices.
-use Prim.Native.Nat.{ℕ, _+_, _-_, _≤_, _<_}
+use Prim.Native.Nat.{ℕ, _≤_, _<_}
 use mathlib.Core.Path.{_≡_}
 use mathlib.Core.List.{List}
 use Rattle.number.specs.Axis.{axis, whole}
@@ -8,12 +8,9 @@ use Rattle.recording.specs.Recording.{readings}
 use Rattle.grammar.specs.Syntax.{Text}
 use Rattle.grammar.specs.Grammar.{ReadsWhole}
 use Rattle.meaning.specs.Meaning.{Holds}
+use Rattle.ratio.specs.Apart.{apart}
 use Rattle.ratio.specs.Degree.{distanceOf, degreeOf}
 use Rattle.degree.specs.Degree.{Value, met, short, noValue}
-
--- |v − w|
-abbrev pub apart : ℕ → ℕ → ℕ
-apart v w = (v - w) + (w - v)
 
 module _ (r : List Reading) (p : Text) where
   -- the text is true at the first record with the number put in

@@ -11,13 +11,23 @@ ghost use Rattle.meaning.specs.inner.Truth.{val};
 ghost use Rattle.evaluation.specs.inner.Evaluation.{textOf};
 ghost use Rattle.question.specs.inner.Answered.{Ready};
 ghost use Rattle.question.specs.Question.{setLines};
-ghost use Rattle.degree.specs.Degree.{graded, valueOf, targetLine, nearnessOf, outcomeOf};
+ghost use Rattle.degree.specs.Degree.{reachIn, graded, valued, valueOf, targetLine, nearnessOf, outcomeOf, reachedOf};
+ghost use Rattle.degree.specs.inner.Reach.{reachAt, mapped};
 use question::answered::Verdict;
 use question::prepare::Prepared;
 use refusal::Refusal;
 use runset::Nearest;
 use runset::RunSet;
 use targets::OnAxis;
+
+// How far the target is from the set.
+pub enum Reached {
+    // The distance to the nearest member.
+    Away(u32),
+    // The set has no member.
+    Nowhere,
+    Refused(Refusal),
+}
 
 // The answer of the degree call.
 pub enum Nearness {
@@ -42,27 +52,38 @@ fn grade(d: u32) -> Nearness
     Nearness::Short(distance, degree)
 }
 
-// How near a set comes to the number at an index.
-fn near_set(set: &[u32], index: u32) -> Nearness
-    requires { ⌜ Valid (now set) × (index < axis) ⌝ }
-    ensures { λ r. ⌜ outcomeOf r ≡ result (valueOf (member (now (set .entry))) index) ⌝ }
+// The answer with the distance graded.
+fn graded(x: Reached) -> Nearness
+    ensures { λ r. ⌜ outcomeOf r ≡ mapped valued (reachedOf x) ⌝ }
 {
-    let nearest = RunSet::distance(set, index);
-    match nearest {
-        Nearest::At(d) => grade(d),
-        Nearest::Nothing => Nearness::NoValue,
+    match x {
+        Reached::Away(d) => grade(d),
+        Reached::Nowhere => Nearness::NoValue,
+        Reached::Refused(y) => Nearness::Refused(y),
     }
 }
 
-// How near the set of a text that was read comes to the number at an index.
-fn near_text(rec: &[u8], table: &[u32], count: usize, index: u32) -> Nearness
+// How far the number at an index is from a set.
+fn near_set(set: &[u32], index: u32) -> Reached
+    requires { ⌜ Valid (now set) × (index < axis) ⌝ }
+    ensures { λ r. ⌜ reachedOf r ≡ result (reachIn (member (now (set .entry))) index) ⌝ }
+{
+    let nearest = RunSet::distance(set, index);
+    match nearest {
+        Nearest::At(d) => Reached::Away(d),
+        Nearest::Nothing => Reached::Nowhere,
+    }
+}
+
+// How far the number at an index is from the set of a text that was read.
+fn near_text(rec: &[u8], table: &[u32], count: usize, index: u32) -> Reached
     requires { ⌜ Ready (now table) count (now rec) × (index < axis) ⌝ }
-    ensures { λ r. ⌜ outcomeOf r ≡ judged (setLines (now (rec .entry)) (textOf (now (table .entry)) count)) (valueOf (λ n. val (coded (now (rec .entry))) n (textOf (now (table .entry)) count) 0) index) ⌝ }
+    ensures { λ r. ⌜ reachedOf r ≡ judged (setLines (now (rec .entry)) (textOf (now (table .entry)) count)) (reachIn (λ n. val (coded (now (rec .entry))) n (textOf (now (table .entry)) count) 0) index) ⌝ }
 {
     let mut set = [0u32; runset::SLOT];
     let verdict = question::answered::set_of(rec, table, count, &mut set);
     match verdict {
-        Verdict::Refused(x) => Nearness::Refused(x),
+        Verdict::Refused(x) => Reached::Refused(x),
         Verdict::Fine => near_set(&set, index),
     }
 }
@@ -74,8 +95,24 @@ pub fn near_target(rec: &[u8], table: &[u32], count: usize, target: i64) -> Near
 {
     let place = targets::on_axis(target);
     match place {
-        OnAxis::Index(index) => near_text(rec, table, count, index),
+        OnAxis::Index(index) => {
+            let reached = near_text(rec, table, count, index);
+            graded(reached)
+        }
         OnAxis::Off => Nearness::Refused(Refusal::BadTarget),
+    }
+}
+
+// The distance of the number at an index from the answered set, as a whole number.
+pub fn distance_at(rec: &[u8], text: &[u8], index: u32) -> Reached
+    requires { ⌜ index < axis ⌝ }
+    ensures { λ r. ⌜ reachedOf r ≡ reachAt (now (rec .entry)) (now (text .entry)) index ⌝ }
+{
+    let mut table = [0u32; text::TABLE_SIZE];
+    let prepared = question::prepare::prepare(rec, text, &mut table);
+    match prepared {
+        Prepared::Refused(x) => Reached::Refused(x),
+        Prepared::Nodes(n) => near_text(rec, &table, n, index),
     }
 }
 

@@ -5,10 +5,6 @@ use Rattle.degree.specs.laws.Call.{near-at, near-nothing}
 use borrow.Author.Needs.{needs}
 use Rattle.degree.proofs.near_set.Statement.{statement}
 use Rattle.degree.proofs.near_set.Tie as tie
-use Rattle.degree.proofs.near_set.Reads as reads
-use Rattle.degree.proofs.near_set.Lts as lts
-use Rattle.degree.proofs.grade.Reads as grade-reads
-use Rattle.runset.proofs.RunSet.distance.Reads as distance-reads
 
 distance-requires : tie.Need-distance-requires
 distance-requires c κs = search needs
@@ -16,16 +12,13 @@ distance-requires c κs = search needs
 enum-known-nearest : tie.Need-enum-known-nearest
 enum-known-nearest c = search needs
 
-grade-requires : tie.Need-grade-requires
-grade-requires c κs = search needs
-
 enum-told : tie.Need-enum-told
 enum-told c = search needs
 
 returns : tie.Need-returns
 returns c =
-    let a = c .before .before .before .before .before .before .args in
-    near-at (member (a .set .now)) (a .index) _ (sym (c .before .before .nearest .given .1) ∙ c .before .before .before .before .distance .ensures) _ (c .grade .ensures)
+    let a = c .before .before .before .before .before .args in
+    near-at (member (a .set .now)) (a .index) _ (sym (c .before .nearest .given .1) ∙ c .before .before .before .distance .ensures)
 
 returns-2 : tie.Need-returns-2
 returns-2 c =
@@ -34,5 +27,4 @@ returns-2 c =
 
 pub near-set-spec : {M : Type 1} → statement M
 near-set-spec =
-    tie.close
-    (tie.spec distance-requires enum-known-nearest grade-requires enum-told returns returns-2)
+    tie.close (tie.spec distance-requires enum-known-nearest enum-told returns returns-2)

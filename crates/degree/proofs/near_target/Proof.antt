@@ -6,7 +6,12 @@ use Rattle.question.specs.Question.{setLines}
 use Rattle.targets.specs.Target.{Placed}
 use Rattle.targets.specs.laws.Target.{placed-handed}
 use Rattle.targets.specs.declared.OnAxis.the-variants.{Index, Off}
-use Rattle.degree.specs.laws.Call.{target-off, target-on}
+use Prim.Native.Nat.{ℕ}
+use mathlib.Core.Bool.{Bool}
+use mathlib.Core.List.{List}
+use Rattle.refusal.specs.Outcome.{Line}
+use Rattle.degree.specs.Degree.{reachIn}
+use Rattle.degree.specs.laws.Call.{target-off, target-on, graded-lines}
 use borrow.Author.Needs.{needs}
 use Rattle.degree.proofs.near_target.Statement.{statement}
 use Rattle.degree.proofs.near_target.Tie as tie
@@ -28,17 +33,23 @@ near-text-requires c κs =
     let told = c .before .place .given in
     (s .pre, placed-handed (s .args .target) (s .fits .target) (t .on-axis .result) (Index (told .0 .0)) (told .1) (t .on-axis .ensures) .1)
 
+graded-requires : tie.Need-graded-requires
+graded-requires c κs = search needs
+
 enum-told : tie.Need-enum-told
 enum-told c = search needs
 
 returns : tie.Need-returns
 returns c =
-    let s = c .before .before .before .before .before .before .before in
+    let s = c .before .before .before .before .before .before .before .before in
     let a = s .args in
-    let t = c .before .before .before .before in
-    let told = c .before .before .place .given in
-    target-on (a .target) (setLines (a .rec .now) (textOf (a .table .now) (a .count))) (λ n. val (coded (a .rec .now)) n (textOf (a .table .now) (a .count)) 0) (told .0 .0)
-    (placed-handed (a .target) (s .fits .target) (t .on-axis .result) (Index (told .0 .0)) (told .1) (t .on-axis .ensures)) _ (c .near-text .ensures)
+    let t = c .before .before .before .before .before in
+    let told = c .before .before .before .place .given in
+    let f : ℕ → Bool = λ n. val (coded (a .rec .now)) n (textOf (a .table .now) (a .count)) 0 in
+    let lines : List Line = setLines (a .rec .now) (textOf (a .table .now) (a .count)) in
+    target-on (a .target) lines f (told .0 .0)
+    (placed-handed (a .target) (s .fits .target) (t .on-axis .result) (Index (told .0 .0)) (told .1) (t .on-axis .ensures)) _
+    (graded-lines (c .before .near-text .result) lines (reachIn f (told .0 .0)) _ (c .before .near-text .ensures) (c .graded .ensures))
 
 returns-2 : tie.Need-returns-2
 returns-2 c =
@@ -51,4 +62,4 @@ returns-2 c =
 pub near-target-spec : {M : Type 1} → statement M
 near-target-spec =
     tie.close
-    (tie.spec on-axis-requires enum-known-place near-text-requires enum-told returns returns-2)
+    (tie.spec on-axis-requires enum-known-place near-text-requires graded-requires enum-told returns returns-2)

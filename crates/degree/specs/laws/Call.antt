@@ -36,7 +36,10 @@ use Rattle.ratio.specs.Degree.{distanceOf, degreeOf}
 use Rattle.ratio.specs.laws.Degree.{distance-number, degree-number}
 use Rattle.targets.specs.Target.{Placed}
 use Rattle.targets.specs.declared.OnAxis.the-variants.{Index, Off}
-use Rattle.degree.specs.Degree.{Value, met, short, noValue, graded, valueOf, targetLine, nearnessOf}
+use Rattle.degree.specs.Degree.{Reach, away, nowhere, reachIn, reachedOf, Value, met, short, noValue, graded, valued, valueOf, targetLine, nearnessOf, outcomeOf}
+use Rattle.degree.specs.inner.Reach.{reachAt, mapped}
+use Rattle.degree.specs.declared.Reached.{Reached}
+use Rattle.degree.specs.declared.Reached.the-variants as reached
 
 -- ---- a distance
 
@@ -63,36 +66,57 @@ at-nothing d e = let z : _≡_ {A = ℕ} 0 1 = cc in absurd (bad z)
     bad z = omega arith
 
 module _ (f : ℕ → Bool) (v : ℕ) where
-  pub near-at : (d : ℕ) → At d ≡ nearestOf f v → (o : Outcome Value) → o ≡ result (graded d) → o ≡ result (valueOf f v)
-  near-at d e o q = by (ltb (distance f v) axis) e
+  pub near-at : (d : ℕ) → At d ≡ nearestOf f v → result (away d) ≡ result (reachIn f v)
+  near-at d e = by (ltb (distance f v) axis) e
     where
-      by : (b : Bool) → At d ≡ cond b (At (distance f v)) Nothing → o ≡ result (cond b (graded (distance f v)) noValue)
-      by true e = let same : d ≡ distance f v = cc in q ∙ ap (λ (k : ℕ). result (graded k)) same
+      by : (b : Bool) → At d ≡ cond b (At (distance f v)) Nothing → result (away d) ≡ result (cond b (away (distance f v)) nowhere)
+      by true e = let same : d ≡ distance f v = cc in ap (λ (k : ℕ). result (away k)) same
       by false e = at-nothing d e
 
-  pub near-nothing : Nothing ≡ nearestOf f v → result noValue ≡ result (valueOf f v)
+  pub near-nothing : Nothing ≡ nearestOf f v → result nowhere ≡ result (reachIn f v)
   near-nothing e = by (ltb (distance f v) axis) e
     where
-      by : (b : Bool) → Nothing ≡ cond b (At (distance f v)) Nothing → result noValue ≡ result (cond b (graded (distance f v)) noValue)
+      by : (b : Bool) → Nothing ≡ cond b (At (distance f v)) Nothing → result nowhere ≡ result (cond b (away (distance f v)) nowhere)
       by true e = at-nothing (distance f v) (sym e)
       by false e = refl
 
+-- sets with the same members are equally far
+pub reach-ext : (f g : ℕ → Bool) (v : ℕ) → v < axis → ((w : ℕ) → w < axis → f w ≡ g w) → reachIn f v ≡ reachIn g v
+reach-ext f g v h e = ap (λ (d : ℕ). cond (ltb d axis) (away d) nowhere) (distance-ext f g v h e)
+
 -- sets with the same members come equally near
 pub value-ext : (f g : ℕ → Bool) (v : ℕ) → v < axis → ((w : ℕ) → w < axis → f w ≡ g w) → valueOf f v ≡ valueOf g v
-value-ext f g v h e = ap (λ (d : ℕ). cond (ltb d axis) (graded d) noValue) (distance-ext f g v h e)
+value-ext f g v h e = ap valued (reach-ext f g v h e)
+
+-- ---- grading
+
+-- a result that is graded, after the same lines
+pub judged-mapped : {R S : Type 0} (h : R → S) (ls : List Line) (r : R) → mapped h (judged ls r) ≡ judged ls (h r)
+unfolding judged
+judged-mapped h [] r = refl
+judged-mapped {R} {S} h (l ∷ ls) r = go (l .meets) (judged-mapped h ls r)
+  where
+    go : (b : Bool) → mapped h (judged ls r) ≡ judged ls (h r)
+        → mapped h (cond b (refused (l .number) (l .place)) (judged ls r)) ≡ cond b (refused (l .number) (l .place)) (judged ls (h r))
+    go true e = refl
+    go false e = e
+
+-- an answer that was reached under lines, graded
+pub graded-lines : (x : Reached) (ls : List Line) (y : Reach) (o : Outcome Value) → reachedOf x ≡ judged ls y → o ≡ mapped valued (reachedOf x) → o ≡ judged ls (valued y)
+graded-lines x ls y o e q = q ∙ ap (mapped valued) e ∙ judged-mapped valued ls y
 
 -- ---- a text that was read
 
 module _ (bytes : List ℕ) (p : Text) (words : List ℕ) (a : Verdict) (g : Gives bytes p words a) (v : ℕ) where
   pub text-refused : (x : Refusal) → a ≡ Refused x
-      → refused (numberOf x) (placeOf x) ≡ judged (setLines bytes p) (valueOf (λ n. val (coded bytes) n p 0) v)
-  text-refused x e = sym (refusal-stands (setLines bytes p) [] tt (valueOf (λ n. val (coded bytes) n p 0) v) (numberOf x) (placeOf x) (g .refusal x e))
+      → refused (numberOf x) (placeOf x) ≡ judged (setLines bytes p) (reachIn (λ n. val (coded bytes) n p 0) v)
+  text-refused x e = sym (refusal-stands (setLines bytes p) [] tt (reachIn (λ n. val (coded bytes) n p 0) v) (numberOf x) (placeOf x) (g .refusal x e))
 
-  pub text-near : a ≡ Fine → v < axis → (o : Outcome Value) → o ≡ result (valueOf (member words) v)
-      → o ≡ judged (setLines bytes p) (valueOf (λ n. val (coded bytes) n p 0) v)
+  pub text-near : a ≡ Fine → v < axis → (o : Outcome Reach) → o ≡ result (reachIn (member words) v)
+      → o ≡ judged (setLines bytes p) (reachIn (λ n. val (coded bytes) n p 0) v)
   text-near e h o q =
-      q ∙ ap result (value-ext (member words) (λ n. val (coded bytes) n p 0) v h (g .set e .members))
-      ∙ sym (judged-none (setLines bytes p) (valueOf (λ n. val (coded bytes) n p 0) v) (g .none e))
+      q ∙ ap result (reach-ext (member words) (λ n. val (coded bytes) n p 0) v h (g .set e .members))
+      ∙ sym (judged-none (setLines bytes p) (reachIn (λ n. val (coded bytes) n p 0) v) (g .none e))
 
 -- ---- a target
 
@@ -133,6 +157,22 @@ module _ (bytes text table : List ℕ) (g : ℤ) (q : Prepared) (h : Prepares by
       ∙ ap (λ (p : Text). judged (targetLine g ∷ setLines bytes p) (valueOf (λ k. val (coded bytes) k p 0) (index g))) is
       ∙ sym (judged-pass (askingLines bytes text) (targetLine g ∷ setLines bytes (read text)) (valueOf (answer bytes text) (index g)) passed)
 
+-- the target is given by its index
+module _ (bytes text table : List ℕ) (v : ℕ) (q : Prepared) (h : Prepares bytes text table q) where
+  pub at-refused : (x : Refusal) → q ≡ prepared.Refused x → refused (numberOf x) (placeOf x) ≡ reachAt bytes text v
+  unfolding reachAt
+  at-refused x e =
+      sym (refusal-stands (askingLines bytes text) (setLines bytes (read text)) (nodesOf (parsed text)) (reachIn (answer bytes text) v) (numberOf x) (placeOf x) (sym (h .outcome) ∙ ap preparedOf e))
+
+  pub at-answered : (n : ℕ) → q ≡ prepared.Nodes n → (o : Outcome Reach)
+      → o ≡ judged (setLines bytes (textOf table n)) (reachIn (λ k. val (coded bytes) k (textOf table n) 0) v) → o ≡ reachAt bytes text v
+  unfolding reachAt
+  at-answered n e o w =
+      let is : textOf table n ≡ read text = ap theText (sym (h .tabled n e .reads)) in
+      let passed : NoneMeets (askingLines bytes text) = result-none (askingLines bytes text) (nodesOf (parsed text)) n (sym (h .outcome) ∙ ap preparedOf e) .0 in
+      w ∙ ap (λ (p : Text). judged (setLines bytes p) (reachIn (λ k. val (coded bytes) k p 0) v)) is
+      ∙ sym (judged-pass (askingLines bytes text) (setLines bytes (read text)) (reachIn (answer bytes text) v) passed)
+
 -- ---- the distance and the degree are numbers
 
 -- the two floats are numbers
@@ -159,7 +199,7 @@ value-numbers f v x k e = by (ltb (distance f v) axis) refl e
           subst (λ (y : Float). T (not (isNan y))) (same .1) (degree-number (distance f v) (omega arith)),
         )
 
-    by : (b : Bool) → ltb (distance f v) axis ≡ b → cond b (graded (distance f v)) noValue ≡ short x k → Numbers x k
+    by : (b : Bool) → ltb (distance f v) axis ≡ b → valued (cond b (away (distance f v)) nowhere) ≡ short x k → Numbers x k
     by true t e = at (eqb (distance f v) 0) (ltb-true (distance f v) axis t) e
     by false t e = no-short noValue x k (inr refl) e
 

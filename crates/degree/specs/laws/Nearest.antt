@@ -25,12 +25,13 @@ use Rattle.meaning.specs.laws.Truth.{val-holds}
 use Rattle.question.specs.Question.{read, answer, askingLines, setLines}
 use Rattle.question.specs.laws.Lines.{read-reads, reads-read}
 use Rattle.number.specs.laws.Boolean.{none-left}
+use Rattle.ratio.specs.Apart.{apart}
 use Rattle.ratio.specs.Degree.{distanceOf, degreeOf}
 use Rattle.ratio.specs.laws.Degree.{distance-exact}
 use Rattle.targets.specs.Target.{offAxis}
 use Rattle.targets.specs.laws.Target.{sub-above, sub-below}
-use Rattle.degree.specs.Degree.{Value, met, short, noValue, graded, valueOf, targetLine, nearnessOf}
-use Rattle.degree.specs.Nearest.{apart, Member, Distance, TrueOf, Near}
+use Rattle.degree.specs.Degree.{Reach, away, nowhere, Value, met, short, noValue, graded, valued, valueOf, targetLine, nearnessOf}
+use Rattle.degree.specs.Nearest.{Member, Distance, TrueOf, Near}
 
 module _ (bytes text : List ℕ) (a : Accepted bytes) (v : ℕ) (h : v < axis) where
   -- the answered set
@@ -72,7 +73,7 @@ module _ (bytes text : List ℕ) (a : Accepted bytes) (v : ℕ) (h : v < axis) w
   value-says : TrueOf (readings bytes) (read text) v (valueOf set v)
   value-says = by (ltb (distance set v) axis) refl
     where
-      by : (b : Bool) → ltb (distance set v) axis ≡ b → TrueOf (readings bytes) (read text) v (cond b (graded (distance set v)) noValue)
+      by : (b : Bool) → ltb (distance set v) axis ≡ b → TrueOf (readings bytes) (read text) v (valued (cond b (away (distance set v)) nowhere))
       by true e = graded-says (ltb-true (distance set v) axis e)
       by false e = λ w hw m. omega (arith, ltb-false (distance set v) axis e, distance-least set v h w hw (member-true w m))
 
