@@ -1,5 +1,6 @@
 -- Document 02, Paper 8: one text and one target are put to a named number of recordings, handed in one after another. What each call answers, over plain lists.
-use Prim.Native.Nat.{ℕ, suc, _+_}
+use Prim.Native.Nat.{ℕ, suc, _+_, _≤_}
+use mathlib.Core.Path.{_≡_}
 use mathlib.Core.Bool.{Bool, cond, _||_}
 use mathlib.Core.List.{List, [], _∷_, _++_}
 use lib.Dec.{eqb, ltb}
@@ -9,7 +10,7 @@ use lib.Ieee.{Float}
 use Rattle.refusal.specs.Outcome.{Outcome, result, refused, Line, line, judged}
 use Rattle.text.specs.Told.{textLines}
 use Rattle.degree.specs.Degree.{Reach, away, nowhere, targetLine, reachOf}
-use Rattle.mean.specs.Mean.{meanOf}
+use Rattle.mean.specs.Mean.{meanOf, exactMean, WithinBillionth}
 
 -- ---- THE FIGURES of a list of batches, each by how far its set is from the target
 
@@ -129,3 +130,17 @@ stageAfter room (underWay n xs) (add recording) = onward n xs (reachOf recording
 abbrev pub answers : ℕ → Stage → List Call → List (Outcome Answer)
 answers room s [] = []
 answers room s (c ∷ cs) = answered room s c ∷ answers room (stageAfter room s c) cs
+
+-- ---- THE BOUND
+
+-- "The mean lies within one part in 1,000,000,000 of the exact fraction" of these distances; with none left there is no mean
+abbrev pub MeanNear : List ℕ → MeanDegree → Type 0
+MeanNear ds noMean = ds ≡ []
+MeanNear ds (meanDegree x) = WithinBillionth x (exactMean ds)
+
+-- figures that some list of up to 1,000 batches has, with the mean near
+pub record Reported (f : Figures) : Type 0 where
+  pub batches : List Reach
+  pub few : length batches ≤ mostBatches
+  pub figures : f ≡ figuresOf batches
+  pub near : MeanNear (distancesIn batches) (f .mean)

@@ -38,7 +38,7 @@ cross-quotient x e y g a c b d p q =
     omega arith
 
 -- a product above 0 has its first factor above 0
-first-some : (n u d : ℕ) → 0 < n * u * d → n ≡ 0 → ⊥
+pub first-some : (n u d : ℕ) → 0 < n * u * d → n ≡ 0 → ⊥
 first-some n u d h e = lt-irrefl 0 (subst (λ (z : ℕ). 0 < z) (ap (λ (z : ℕ). z * u * d) e ∙ ap (λ (z : ℕ). z * d) (zero-mul u) ∙ zero-mul d) h)
 
 some-first : (n : ℕ) → (n ≡ 0 → ⊥) → 0 < n

@@ -85,7 +85,7 @@ units-number f s q k = by (ltb (q * 2 ^ k) (2 ^ (low f + suc (emax f))))
     by true = odd-number (suc (prec f)) s q k (low f)
     by false = tt
 
-round-number : (f : Format) (s : Bool) (num den : ℕ) → T (not (isNan (round f s num den)))
+pub round-number : (f : Format) (s : Bool) (num den : ℕ) → T (not (isNan (round f s num den)))
 unfolding round
 round-number f s num den = units-number f s _ _
 

@@ -13,12 +13,13 @@ use Rattle.ratio.specs.Degree.{degreeOf}
 use Rattle.degree.specs.Degree.{Reach, away, nowhere}
 use Rattle.degree.specs.inner.Reach.{reachAt}
 use Rattle.mean.specs.inner.Running.{next, running}
-use Rattle.report.specs.Report.{MeanDegree, noMean, meanDegree, Figures, metIn, emptyIn, distancesIn, sumIn, mostBatches}
+use Rattle.report.specs.Report as told
+use Rattle.report.specs.Report.{MeanDegree, noMean, meanDegree, Figures, Answer, given, metIn, emptyIn, distancesIn, sumIn, mostBatches}
 use Rattle.report.specs.declared.Report.{Report}
 use Rattle.report.specs.declared.Added.{Added}
 use Rattle.report.specs.declared.Added.the-variants as variant
 use Rattle.report.specs.declared.Named.{Named}
-use Rattle.report.specs.declared.Named.the-variants as answer
+use Rattle.report.specs.declared.Named.the-variants as named
 
 -- after the batches of a list
 abbrev pub runningOf : ℕ → List Reach → Report
@@ -66,6 +67,13 @@ additionOf (variant.Stopped x) = stopped (numberOf x) (placeOf x)
 additionOf (variant.Taken r) = taken r
 additionOf (variant.Last r) = last r
 
+-- what the caller is told
+abbrev pub answerIn : Addition → Outcome Answer
+answerIn none = refused 15 0
+answerIn (stopped n p) = refused n p
+answerIn (taken r) = result told.taken
+answerIn (last r) = result (given (figuresIn r))
+
 -- a report with one batch more, which may be the last
 abbrev pub counted : Report → Addition
 counted r = cond (eqb (r .taken) (r .count)) (last r) (taken r)
@@ -77,8 +85,8 @@ addedTo r (refused n p) = stopped n p
 
 -- the index of the target that was named, or the refusal
 abbrev pub namedOf : Named → Outcome ℕ
-namedOf (answer.Index v) = result v
-namedOf (answer.Refused x) = refused (numberOf x) (placeOf x)
+namedOf (named.Index v) = result v
+namedOf (named.Refused x) = refused (numberOf x) (placeOf x)
 
 -- each distance is one of the axis
 abbrev pub Small : Outcome Reach → Type 0
