@@ -1,7 +1,9 @@
 -- The running sum of degrees and the last mean, from batch to batch.
 use Prim.Native.Nat.{ℕ, suc}
 use mathlib.Core.List.{List, [], _∷_}
-use lib.Ieee.{Float, binary64, add}
+use mathlib.Core.Bool.{not}
+use lib.Dec.{T}
+use lib.Ieee.{Float, binary64, add, isNan, fits}
 use Rattle.ratio.specs.Degree.{degreeOf}
 use Rattle.mean.specs.Mean.{nought, over}
 use Rattle.mean.specs.declared.Mean.{Mean}
@@ -21,3 +23,17 @@ runFrom m n (d ∷ ds) = runFrom (next m (suc n) (degreeOf d)) (suc n) ds
 
 abbrev pub running : List ℕ → Mean
 running ds = runFrom start 0 ds
+
+-- x is a number
+abbrev pub Number : Float → Type 0
+Number x = T (not (isNan x))
+
+-- the sum and the mean are numbers
+pub record Numbers (m : Mean) : Type 0 where
+  pub sum : Number (m .sum)
+  pub mean : Number (m .mean)
+
+-- and numbers of binary64
+pub record Fitting (m : Mean) : Type 0 where
+  pub sum : T (fits binary64 (m .sum))
+  pub mean : T (fits binary64 (m .mean))

@@ -15,14 +15,10 @@ use borrow.Author.Tests.{ne-eqb}
 use Rattle.ratio.specs.Degree.{degreeOf}
 use Rattle.ratio.specs.laws.Degree.{int-exact, round-number}
 use Rattle.mean.specs.Mean.{over, AtMost}
-use Rattle.mean.specs.inner.Running.{start, next, runFrom, running}
+use Rattle.mean.specs.inner.Running.{start, next, runFrom, running, Number, Numbers, Fitting}
 use Rattle.mean.specs.laws.Near.{degree-close}
 use Rattle.mean.specs.laws.Fractions.{first-some}
 use Rattle.mean.specs.declared.Mean.{Mean}
-
--- x is a number
-abbrev pub Number : Float → Type 0
-Number x = T (not (isNan x))
 
 -- by a test
 number-cond : (b : Bool) (x y : Float) → Number x → Number y → Number (cond b x y)
@@ -59,11 +55,6 @@ div-number (fin s m e) (fin t i d) n p h k =
     subst (λ (b : Bool). Number (cond b (cond (eqb m 0) nan (inf (unlike s t))) (round binary64 (unlike s t) (m * up e * down d) (i * up d * down e)))) (sym (ne-eqb i 0 some))
     (round-number binary64 (unlike s t) (m * up e * down d) (i * up d * down e))
 
--- the sum and the mean are numbers
-pub record Numbers (m : Mean) : Type 0 where
-  pub sum : Number (m .sum)
-  pub mean : Number (m .mean)
-
 pub next-numbers : (m : Mean) (n d : ℕ) → 0 < n → n ≤ 1000 → d ≤ 4000000000 → Number (m .sum) → Numbers (next m n (degreeOf d))
 next-numbers m n d p l h k =
     let g = degree-close d h in
@@ -79,10 +70,6 @@ unfolding isNan
 running-numbers ds h l = runs-numbers ds start 0 h (omega arith) (record { sum = tt; mean = tt })
 
 -- ---- and numbers of binary64
-
-pub record Fitting (m : Mean) : Type 0 where
-  pub sum : T (fits binary64 (m .sum))
-  pub mean : T (fits binary64 (m .mean))
 
 pub next-fitting : (m : Mean) (n : ℕ) (x : Float) → Fitting (next m n x)
 next-fitting m n x = record { sum = add-fits binary64 (m .sum) x; mean = div-fits binary64 (add binary64 (m .sum) x) (ofInt binary64 (pos n)) }

@@ -13,9 +13,9 @@ use Rattle.refusal.specs.Outcome.{Outcome, result, refused}
 use Rattle.degree.specs.Degree.{Reach, away, nowhere, reachOf}
 use Rattle.degree.specs.laws.Reach.{away-small}
 use Rattle.mean.specs.Mean.{AtMost, exactMean, WithinBillionth}
-use Rattle.mean.specs.inner.Running.{running}
+use Rattle.mean.specs.inner.Running.{running, Numbers}
 use Rattle.mean.specs.laws.Near.{mean-near}
-use Rattle.mean.specs.laws.Number.{Number, Numbers, running-numbers}
+use Rattle.mean.specs.laws.Number.{running-numbers}
 use Rattle.report.specs.Report.{MeanDegree, noMean, meanDegree, Figures, metIn, emptyIn, distancesIn, sumIn, meanIn, figuresOf, Naming, mostBatches, Answer, given, told, MeanNear, Reported}
 use Rattle.report.specs.Report as report
 use Rattle.report.specs.inner.Running.{runningOf, withBatch, figuresIn, Sound, Addition, taken, last, stopped, counted, addedTo, answerIn}

@@ -1,0 +1,5 @@
+pub mod Words
+pub mod Read
+pub mod Tell
+pub mod Start
+pub mod Add

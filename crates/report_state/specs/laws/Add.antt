@@ -1,0 +1,91 @@
+-- What a recording leads to can be written and told.
+use Prim.Native.Nat.{ℕ, _+_, _-_, _≤_, _<_}
+use native.Mathlib.Omega.{arith}
+use mathlib.Core.Path.{_≡_, refl, sym, ap, _∙_, subst}
+use mathlib.Core.Bool.{Bool, true, false, not, cond, _||_}
+use mathlib.Core.List.{List, _∷_, _++_}
+use lib.Dec.{T, eqb, ltb, leb}
+use lib.ListN.{length}
+use lib.Ieee.{isNan}
+use Rattle.number.specs.Axis.{axis}
+use Rattle.number.specs.laws.Boolean.{none-right}
+use Rattle.refusal.specs.Outcome.{Outcome, result, refused}
+use Rattle.recording.specs.Recording.{noRecord}
+use Rattle.text.specs.Told.{textLines}
+use Rattle.question.specs.Question.{read, answer, setLines}
+use Rattle.degree.specs.Degree.{Reach, away, nowhere, reachIn}
+use Rattle.degree.specs.inner.Reach.{reachAt}
+use Rattle.degree.specs.laws.Reach.{at-small}
+use Rattle.reply.specs.Reply.{half}
+use Rattle.reply.specs.laws.Place.{place-below}
+use Rattle.mean.specs.inner.Running.{Numbers}
+use Rattle.mean.specs.laws.Number.{next-numbers}
+use Rattle.report.specs.Report.{reportBytes}
+use Rattle.report.specs.inner.Running.{withBatch, faulty, Sound, Addition, none, stopped, taken, last, counted, addedTo, additionTo}
+use Rattle.report.specs.laws.Running.{sound-of}
+use Rattle.report.specs.declared.Report.{Report}
+use Rattle.report_state.specs.State.{reportIn, indexIn, textIn, stateless, additionIn}
+use Rattle.report_state.specs.inner.Kept.{Held, Writable, Tellable}
+use Rattle.report_state.specs.laws.Read.{held-of}
+
+-- the place of a refusal is a record of a recording, or 0
+at-place : (bytes text : List ℕ) (v n p : ℕ) → reachAt bytes text v ≡ refused n p → p < half
+unfolding reachAt
+at-place bytes text v n p e =
+    place-below bytes (noRecord bytes ∷ textLines text ++ setLines bytes (read text)) (reachIn (answer bytes text) v) n p (refl, (refl, (refl, (refl, (refl, (refl, tt)))))) e
+
+-- ---- one batch more of a sound report
+
+is-number : (b : Bool) → b ≡ false → T (not b)
+is-number true h = absurd (no (ap not h))
+  where
+    no : false ≡ true → ⊥
+    no e = subst T (sym e) tt
+is-number false h = tt
+
+batch-numbers : (r : Report) (x : Reach) → Sound r → ((d : ℕ) → x ≡ away d → d < axis) → Numbers (withBatch r x .mean)
+batch-numbers r (away d) s h =
+    let l : d < axis = h d refl in
+    let a = s .more in
+    let b = s .few in
+    let c = s .parts in
+    next-numbers (r .mean) (r .taken + 1 - r .empty) d (omega arith) (omega arith) (omega arith) (is-number (isNan (r .mean .sum)) (s .sum-number))
+batch-numbers r nowhere s h = record { sum = is-number (isNan (r .mean .sum)) (s .sum-number); mean = is-number (isNan (r .mean .mean)) (s .mean-number) }
+
+-- what it can be: written to bytes b, and told
+pub record Fine (a : Addition) (b : List ℕ) : Type 0 where
+  pub writable : Writable a b
+  pub tellable : Tellable a
+
+counted-fine : (r : Report) (b : List ℕ) → reportBytes ≤ length b → Numbers (r .mean) → Fine (counted r) b
+counted-fine r b l n = by (eqb (r .taken) (r .count))
+  where
+    by : (t : Bool) → Fine (cond t (last r) (taken r)) b
+    by true = record { writable = omega arith; tellable = n }
+    by false = record { writable = (omega arith, n); tellable = tt }
+
+module _ (r : Report) (b recording text : List ℕ) (v : ℕ) (l : reportBytes ≤ length b) where
+  sound-fine : Sound r → Fine (addedTo r (reachAt recording text v)) b
+  sound-fine s = by (reachAt recording text v) refl
+    where
+      by : (o : Outcome Reach) → reachAt recording text v ≡ o → Fine (addedTo r o) b
+      by (refused n p) e = record { writable = omega arith; tellable = at-place recording text v n p e }
+      by (result x) e = counted-fine (withBatch r x) b l (batch-numbers r x s (λ d q. at-small recording text v d (e ∙ ap result q)))
+
+  addition-fine : Fine (additionTo r recording text v) b
+  unfolding additionTo
+  addition-fine = by (leb axis v || faulty r) refl
+    where
+      by : (t : Bool) → (leb axis v || faulty r) ≡ t → Fine (cond t none (addedTo r (reachAt recording text v))) b
+      by true e = record { writable = tt; tellable = tt }
+      by false e = sound-fine (sound-of r (none-right (leb axis v) (faulty r) e))
+
+pub in-fine : (b recording : List ℕ) → Fine (additionIn b recording) b
+in-fine b recording = by (stateless b) refl
+  where
+    by : (t : Bool) → stateless b ≡ t → Fine (cond t none (additionTo (reportIn b) recording (textIn b) (indexIn b))) b
+    by true e = record { writable = tt; tellable = tt }
+    by false e = addition-fine (reportIn b) b recording (textIn b) (indexIn b) (held-of b e .long-enough)
+
+pub fine-of : (b recording : List ℕ) (a : Addition) → a ≡ additionIn b recording → Fine a b
+fine-of b recording a e = subst (λ (x : Addition). Fine x b) (sym e) (in-fine b recording)
