@@ -1,3 +1,4 @@
 pub mod Running
 pub mod Naming
 pub mod Steps
+pub mod Fold

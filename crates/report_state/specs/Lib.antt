@@ -1,4 +1,5 @@
 pub mod State
 pub mod Call
+pub mod Calls
 pub mod inner
 pub mod laws

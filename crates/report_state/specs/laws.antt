@@ -3,3 +3,5 @@ pub mod Read
 pub mod Tell
 pub mod Start
 pub mod Add
+pub mod Carried
+pub mod Calls

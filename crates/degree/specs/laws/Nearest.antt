@@ -78,7 +78,7 @@ module _ (bytes text : List ℕ) (a : Accepted bytes) (v : ℕ) (h : v < axis) w
       by false e = λ w hw m. omega (arith, ltb-false (distance set v) axis e, distance-least set v h w hw (member-true w m))
 
 -- a target that 12 does not refuse is a number of the axis
-on-axis : (g : ℤ) → offAxis g ≡ false → (index g < axis) × (whole (index g) ≡ g)
+pub on-axis : (g : ℤ) → offAxis g ≡ false → (index g < axis) × (whole (index g) ≡ g)
 on-axis (pos n) h =
     let b : n ≤ origin = ltb-false origin n h in
     let e : n + origin - origin ≡ n = omega arith in

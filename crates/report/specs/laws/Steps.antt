@@ -73,7 +73,7 @@ running-sound n xs h l k =
 
 -- ---- one recording
 
-length-more : (xs : List Reach) (x : Reach) → length (xs ++ x ∷ []) ≡ suc (length xs)
+pub length-more : (xs : List Reach) (x : Reach) → length (xs ++ x ∷ []) ≡ suc (length xs)
 length-more xs x = length-append xs (x ∷ []) ∙ by (length xs)
   where
     by : (n : ℕ) → n + 1 ≡ suc n

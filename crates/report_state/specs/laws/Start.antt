@@ -61,7 +61,7 @@ module _ (n : Naming) (old : List ℕ) where
   abbrev room : ℕ
   room = length old
 
-  named-mapped : named room n ≡ mapped (λ (v : ℕ). taken) (indexOf n room)
+  pub named-mapped : named room n ≡ mapped (λ (v : ℕ). taken) (indexOf n room)
   named-mapped = sym (judged-mapped (λ (v : ℕ). taken) (namingLines n room) (index (n .target)))
 
   module _ (x : Named) (h : namedOf x ≡ indexOf n room) where

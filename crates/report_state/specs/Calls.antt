@@ -1,0 +1,57 @@
+-- Document 02, Paper 8: a list of report calls as a caller makes them, of the numbers and bytes that they leave, each handed the report under way as the last
+-- call gave it, read against the plain fold of report/specs/Report.
+use Prim.Native.Nat.{ℕ}
+use mathlib.Core.Path.{_≡_}
+use mathlib.Core.List.{List, [], _∷_, map, List·Memᴰ}
+use lib.ListN.{length}
+use Rattle.refusal.specs.Outcome.{Outcome, result}
+use Rattle.reply.specs.Reply.{packed}
+use Rattle.report.specs.Report.{Naming, Answer, given, Figures, Reported, Stage, closed, Call, answers}
+use Rattle.report.specs.Report as report
+use Rattle.report_state.specs.Call.{answerTold, Reports, ReportStartCall, ReportAddCall}
+
+-- a naming; or a recording of any bytes, with what stands at the four places
+pub data Made : Type 0 where
+  start : Naming → Made
+  add : (recording : List ℕ) (met empty distances mean : ℕ) → Made
+
+-- the call without the caller's memory
+abbrev pub plain : Made → Call
+plain (start n) = report.start n
+plain (add recording m e d x) = report.add recording
+
+-- what a call returned, the report under way after it, and the four places; a naming has none
+pub record Returned : Type 0 where
+  pub returned : ℕ
+  pub state : List ℕ
+  pub met : ℕ
+  pub empty : ℕ
+  pub distances : ℕ
+  pub mean : ℕ
+
+-- calls that each meet their contract, begun with the bytes b as the report
+abbrev pub CallsMade : List ℕ → List Made → List Returned → Type 0
+CallsMade b [] [] = Unit {0}
+CallsMade b [] (x ∷ xs) = ⊥
+CallsMade b (c ∷ cs) [] = ⊥
+CallsMade b (start n ∷ cs) (x ∷ xs) = ReportStartCall (n .count) (n .text) (n .target) b (x .returned) (x .state) × CallsMade (x .state) cs xs
+CallsMade b (add recording m e d y ∷ cs) (x ∷ xs) =
+    ReportAddCall b recording m e d y (x .returned) (x .state) (x .met) (x .empty) (x .distances) (x .mean) × CallsMade (x .state) cs xs
+
+-- a call returned, and left at its places, what the outcome o says
+abbrev pub ReturnedAs : Outcome Answer → Made → Returned → Type 0
+ReturnedAs o (start n) x = x .returned ≡ packed (answerTold o)
+ReturnedAs o (add recording m e d y) x = Reports o m e d y (x .returned) (x .met) (x .empty) (x .distances) (x .mean)
+
+abbrev pub AllReturnedAs : List (Outcome Answer) → List Made → List Returned → Type 0
+AllReturnedAs [] [] [] = Unit {0}
+AllReturnedAs (o ∷ os) (c ∷ cs) (x ∷ xs) = ReturnedAs o c x × AllReturnedAs os cs xs
+AllReturnedAs [] (c ∷ cs) xs = ⊥
+AllReturnedAs [] [] (x ∷ xs) = ⊥
+AllReturnedAs (o ∷ os) [] xs = ⊥
+AllReturnedAs (o ∷ os) (c ∷ cs) [] = ⊥
+
+-- THE CLAIM, of a whole list of calls that begins with no report under way: every call answers as the fold does, and every report that is given has its mean near
+pub record AsTheFold (room : ℕ) (cs : List Made) (xs : List Returned) : Type 0 where
+  pub answered : AllReturnedAs (answers room closed (map plain cs)) cs xs
+  pub near : (f : Figures) → List·Memᴰ (result (given f)) (answers room closed (map plain cs)) → Reported f
