@@ -1,8 +1,5 @@
 // What a call answers, as the number that it returns and the places that it leaves to its caller.
 ghost use mathlib.Core.Path.{_≡_};
-ghost use mathlib.Core.Bool.{not};
-ghost use lib.Dec.{T};
-ghost use lib.Ieee.{binary64, toBits, isNan};
 ghost use Rattle.band.specs.Call.{partOf};
 ghost use Rattle.band.specs.Call.{outcomeOf as bandsIn};
 ghost use Rattle.band.specs.inner.OnAxis.{EndsOnAxis};
@@ -13,14 +10,6 @@ ghost use Rattle.reply.specs.Reply.{InHalf};
 ghost use Rattle.boundary.specs.Boundary.{Degrees, valueTold, Pairs, pairTold, InBands, bandTold, filled, lowAfter, highAfter, Orders, findingTold};
 ghost use Rattle.boundary.specs.inner.Fits.{NumbersIn, EndsIn};
 
-// The bits of a number in binary64.
-fn bits(x: f64) -> u64
-    requires { ⌜ T (not (isNan x)) ⌝ }
-    ensures { λ r. ⌜ r ≡ toBits binary64 x ⌝ }
-{
-    f64::to_bits(x)
-}
-
 // 0 where the target is met, 1 where it is missed and its distance and degree are written, 2 where there is no value, or the refusal.
 pub fn tell_degree(near: degree::Nearness, distance: &mut u64, degree: &mut u64) -> u64
     requires { ⌜ InHalf (valueTold (valueIn near)) × NumbersIn (valueIn near) ⌝ }
@@ -29,8 +18,8 @@ pub fn tell_degree(near: degree::Nearness, distance: &mut u64, degree: &mut u64)
     match near {
         degree::Nearness::Met => 0,
         degree::Nearness::Short(d, k) => {
-            *distance = bits(d);
-            *degree = bits(k);
+            *distance = ratio::bits(d);
+            *degree = ratio::bits(k);
             1
         }
         degree::Nearness::NoValue => 2,

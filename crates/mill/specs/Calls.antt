@@ -11,6 +11,8 @@ use Rattle.question.specs.Question.{questionOf}
 use Rattle.thin.specs.Thin.{thinOf}
 use Rattle.sheet.specs.Call.{orderOf}
 use Rattle.lab.specs.Lab.{labQuestionOf, labDegreeOf, labPairOf}
+use Rattle.report.specs.inner.Naming.{naming}
+use Rattle.report_state.specs.Call.{Starts, Adds}
 use Rattle.boundary.specs.Boundary.{Writes, Degrees, Pairs, InBands, Orders}
 
 abbrev pub QuestionCall : (recording text out : List ℕ) (r : ℕ) (after : List ℕ) → Type 0
@@ -41,3 +43,10 @@ LabDegreeCall recording marks text target distance degree r first second = Degre
 
 abbrev pub LabPairCall : (recording : List ℕ) (curve : ℕ) (target : ℤ) (earlier later r first second : ℕ) → Type 0
 LabPairCall recording curve target earlier later r first second = Pairs (labPairOf recording curve target) earlier later r first second
+
+-- the calls of a report (document 02, Paper 8); `report` is the report under way before the call, `after` what the call hands on
+abbrev pub ReportStartCall : (count : ℕ) (text : List ℕ) (target : ℤ) (report : List ℕ) (r : ℕ) (after : List ℕ) → Type 0
+ReportStartCall count text target report r after = Starts (naming count text target) report r after
+
+abbrev pub ReportAddCall : (report recording : List ℕ) (met empty distances mean r : ℕ) (after : List ℕ) (first second third fourth : ℕ) → Type 0
+ReportAddCall report recording met empty distances mean r after first second third fourth = Adds report recording met empty distances mean r after first second third fourth

@@ -1,5 +1,5 @@
 // The C boundary of the library.
-ghost use Rattle.mill.specs.Calls.{QuestionCall, DegreeCall, PairCall, ThinCall, BandCall, OrderCall, LabQuestionCall, LabDegreeCall, LabPairCall};
+ghost use Rattle.mill.specs.Calls.{QuestionCall, DegreeCall, PairCall, ThinCall, BandCall, OrderCall, LabQuestionCall, LabDegreeCall, LabPairCall, ReportStartCall, ReportAddCall};
 
 // THE QUESTION CALL. Returns how many bytes of the output the answered set takes, or the refusal.
 #[no_mangle]
@@ -121,4 +121,28 @@ pub extern "C" fn mill_lab_pair(
 {
     let found = lab::lab_pair(rec, curve, target);
     boundary::tell_pair(found, earlier, later)
+}
+
+// THE START CALL OF A REPORT. Names the count of the recordings, the text and the target; `report` holds the report under way from here on. Returns 0, or the refusal.
+#[no_mangle]
+pub extern "C" fn mill_report_start(count: u32, text: &[u8], target: i64, report: &mut [u8]) -> u64
+    ensures { λ r. ⌜ ReportStartCall count (now (text .entry)) target (now (report .entry)) r (now (report .exit)) ⌝ }
+{
+    report_state::start(count, text, target, report)
+}
+
+// THE ADD CALL OF A REPORT. Hands in the next recording. Returns 0 where it is taken, 1 where the report is written, 2 where it is written without a mean, or
+// the refusal. The mean is handed over by its bits: to C it is a double.
+#[no_mangle]
+pub extern "C" fn mill_report_add(
+    report: &mut [u8],
+    rec: &[u8],
+    met: &mut u32,
+    empty: &mut u32,
+    distances: &mut u64,
+    mean: &mut u64,
+) -> u64
+    ensures { λ r. ⌜ ReportAddCall (now (report .entry)) (now (rec .entry)) (now (met .entry)) (now (empty .entry)) (now (distances .entry)) (now (mean .entry)) r (now (report .exit)) (now (met .exit)) (now (empty .exit)) (now (distances .exit)) (now (mean .exit)) ⌝ }
+{
+    report_state::add(report, rec, met, empty, distances, mean)
 }

@@ -2,7 +2,6 @@
 use Prim.Native.Nat.{ℕ}
 use mathlib.Core.Path.{_≡_}
 use mathlib.Core.List.{List}
-use lib.IntN.{ℤ}
 use lib.ListN.{length}
 use lib.Ieee.{binary64, toBits}
 use Rattle.refusal.specs.Outcome.{Outcome, result, refused, judged}
@@ -10,7 +9,6 @@ use Rattle.meaning.specs.inner.Coded.{index}
 use Rattle.reply.specs.Reply.{packed}
 use Rattle.report.specs.Report.{MeanDegree, noMean, meanDegree, Naming, namingLines, named, Answer, taken, given}
 use Rattle.report.specs.inner.Running.{answerIn}
-use Rattle.report.specs.inner.Naming.{naming}
 use Rattle.report_state.specs.State.{startAfter, additionIn, addAfter}
 
 -- 1 where there is a mean, else 2
@@ -66,10 +64,7 @@ pub record Starts (n : Naming) (old : List ℕ) (r : ℕ) (new : List ℕ) : Typ
   pub returned : r ≡ packed (answerTold (named (length old) n))
   pub state : new ≡ startAfter n (indexOf n (length old)) old
 
-abbrev pub ReportStartCall : (count : ℕ) (text : List ℕ) (target : ℤ) (report : List ℕ) (r : ℕ) (after : List ℕ) → Type 0
-ReportStartCall count text target report r after = Starts (naming count text target) report r after
-
 -- THE ADD CALL, of any bytes that are handed in as the report
-pub record ReportAddCall (report recording : List ℕ) (met empty distances mean r : ℕ) (after : List ℕ) (first second third fourth : ℕ) : Type 0 where
+pub record Adds (report recording : List ℕ) (met empty distances mean r : ℕ) (after : List ℕ) (first second third fourth : ℕ) : Type 0 where
   pub told : Reports (answerIn (additionIn report recording)) met empty distances mean r first second third fourth
   pub state : after ≡ addAfter (additionIn report recording) report

@@ -8,7 +8,7 @@ use Rattle.refusal.specs.Outcome.{Outcome, result}
 use Rattle.reply.specs.Reply.{packed}
 use Rattle.report.specs.Report.{Naming, Answer, given, Figures, Reported, Stage, closed, Call, answers}
 use Rattle.report.specs.Report as report
-use Rattle.report_state.specs.Call.{answerTold, Reports, ReportStartCall, ReportAddCall}
+use Rattle.report_state.specs.Call.{answerTold, Reports, Starts, Adds}
 
 -- a naming; or a recording of any bytes, with what stands at the four places
 pub data Made : Type 0 where
@@ -34,9 +34,9 @@ abbrev pub CallsMade : List ℕ → List Made → List Returned → Type 0
 CallsMade b [] [] = Unit {0}
 CallsMade b [] (x ∷ xs) = ⊥
 CallsMade b (c ∷ cs) [] = ⊥
-CallsMade b (start n ∷ cs) (x ∷ xs) = ReportStartCall (n .count) (n .text) (n .target) b (x .returned) (x .state) × CallsMade (x .state) cs xs
+CallsMade b (start n ∷ cs) (x ∷ xs) = Starts n b (x .returned) (x .state) × CallsMade (x .state) cs xs
 CallsMade b (add recording m e d y ∷ cs) (x ∷ xs) =
-    ReportAddCall b recording m e d y (x .returned) (x .state) (x .met) (x .empty) (x .distances) (x .mean) × CallsMade (x .state) cs xs
+    Adds b recording m e d y (x .returned) (x .state) (x .met) (x .empty) (x .distances) (x .mean) × CallsMade (x .state) cs xs
 
 -- a call returned, and left at its places, what the outcome o says
 abbrev pub ReturnedAs : Outcome Answer → Made → Returned → Type 0
@@ -55,3 +55,15 @@ AllReturnedAs (o ∷ os) (c ∷ cs) [] = ⊥
 pub record AsTheFold (room : ℕ) (cs : List Made) (xs : List Returned) : Type 0 where
   pub answered : AllReturnedAs (answers room closed (map plain cs)) cs xs
   pub near : (f : Figures) → List·Memᴰ (result (given f)) (answers room closed (map plain cs)) → Reported f
+
+-- the second list of calls is the first with other recordings in place of its own, each for its own by R, of the text that was named last; all else is alike
+module _ (R : (text held full : List ℕ) → Type 0) where
+  abbrev pub Exchanged : List ℕ → List Made → List Made → Type 0
+  Exchanged text [] [] = Unit {0}
+  Exchanged text [] (d ∷ ds) = ⊥
+  Exchanged text (c ∷ cs) [] = ⊥
+  Exchanged text (start n ∷ cs) (start m ∷ ds) = (n ≡ m) × Exchanged (n .text) cs ds
+  Exchanged text (start n ∷ cs) (add full m′ e′ d′ x′ ∷ ds) = ⊥
+  Exchanged text (add held m e d x ∷ cs) (start n ∷ ds) = ⊥
+  Exchanged text (add held m e d x ∷ cs) (add full m′ e′ d′ x′ ∷ ds) =
+      R text held full × (m ≡ m′) × (e ≡ e′) × (d ≡ d′) × (x ≡ x′) × Exchanged text cs ds

@@ -5,3 +5,4 @@ pub mod Start
 pub mod Add
 pub mod Carried
 pub mod Calls
+pub mod Exchanged

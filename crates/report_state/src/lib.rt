@@ -7,9 +7,10 @@ ghost use lib.ListN.{length, take, drop};
 ghost use lib.Ieee.{binary64, ofBits, nanBits};
 ghost use Rattle.number.specs.Words.{wordBytes};
 ghost use Rattle.mean.specs.inner.Running.{Numbers};
+ghost use Rattle.report.specs.inner.Naming.{naming};
 ghost use Rattle.report.specs.inner.Running.{additionOf, answerIn, last};
 ghost use Rattle.report_state.specs.State.{low, high, long, figureWords, wordsBytes, reportIn, stateless, closedBytes, namedBytes, additionIn, addAfter};
-ghost use Rattle.report_state.specs.Call.{Reports, ReportStartCall, ReportAddCall};
+ghost use Rattle.report_state.specs.Call.{Reports, Starts, Adds};
 ghost use Rattle.report_state.specs.inner.Kept.{Held, Writable, Tellable, endedBytes};
 use mean::Mean;
 use refusal::Refusal;
@@ -250,7 +251,7 @@ pub fn add(
     distances: &mut u64,
     mean: &mut u64,
 ) -> u64
-    ensures { λ r. ⌜ ReportAddCall (now (buffer .entry)) (now (rec .entry)) (now (met .entry)) (now (empty .entry)) (now (distances .entry)) (now (mean .entry)) r (now (buffer .exit)) (now (met .exit)) (now (empty .exit)) (now (distances .exit)) (now (mean .exit)) ⌝ }
+    ensures { λ r. ⌜ Adds (now (buffer .entry)) (now (rec .entry)) (now (met .entry)) (now (empty .entry)) (now (distances .entry)) (now (mean .entry)) r (now (buffer .exit)) (now (met .exit)) (now (empty .exit)) (now (distances .exit)) (now (mean .exit)) ⌝ }
 {
     let a = added(buffer, rec);
     remember(buffer, a);
@@ -281,7 +282,7 @@ fn end(buffer: &mut [u8])
 
 // THE START CALL. Returns 0, or the refusal.
 pub fn start(count: u32, text: &[u8], target: i64, buffer: &mut [u8]) -> u64
-    ensures { λ r. ⌜ ReportStartCall count (now (text .entry)) target (now (buffer .entry)) r (now (buffer .exit)) ⌝ }
+    ensures { λ r. ⌜ Starts (naming count (now (text .entry)) target) (now (buffer .entry)) r (now (buffer .exit)) ⌝ }
 {
     let named = report::name(count, text, target, buffer.len());
     match named {

@@ -3,16 +3,17 @@ use Prim.Native.Nat.{ℕ, _+_, _-_, _≤_, _<_}
 use native.Mathlib.Omega.{arith}
 use mathlib.Core.Path.{_≡_, refl, sym, ap, _∙_, subst}
 use mathlib.Core.Bool.{Bool, true, false, not, cond, _||_}
-use mathlib.Core.List.{List, _∷_, _++_}
+use mathlib.Core.List.{List, [], _∷_, _++_}
 use lib.Dec.{T, eqb, ltb, leb}
 use lib.ListN.{length}
 use lib.Ieee.{isNan}
 use Rattle.number.specs.Axis.{axis}
 use Rattle.number.specs.laws.Boolean.{none-right}
-use Rattle.refusal.specs.Outcome.{Outcome, result, refused}
+use Rattle.refusal.specs.Outcome.{Outcome, result, refused, Line, judged}
+use Rattle.recording.specs.laws.Outcome.{no-result}
 use Rattle.recording.specs.Recording.{noRecord}
 use Rattle.text.specs.Told.{textLines}
-use Rattle.question.specs.Question.{read, answer, setLines}
+use Rattle.question.specs.Question.{read, answer, askingLines, setLines}
 use Rattle.degree.specs.Degree.{Reach, away, nowhere, reachIn}
 use Rattle.degree.specs.inner.Reach.{reachAt}
 use Rattle.degree.specs.laws.Reach.{at-small}
@@ -34,6 +35,30 @@ unfolding reachAt
 at-place bytes text v n p e =
     place-below bytes (noRecord bytes ∷ textLines text ++ setLines bytes (read text)) (reachIn (answer bytes text) v) n p (refl, (refl, (refl, (refl, (refl, (refl, tt)))))) e
 
+-- lines whose numbers are those of a recording and its text
+abbrev Low : List Line → Type 0
+Low [] = Unit {0}
+Low (l ∷ ls) = ((0 < l .number) × (l .number < 15)) × Low ls
+
+same-number : {R : Type 0} (n p m q : ℕ) → _≡_ {A = Outcome R} (refused n p) (refused m q) → n ≡ m
+same-number n p m q e = cc
+
+low-judged : {R : Type 0} (ls : List Line) (r : R) (n p : ℕ) → Low ls → judged ls r ≡ refused n p → (0 < n) × (n < 15)
+unfolding judged
+low-judged [] r n p k e = no-result n p r (sym e)
+low-judged {R} (l ∷ ls) r n p k e = go (l .meets) e (low-judged ls r n p (k .1))
+  where
+    go : (b : Bool) → cond b (refused (l .number) (l .place)) (judged ls r) ≡ refused n p → (judged ls r ≡ refused n p → (0 < n) × (n < 15)) → (0 < n) × (n < 15)
+    go true e rest = subst (λ (m : ℕ). (0 < m) × (m < 15)) (same-number (l .number) (l .place) n p e) (k .0)
+    go false e rest = rest e
+
+-- so that no recording is refused by 15
+at-number : (bytes text : List ℕ) (v n p : ℕ) → reachAt bytes text v ≡ refused n p → (0 < n) × (n < 15)
+unfolding reachAt
+at-number bytes text v n p e =
+    low-judged (askingLines bytes text ++ setLines bytes (read text)) (reachIn (answer bytes text) v) n p
+    ((omega arith, omega arith), ((omega arith, omega arith), ((omega arith, omega arith), ((omega arith, omega arith), ((omega arith, omega arith), ((omega arith, omega arith), ((omega arith, omega arith), ((omega arith, omega arith), ((omega arith, omega arith), tt))))))))) e
+
 -- ---- one batch more of a sound report
 
 is-number : (b : Bool) → b ≡ false → T (not b)
@@ -52,24 +77,32 @@ batch-numbers r (away d) s h =
     next-numbers (r .mean) (r .taken + 1 - r .empty) d (omega arith) (omega arith) (omega arith) (is-number (isNan (r .mean .sum)) (s .sum-number))
 batch-numbers r nowhere s h = record { sum = is-number (isNan (r .mean .sum)) (s .sum-number); mean = is-number (isNan (r .mean .mean)) (s .mean-number) }
 
+-- a report is stopped by a number below 15, which is not 0
+abbrev pub Stopping : Addition → Type 0
+Stopping none = Unit {0}
+Stopping (stopped n p) = (0 < n) × (n < 15)
+Stopping (taken r) = Unit {0}
+Stopping (last r) = Unit {0}
+
 -- what it can be: written to bytes b, and told
 pub record Fine (a : Addition) (b : List ℕ) : Type 0 where
   pub writable : Writable a b
   pub tellable : Tellable a
+  pub stopping : Stopping a
 
 counted-fine : (r : Report) (b : List ℕ) → reportBytes ≤ length b → Numbers (r .mean) → Fine (counted r) b
 counted-fine r b l n = by (eqb (r .taken) (r .count))
   where
     by : (t : Bool) → Fine (cond t (last r) (taken r)) b
-    by true = record { writable = omega arith; tellable = n }
-    by false = record { writable = (omega arith, n); tellable = tt }
+    by true = record { writable = omega arith; tellable = n; stopping = tt }
+    by false = record { writable = (omega arith, n); tellable = tt; stopping = tt }
 
 module _ (r : Report) (b recording text : List ℕ) (v : ℕ) (l : reportBytes ≤ length b) where
   sound-fine : Sound r → Fine (addedTo r (reachAt recording text v)) b
   sound-fine s = by (reachAt recording text v) refl
     where
       by : (o : Outcome Reach) → reachAt recording text v ≡ o → Fine (addedTo r o) b
-      by (refused n p) e = record { writable = omega arith; tellable = at-place recording text v n p e }
+      by (refused n p) e = record { writable = omega arith; tellable = at-place recording text v n p e; stopping = at-number recording text v n p e }
       by (result x) e = counted-fine (withBatch r x) b l (batch-numbers r x s (λ d q. at-small recording text v d (e ∙ ap result q)))
 
   addition-fine : Fine (additionTo r recording text v) b
@@ -77,14 +110,14 @@ module _ (r : Report) (b recording text : List ℕ) (v : ℕ) (l : reportBytes �
   addition-fine = by (leb axis v || faulty r) refl
     where
       by : (t : Bool) → (leb axis v || faulty r) ≡ t → Fine (cond t none (addedTo r (reachAt recording text v))) b
-      by true e = record { writable = tt; tellable = tt }
+      by true e = record { writable = tt; tellable = tt; stopping = tt }
       by false e = sound-fine (sound-of r (none-right (leb axis v) (faulty r) e))
 
 pub in-fine : (b recording : List ℕ) → Fine (additionIn b recording) b
 in-fine b recording = by (stateless b) refl
   where
     by : (t : Bool) → stateless b ≡ t → Fine (cond t none (additionTo (reportIn b) recording (textIn b) (indexIn b))) b
-    by true e = record { writable = tt; tellable = tt }
+    by true e = record { writable = tt; tellable = tt; stopping = tt }
     by false e = addition-fine (reportIn b) b recording (textIn b) (indexIn b) (held-of b e .long-enough)
 
 pub fine-of : (b recording : List ℕ) (a : Addition) → a ≡ additionIn b recording → Fine a b

@@ -26,7 +26,7 @@ use Rattle.report.specs.laws.Steps.{small-more, length-more, counted-more, answ
 use Rattle.report.specs.laws.Fold.{fold-near}
 use Rattle.report.specs.declared.Report.{Report}
 use Rattle.report_state.specs.State.{wordsBytes, figureWords, namedBytes, closedBytes, startAfter, additionIn, addAfter, stateless}
-use Rattle.report_state.specs.Call.{answerTold, indexOf, Reports}
+use Rattle.report_state.specs.Call.{answerTold, metAfter, emptyAfter, distancesAfter, meanAfter, indexOf, Reports}
 use Rattle.report_state.specs.Calls.{Made, start, add, plain, Returned, CallsMade, ReturnedAs, AllReturnedAs, AsTheFold}
 use Rattle.report_state.specs.inner.Kept.{Writable}
 use Rattle.report_state.specs.laws.Words.{words-length}
@@ -199,3 +199,19 @@ start-fold b n cs (x ∷ xs) m =
       );
       near = λ f k. fold-near (length b) (map plain (start n ∷ cs)) closed tt f k;
     }
+
+-- ---- such calls can be made, whatever the bytes and the calls
+
+pub some-calls : (b : List ℕ) (cs : List Made) → (xs : List Returned) × CallsMade b cs xs
+some-calls b [] = ([], tt)
+some-calls b (start n ∷ cs) =
+    let after : List ℕ = startAfter n (indexOf n (length b)) b in
+    let rest = some-calls after cs in
+    (record { returned = packed (answerTold (named (length b) n)); state = after; met = 0; empty = 0; distances = 0; mean = 0 } ∷ rest .0, (record { returned = refl; state = refl }, rest .1))
+some-calls b (add recording m e d y ∷ cs) =
+    let o : Outcome Answer = answerIn (additionIn b recording) in
+    let after : List ℕ = addAfter (additionIn b recording) b in
+    let rest = some-calls after cs in (
+      record { returned = packed (answerTold o); state = after; met = metAfter o m; empty = emptyAfter o e; distances = distancesAfter o d; mean = meanAfter o y } ∷ rest .0,
+      (record { told = record { returned = refl; first-place = refl; second-place = refl; third-place = refl; fourth-place = refl }; state = refl }, rest .1),
+    )

@@ -6,10 +6,10 @@ use mathlib.Core.Bool.{Bool, true, false, cond}
 use mathlib.Core.List.{List, [], _∷_, _++_}
 use lib.Dec.{eqb, ltb}
 use lib.ListN.{length, take, drop, length-append}
-use borrow.Author.Tests.{ltb-false}
+use borrow.Author.Tests.{ltb-false, lt-ltb}
 use Rattle.number.specs.Words.{wordBytes}
 use Rattle.number.specs.laws.Words.{put-behind}
-use Rattle.number.specs.laws.Boolean.{none-left, none-right}
+use Rattle.number.specs.laws.Boolean.{none-right, clash}
 use Rattle.refusal.specs.Outcome.{Outcome, result, refused, judged, NoneMeets}
 use Rattle.refusal.specs.Numbers.{numberOf, placeOf}
 use Rattle.refusal.specs.declared.Refusal.{Refusal}
@@ -29,7 +29,7 @@ use Rattle.report.specs.inner.Naming.{targetLines}
 use Rattle.report.specs.declared.Named.{Named}
 use Rattle.report.specs.declared.Named.the-variants as variant
 use Rattle.report.specs.declared.Report.{Report}
-use Rattle.report_state.specs.State.{figureWords, wordsBytes, namedBytes, startAfter}
+use Rattle.report_state.specs.State.{figureWords, wordsBytes, namedBytes, closedBytes, startAfter}
 use Rattle.report_state.specs.Call.{answerTold, indexOf, Starts}
 use Rattle.report_state.specs.inner.Kept.{endedBytes}
 use Rattle.report_state.specs.laws.Words.{words-length}
@@ -91,3 +91,22 @@ module _ (n : Naming) (old : List ℕ) where
           returned = q ∙ sym (ap (λ (a : Outcome Answer). packed (answerTold a)) (named-mapped ∙ ap (mapped (λ (v : ℕ). taken)) o));
           state = p ∙ sym (ap (λ (a : Outcome ℕ). startAfter n a old) o);
         }
+
+  -- bytes that are too short stay
+  pub start-short : length old < reportBytes → startAfter n (indexOf n room) old ≡ old
+  start-short h = by (indexOf n room) refl
+    where
+      by : (o : Outcome ℕ) → indexOf n room ≡ o → startAfter n o old ≡ old
+      by (result v) e =
+          let k = result-none (namingLines n room) (index (n .target)) v e .0 in
+          let m = none-append (textLines (n .text)) (targetLines (n .target) room) (k .1) in
+          absurd (clash (lt-ltb room reportBytes h) (m .1 .1 .0))
+      by (refused k p) e = ap (λ (t : Bool). cond t old (closedBytes old)) (lt-ltb room reportBytes h)
+
+  -- a refusal changes no byte behind the first four
+  pub start-ends : (k p : ℕ) → indexOf n room ≡ refused k p → drop 4 (startAfter n (indexOf n room) old) ≡ drop 4 old
+  start-ends k p e = ap (λ (o : Outcome ℕ). drop 4 (startAfter n o old)) e ∙ by (ltb room reportBytes)
+    where
+      by : (t : Bool) → drop 4 (cond t old (closedBytes old)) ≡ drop 4 old
+      by true = refl
+      by false = refl
