@@ -36,11 +36,12 @@ use Rattle.thin.specs.Thin.{keptBytes}
 use Rattle.thin.specs.Model.{Call, model}
 use Rattle.thin.specs.Selection.{Selection}
 use Rattle.thin.specs.Cut.{wholeFrom, CutBetween, LongEnough, allWritten}
+use Rattle.report.specs.Report.{reportBytes}
 use Rattle.reply.specs.Reply.{half, numberIn, lowIn}
 use Rattle.boundary.specs.Boundary.{Degrees}
-use Rattle.mill.specs.Calls.{QuestionCall, DegreeCall, PairCall, ThinCall, BandCall, OrderCall, LabQuestionCall, LabDegreeCall, LabPairCall}
+use Rattle.mill.specs.Calls.{QuestionCall, DegreeCall, PairCall, ThinCall, BandCall, OrderCall, LabQuestionCall, LabDegreeCall, LabPairCall, ReportStartCall, ReportAddCall}
 use Rattle.promises.specs.CallsMade.{Returned, readOff, CallsMade, PinnedCalls, heldAt, takenFrom}
-use Rattle.promises.specs.Table.{Request, question, degree, pair, thin, order, acceptedOrder, NoneMet, FirstMet, band, ordering, lab-question, lab-degree, lab-pair}
+use Rattle.promises.specs.Table.{Request, question, degree, pair, thin, order, acceptedOrder, NoneMet, FirstMet, band, ordering, lab-question, lab-degree, lab-pair, naming}
 
 -- ---- DEMAND 1
 
@@ -55,6 +56,21 @@ pub record ByTheTable (q : Request) (ks : List ℕ) (r : ℕ) : Type 0 where
 pub record OneAnswer (q : Request) (r : ℕ) (before after : List ℕ) : Type 0 where
   pub result-or-refusal : ByTheTable q (order q) r
   pub refusal-writes-nothing : ¬ (numberIn r ≡ 0) → after ≡ before
+
+-- The report under way (document 02, Paper 8) is no output, but what is handed on from call to call, and THE ONE EXCEPTION to "a refusal writes nothing": that a
+-- naming was refused, or a report stopped, is remembered there, in its first four bytes. Nothing else of the caller's memory is written by a refusal.
+-- A naming that is refused ends what the bytes held, where they are long enough for a report; where they are not, they stay
+pub record Started (count : ℕ) (text : List ℕ) (target : ℤ) (report : List ℕ) (r : ℕ) (after : List ℕ) : Type 0 where
+  pub result-or-refusal : ByTheTable (naming count text target (length report)) (order (naming count text target (length report))) r
+  pub too-short-stays : length report < reportBytes → after ≡ report
+  pub refusal-only-ends : ¬ (numberIn r ≡ 0) → drop 4 after ≡ drop 4 report
+
+-- a recording that is handed in, whatever the bytes: a refusal leaves the four places, and all of the report but its first four bytes; 15 leaves these too
+pub record HandedIn (r : ℕ) (before places report after : List ℕ) : Type 0 where
+  pub in-64-bits : r < half * half
+  pub refusal-writes-no-place : ¬ (numberIn r ≡ 0) → places ≡ before
+  pub refusal-only-ends : ¬ (numberIn r ≡ 0) → drop 4 after ≡ drop 4 report
+  pub no-report-stays : numberIn r ≡ 15 → after ≡ report
 
 -- DEMAND 1, of each call. "It always comes", "nothing is read beyond the bytes given" and "callers needn't test anything first" are the language's:
 -- a function is proved only if it ends and each of its reads lies inside what it was given, and the calls of `mill` have no `requires`.
@@ -82,6 +98,11 @@ pub record Demand1 : Type 0 where
   pub of-lab-pair : {recording : List ℕ} {curve : ℕ} {target : ℤ} {earlier later r earlier-after later-after : ℕ}
       → LabPairCall recording curve target earlier later r earlier-after later-after
       → OneAnswer (lab-pair recording curve target) r (earlier ∷ later ∷ []) (earlier-after ∷ later-after ∷ [])
+  pub of-report-start : {count : ℕ} {text : List ℕ} {target : ℤ} {report : List ℕ} {r : ℕ} {after : List ℕ} → ReportStartCall count text target report r after
+      → Started count text target report r after
+  pub of-report-add : {report recording : List ℕ} {met empty distances mean r : ℕ} {after : List ℕ} {met-after empty-after distances-after mean-after : ℕ}
+      → ReportAddCall report recording met empty distances mean r after met-after empty-after distances-after mean-after
+      → HandedIn r (met ∷ empty ∷ distances ∷ mean ∷ []) (met-after ∷ empty-after ∷ distances-after ∷ mean-after ∷ []) report after
 
 -- ---- DEMAND 2
 

@@ -7,7 +7,7 @@ use Rattle.refusal.specs.Outcome.{NoneMeets}
 use Rattle.text.specs.Told.{textLines}
 use Rattle.meaning.specs.Alike.{Plain}
 use Rattle.question.specs.Question.{read, questionOf}
-use Rattle.degree.specs.Degree.{nearnessOf}
+use Rattle.degree.specs.Degree.{reachOf, nearnessOf}
 use Rattle.band.specs.Call.{bandOf}
 use Rattle.marks.specs.Marks.{marksOf}
 use Rattle.pair.specs.Pair.{pairOf}
@@ -22,6 +22,8 @@ Askable marks text = NoneMeets (textLines text) → Plain (marksOf marks) (read 
 pub record SameAnswers (marks held full : List ℕ) : Type 0 where
   -- the same set in the same bytes, or the same refusal, given outputs of one length
   pub question : (text : List ℕ) → Askable marks text → (room : ℕ) → questionOf held text room ≡ questionOf full text room
+  -- the same whole distance, no member, or the same refusal
+  pub reach : (text : List ℕ) → Askable marks text → (target : ℤ) → reachOf held text target ≡ reachOf full text target
   -- met, the same distance and degree, no value, or the same refusal
   pub degree : (text : List ℕ) → Askable marks text → (target : ℤ) → nearnessOf held text target ≡ nearnessOf full text target
   -- the same two times, none, or the same refusal

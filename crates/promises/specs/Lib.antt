@@ -1,6 +1,7 @@
 pub mod Table
 pub mod CallsMade
 pub mod Demands
+pub mod Reports
 pub mod KeptAsFull
 pub mod StandIn
 pub mod Secrecy

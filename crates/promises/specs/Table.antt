@@ -24,6 +24,7 @@ use Rattle.band.specs.Band.{widest, OfExtremes}
 use Rattle.thin.specs.Thin.{keptBytes}
 use Rattle.marks.specs.Marks.{marksOf, mostMarks, latestMark}
 use Rattle.sheet.specs.Sheet.{mostLines}
+use Rattle.report.specs.Report.{mostBatches, reportBytes}
 use Rattle.lab.specs.Lab.{LaboratoryText}
 
 -- what a call is handed; of an output its length
@@ -37,6 +38,7 @@ pub data Request : Type 0 where
   lab-question : (recording marks text : List ℕ) (room : ℕ) → Request
   lab-degree : (recording marks text : List ℕ) (target : ℤ) → Request
   lab-pair : (recording : List ℕ) (curve : ℕ) (target : ℤ) → Request
+  naming : (count : ℕ) (text : List ℕ) (target : ℤ) (room : ℕ) → Request
 
 abbrev pub recordingIn : Request → List ℕ
 recordingIn (question r t n) = r
@@ -48,6 +50,7 @@ recordingIn (ordering r s) = r
 recordingIn (lab-question r m t n) = r
 recordingIn (lab-degree r m t g) = r
 recordingIn (lab-pair r c g) = r
+recordingIn (naming c t g n) = []
 
 -- the text; a call that takes none has no line about it
 abbrev pub textIn : Request → List ℕ
@@ -60,6 +63,7 @@ textIn (ordering r s) = []
 textIn (lab-question r m t n) = t
 textIn (lab-degree r m t g) = t
 textIn (lab-pair r c g) = []
+textIn (naming c t g n) = t
 
 -- record i is the first out of its rules
 pub record FirstBroken (xs : List Raw) (i : ℕ) : Type 0 where
@@ -90,8 +94,9 @@ TopsOver (ordering r s) = ⊥
 TopsOver (lab-question r m t n) = ReadWith t (OverTops (readings r))
 TopsOver (lab-degree r m t g) = ReadWith t (OverTops (readings r))
 TopsOver (lab-pair r c g) = mostTops < length (pick (top (curveOf c)) (readings r))
+TopsOver (naming c t g n) = ⊥
 
--- 10: the output is shorter than the result
+-- 10: the output is shorter than the result, or the bytes for a report under way than one
 abbrev pub OutputShort : Request → Type 0
 OutputShort (question r t n) = ReadWith t (SetLonger r n)
 OutputShort (degree r t g) = ⊥
@@ -102,6 +107,7 @@ OutputShort (ordering r s) = ⊥
 OutputShort (lab-question r m t n) = ReadWith t (SetLonger r n)
 OutputShort (lab-degree r m t g) = ⊥
 OutputShort (lab-pair r c g) = ⊥
+OutputShort (naming c t g n) = n < reportBytes
 
 -- 11: the marks are not 4 bytes each, over 8, or too large
 abbrev pub MarksOff : List ℕ → Type 0
@@ -117,6 +123,7 @@ MarksBad (ordering r s) = ⊥
 MarksBad (lab-question r m t n) = MarksOff m
 MarksBad (lab-degree r m t g) = MarksOff m
 MarksBad (lab-pair r c g) = ⊥
+MarksBad (naming c t g n) = ⊥
 
 -- 12: the target is off the axis, or the curve number is not 0 or 1
 abbrev pub TargetBad : Request → Type 0
@@ -129,6 +136,7 @@ TargetBad (ordering r s) = ⊥
 TargetBad (lab-question r m t n) = ⊥
 TargetBad (lab-degree r m t g) = ¬ OfAxis g
 TargetBad (lab-pair r c g) = (1 < c) ⊎ ¬ OfAxis g
+TargetBad (naming c t g n) = ¬ OfAxis g
 
 -- 13: the sheet has an odd length, over 32 lines, or a number that is not 1 to 16
 abbrev pub SheetBad : Request → Type 0
@@ -141,6 +149,7 @@ SheetBad (ordering r s) = ¬ (length s % 2 ≡ 0) ⊎ ((mostLines < length s / 2
 SheetBad (lab-question r m t n) = ⊥
 SheetBad (lab-degree r m t g) = ⊥
 SheetBad (lab-pair r c g) = ⊥
+SheetBad (naming c t g n) = ⊥
 
 -- 14: what a laboratory asks is no laboratory text under these marks, or a pair of tops of B
 abbrev pub NotLaboratory : Request → Type 0
@@ -153,6 +162,20 @@ NotLaboratory (ordering r s) = ⊥
 NotLaboratory (lab-question r m t n) = ReadWith t (λ p. ¬ LaboratoryText (marksOf m) p)
 NotLaboratory (lab-degree r m t g) = ReadWith t (λ p. ¬ LaboratoryText (marksOf m) p)
 NotLaboratory (lab-pair r c g) = c ≡ 1
+NotLaboratory (naming c t g n) = ⊥
+
+-- 15: a named count of 0 or over 1,000. (Of a recording that is handed in, 15 is what the fold says: Reports)
+abbrev pub CountBad : Request → Type 0
+CountBad (question r t n) = ⊥
+CountBad (degree r t g) = ⊥
+CountBad (pair r c g) = ⊥
+CountBad (thin r m n) = ⊥
+CountBad (band r t e) = ⊥
+CountBad (ordering r s) = ⊥
+CountBad (lab-question r m t n) = ⊥
+CountBad (lab-degree r m t g) = ⊥
+CountBad (lab-pair r c g) = ⊥
+CountBad (naming c t g n) = (c ≡ 0) ⊎ (mostBatches < c)
 
 -- 16: the band is not 0 to 1,000,000 units
 abbrev pub BandBad : Request → Type 0
@@ -165,6 +188,7 @@ BandBad (ordering r s) = ⊥
 BandBad (lab-question r m t n) = ⊥
 BandBad (lab-degree r m t g) = ⊥
 BandBad (lab-pair r c g) = ⊥
+BandBad (naming c t g n) = ⊥
 
 -- the text is one question on extremes alone; brackets are no node of it
 abbrev pub OneExtreme : Text → Type 0
@@ -181,6 +205,7 @@ NotOneExtreme (ordering r s) = ⊥
 NotOneExtreme (lab-question r m t n) = ⊥
 NotOneExtreme (lab-degree r m t g) = ⊥
 NotOneExtreme (lab-pair r c g) = ⊥
+NotOneExtreme (naming c t g n) = ⊥
 
 -- THE TABLE: the condition of each line is met by the request
 abbrev pub Met : Request → Refusal → Type 0
@@ -198,7 +223,7 @@ Met q BadMarks = MarksBad q
 Met q BadTarget = TargetBad q
 Met q BadSheet = SheetBad q
 Met q NotForLaboratory = NotLaboratory q
-Met q NoReport = ⊥
+Met q NoReport = CountBad q
 Met q BadBand = BandBad q
 Met q NotBandQuestion = NotOneExtreme q
 
@@ -217,6 +242,7 @@ order (ordering r s) = 1 ∷ 2 ∷ 3 ∷ 4 ∷ 13 ∷ []
 order (lab-question r m t n) = 1 ∷ 2 ∷ 3 ∷ 4 ∷ 5 ∷ 6 ∷ 7 ∷ 11 ∷ 14 ∷ 9 ∷ 8 ∷ 10 ∷ []
 order (lab-degree r m t g) = 1 ∷ 2 ∷ 3 ∷ 4 ∷ 5 ∷ 6 ∷ 7 ∷ 11 ∷ 14 ∷ 12 ∷ 9 ∷ 8 ∷ []
 order (lab-pair r c g) = 1 ∷ 2 ∷ 3 ∷ 4 ∷ 12 ∷ 14 ∷ 9 ∷ []
+order (naming c t g n) = 15 ∷ 5 ∷ 6 ∷ 7 ∷ 12 ∷ 10 ∷ []
 
 -- no line of these numbers is met
 abbrev pub NoneMet : Request → List ℕ → Type 0

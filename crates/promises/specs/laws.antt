@@ -13,6 +13,7 @@ pub mod Demand1
 pub mod Demand2
 pub mod Lists
 pub mod Selected
+pub mod Reports
 pub mod Pins
 pub mod Laboratory
 pub mod Secrecy

@@ -39,7 +39,7 @@ use Rattle.meaning.specs.inner.Truth.{refused8, refused9}
 use Rattle.meaning.specs.laws.Truth.{val-holds}
 use Rattle.question.specs.Question.{read, answer, askingLines, setLines}
 use Rattle.question.specs.inner.Lines.{LinesMean}
-use Rattle.question.specs.laws.Lines.{read-reads, reads-read, lines-mean}
+use Rattle.question.specs.laws.Lines.{read-reads, reads-read, lines-mean, six-means, seven-means}
 use Rattle.degree.specs.Degree.{targetLine}
 use Rattle.band.specs.Band.{widest}
 use Rattle.band.specs.Call.{badBand, oneExtreme, widthLine, extremeLine}
@@ -53,7 +53,8 @@ use Rattle.lab.specs.Lab.{LaboratoryText, textLine, curveLine, askerLines, labA
 use Rattle.lab.specs.inner.Barred.{notForLaboratory}
 use Rattle.lab.specs.laws.Laboratory.{clear-laboratory, laboratory-clear}
 use Rattle.pair.specs.Pair.{badTarget, tooManyTops}
-use Rattle.promises.specs.Table.{Request, question, degree, pair, thin, recordingIn, textIn, ReadWith, OpenTooDeep, SetLonger, MarksOff, acceptedOrder, order, band, OneExtreme, ordering, lab-question, lab-degree, lab-pair}
+use Rattle.report.specs.Report.{Naming, mostBatches, reportBytes, namingLines}
+use Rattle.promises.specs.Table.{Request, question, degree, pair, thin, recordingIn, textIn, ReadWith, OpenTooDeep, SetLonger, MarksOff, acceptedOrder, order, band, OneExtreme, ordering, lab-question, lab-degree, lab-pair, naming}
 use Rattle.promises.specs.laws.Table.{Agrees, Agree, agree-recording}
 
 -- ---- tests
@@ -85,7 +86,7 @@ deep-open text = (to, from)
         (λ l. absurd (clash (lt-ltb mostOpen (openAt text (o .0)) (o .2)) (least-first (λ i. ltb mostOpen (openAt text i)) (length text) (o .0) (omega arith))))
         (less-or-not (least (λ i. ltb mostOpen (openAt text i)) (length text)) (length text))
 
-module _ (q : Request) (bytes : List ℕ) (mean : LinesMean bytes (textIn q)) where
+module _ (q : Request) where
   pub agree-text : (ls : List Line) (ks : List ℕ) → (NoneMeets (textLines (textIn q)) → Agree q ls ks)
       → Agree q (textLines (textIn q) ++ ls) (5 ∷ 6 ∷ 7 ∷ ks)
   agree-text ls ks rest = (
@@ -104,16 +105,16 @@ module _ (q : Request) (bytes : List ℕ) (mean : LinesMean bytes (textIn q)) wh
         number = refl;
         named = refl;
         placed = refl;
-        met = λ e. mean .six .0 e;
-        unmet = λ e p m. clash (mean .six .1 m) e;
+        met = λ e. six-means (textIn q) .0 e;
+        unmet = λ e p m. clash (six-means (textIn q) .1 m) e;
       },
       λ six. (
         record {
           number = refl;
           named = refl;
           placed = refl;
-          met = λ e. (read (textIn q), read-reads (textIn q) six, large (read (textIn q)) (mean .seven (read (textIn q)) (read-reads (textIn q) six) .0 e));
-          unmet = λ e p m. clash (mean .seven (m .0) (m .1) .1 (small (m .0) (m .2))) e;
+          met = λ e. (read (textIn q), read-reads (textIn q) six, large (read (textIn q)) (seven-means (textIn q) (read (textIn q)) (read-reads (textIn q) six) .0 e));
+          unmet = λ e p m. clash (seven-means (textIn q) (m .0) (m .1) .1 (small (m .0) (m .2))) e;
         },
         λ seven. rest (five, (six, (seven, tt))),
       ),
@@ -231,7 +232,7 @@ module _ (full held text : List ℕ) (place : InPlace full held text) where
   agree-asked room =
       agree-four (question full text room) refl (textLines text ++ (setLines held (read text) ++ (outputLine room (setBytes (answer held text)) ∷ [])))
       (5 ∷ 6 ∷ 7 ∷ 9 ∷ 8 ∷ 10 ∷ [])
-      (λ someOf. agree-text (question full text room) held (lines-mean held text (place .accepted) someOf)
+      (λ someOf. agree-text (question full text room)
       (setLines held (read text) ++ (outputLine room (setBytes (answer held text)) ∷ [])) (9 ∷ 8 ∷ 10 ∷ []) (λ sized. agree-sets someOf sized room))
 
 -- ---- the question call
@@ -265,7 +266,7 @@ pub agree-degree : (bytes text : List ℕ) (target : ℤ)
 agree-degree bytes text target =
     agree-recording q (noRecord bytes ∷ textLines text ++ (targetLine target ∷ setLines bytes (read text))) (4 ∷ 5 ∷ 6 ∷ 7 ∷ 12 ∷ 9 ∷ 8 ∷ [])
     (λ a. agree-four bytes bytes text (in-its-place bytes text a) q refl (textLines text ++ (targetLine target ∷ setLines bytes (read text))) (5 ∷ 6 ∷ 7 ∷ 12 ∷ 9 ∷ 8 ∷ [])
-    (λ someOf. agree-text q bytes (lines-mean bytes text a someOf) (targetLine target ∷ setLines bytes (read text)) (12 ∷ 9 ∷ 8 ∷ [])
+    (λ someOf. agree-text q (targetLine target ∷ setLines bytes (read text)) (12 ∷ 9 ∷ 8 ∷ [])
     (λ sized. rest (in-its-place bytes text a) someOf sized)))
   where
     q : Request
@@ -389,7 +390,7 @@ pub agree-band : (bytes text : List ℕ) (e : ℤ)
 agree-band bytes text e =
     agree-recording (band bytes text e) (noRecord bytes ∷ textLines text ++ (widthLine e ∷ extremeLine (read text) ∷ [])) (4 ∷ 5 ∷ 6 ∷ 7 ∷ 16 ∷ 17 ∷ [])
     (λ a. agree-four bytes bytes text (in-its-place bytes text a) (band bytes text e) refl (textLines text ++ (widthLine e ∷ extremeLine (read text) ∷ [])) (5 ∷ 6 ∷ 7 ∷ 16 ∷ 17 ∷ [])
-    (λ some. agree-text (band bytes text e) bytes (lines-mean bytes text a some) (widthLine e ∷ extremeLine (read text) ∷ []) (16 ∷ 17 ∷ [])
+    (λ some. agree-text (band bytes text e) (widthLine e ∷ extremeLine (read text) ∷ []) (16 ∷ 17 ∷ [])
     (λ sized. (
       record {
         number = refl;
@@ -470,7 +471,7 @@ module _ (q : Request) (ls : List Line) (ks : List ℕ) where
   agree-asking rest =
       agree-recording q (noRecord (recordingIn q) ∷ textLines (textIn q) ++ ls) (4 ∷ 5 ∷ 6 ∷ 7 ∷ ks)
       (λ a. agree-four (recordingIn q) (recordingIn q) (textIn q) (in-its-place (recordingIn q) (textIn q) a) q refl (textLines (textIn q) ++ ls) (5 ∷ 6 ∷ 7 ∷ ks)
-      (λ some. agree-text q (recordingIn q) (lines-mean (recordingIn q) (textIn q) a some) ls ks (λ sized. rest a some sized)))
+      (λ some. agree-text q ls ks (λ sized. rest a some sized)))
 
 pub agree-lab-question : (bytes marks text : List ℕ) (room : ℕ)
     → Agree (lab-question bytes marks text room) (labAskingLines bytes marks text ++ (setLines bytes (read text) ++ (outputLine room (setBytes (answer bytes text)) ∷ []))) (order (lab-question bytes marks text room))
@@ -554,3 +555,24 @@ agree-lab-pair bytes curve target =
         ),
       ),
     ))
+
+-- ---- the naming of a report
+
+pub agree-naming : (n : Naming) (room : ℕ) → Agree (naming (n .count) (n .text) (n .target) room) (namingLines n room) (order (naming (n .count) (n .text) (n .target) room))
+agree-naming n room = (
+  record {
+    number = refl;
+    named = refl;
+    placed = refl;
+    met = λ e. ⊎-elim (λ h. inl (eqb-true (n .count) 0 h)) (λ h. inr (ltb-true mostBatches (n .count) h)) (or-true (eqb (n .count) 0) (ltb mostBatches (n .count)) e);
+    unmet = λ e p m. let o = both-off (eqb (n .count) 0) (ltb mostBatches (n .count)) e in
+        ⊎-elim (λ h. clash (eq-eqb (n .count) 0 h) (o .0)) (λ h. clash (lt-ltb mostBatches (n .count) h) (o .1)) m;
+  },
+  λ fifteen. agree-text (naming (n .count) (n .text) (n .target) room) (targetLine (n .target) ∷ line 10 (ltb room reportBytes) ∷ []) (12 ∷ 10 ∷ []) (λ sized. (
+    record { number = refl; named = refl; placed = refl; met = λ e. off-axis (n .target) e; unmet = λ e p m. m (on-axis (n .target) .0 e) },
+    λ twelve. (
+      record { number = refl; named = refl; placed = refl; met = λ e. ltb-true room reportBytes e; unmet = λ e p m. clash (lt-ltb room reportBytes m) e },
+      λ ten. tt,
+    ),
+  )),
+)

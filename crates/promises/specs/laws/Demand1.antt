@@ -27,12 +27,21 @@ use Rattle.marks.specs.Marks.{marksOf, marksLine}
 use Rattle.reply.specs.Reply.{half, packed, InHalf, numberIn, lowIn}
 use Rattle.reply.specs.laws.Unpacked.{Numbered, number-result, low-result, number-refused, low-refused}
 use Rattle.boundary.specs.Boundary.{Writes, Degrees, valueTold, Pairs, pairTold, filled, bandTold, InBands, findingTold, Orders}
+use Rattle.degree.specs.inner.Reach.{mapped}
+use Rattle.report.specs.Report.{MeanDegree, noMean, meanDegree, Naming, namingLines, named, Answer, taken, given}
+use Rattle.report.specs.inner.Running.{Addition, stopped, last, figuresIn, answerIn}
+use Rattle.report.specs.inner.Running as inner
+use Rattle.report_state.specs.State.{additionIn, addAfter}
+use Rattle.report_state.specs.Call.{meanTold, answerTold, Reports, indexOf, Starts, Adds}
+use Rattle.report_state.specs.laws.Start.{named-mapped, start-short, start-ends}
+use Rattle.report_state.specs.laws.Add.{Fine, in-fine}
+use Rattle.reply.specs.laws.Place.{plain-place}
 use Rattle.mill.specs.Calls.{BandCall, OrderCall}
 use Rattle.mill.specs.laws.Calls.{thin-in-half, question-in-half, degree-in-half, pair-in-half, band-in-half, order-in-half, lab-question-in-half, lab-degree-in-half, lab-pair-in-half}
-use Rattle.promises.specs.Table.{Request, question, degree, pair, thin, order, band, ordering, lab-question, lab-degree, lab-pair}
+use Rattle.promises.specs.Table.{Request, question, degree, pair, thin, order, band, ordering, lab-question, lab-degree, lab-pair, naming}
 use Rattle.promises.specs.laws.Table.{number-bounds, AsTable, met-there, judged-told}
-use Rattle.promises.specs.laws.CallLines.{agree-question, agree-degree, agree-pair, agree-thin, agree-band, agree-order, agree-lab-question, agree-lab-degree, agree-lab-pair}
-use Rattle.promises.specs.Demands.{ByTheTable, OneAnswer, Demand1}
+use Rattle.promises.specs.laws.CallLines.{agree-question, agree-degree, agree-pair, agree-thin, agree-band, agree-order, agree-lab-question, agree-lab-degree, agree-lab-pair, agree-naming}
+use Rattle.promises.specs.Demands.{ByTheTable, OneAnswer, Started, HandedIn, Demand1}
 use Rattle.recording.specs.Reading.{curveOf}
 
 -- ---- DEMAND 1: the number that is returned
@@ -227,6 +236,94 @@ order-answered bytes sheet time line r first second w = go (orderOf bytes sheet)
       refusal-writes-nothing = λ k. ap₂ (λ (x y : ℕ). x ∷ y ∷ []) (w .first-place) (w .second-place);
     }
 
+-- ---- the report
+
+told-answer : (q : Request) (ks : List ℕ) (o : Outcome Answer) → AsTable q ks o → AsTable q ks (answerTold o)
+told-answer q ks (result taken) t = t
+told-answer q ks (result (given f)) t = t
+told-answer q ks (refused n p) t = t
+
+mean-small : (m : MeanDegree) → meanTold m < half
+mean-small noMean = omega arith
+mean-small (meanDegree x) = omega arith
+
+module _ (n : Naming) where
+  naming-told : (room : ℕ) → AsTable (naming (n .count) (n .text) (n .target) room) (order (naming (n .count) (n .text) (n .target) room)) (named room n)
+  naming-told room = judged-told (naming (n .count) (n .text) (n .target) room) (namingLines n room) (order (naming (n .count) (n .text) (n .target) room)) taken (agree-naming n room)
+
+  naming-half : (room : ℕ) → InHalf (answerTold (named room n))
+  naming-half room = by (named room n) refl
+    where
+      by : (o : Outcome Answer) → named room n ≡ o → InHalf (answerTold o)
+      by (result taken) e = omega arith
+      by (result (given f)) e = mean-small (f .mean)
+      by (refused k p) e = let z = plain-place (namingLines n room) taken k p (refl, (refl, (refl, (refl, (refl, (refl, tt)))))) e in omega arith
+
+  pub start-answered : (old : List ℕ) (r : ℕ) (new : List ℕ) → Starts n old r new → Started (n .count) (n .text) (n .target) old r new
+  start-answered old r new w = record {
+    result-or-refusal = judged-number (naming (n .count) (n .text) (n .target) (length old)) (order (naming (n .count) (n .text) (n .target) (length old))) (answerTold (named (length old) n)) r (w .returned)
+        (naming-half (length old)) (told-answer (naming (n .count) (n .text) (n .target) (length old)) (order (naming (n .count) (n .text) (n .target) (length old))) (named (length old) n) (naming-told (length old)));
+    too-short-stays = λ h. w .state ∙ start-short n old h;
+    refusal-only-ends = λ k. ends (indexOf n (length old)) refl k;
+  }
+    where
+      ends : (o : Outcome ℕ) → indexOf n (length old) ≡ o → ¬ (numberIn r ≡ 0) → drop 4 new ≡ drop 4 old
+      ends (result v) e k = absurd (k (ap numberIn (w .returned ∙ ap (λ (a : Outcome Answer). packed (answerTold a)) (named-mapped n old ∙ ap (mapped (λ (j : ℕ). taken)) e))))
+      ends (refused i p) e k = ap (drop 4) (w .state) ∙ start-ends n old i p e
+
+-- what stands at the four places
+abbrev four : (a b c d : ℕ) → List ℕ
+four a b c d = a ∷ b ∷ c ∷ d ∷ []
+
+same-four : (a a′ b b′ c c′ d d′ : ℕ) → a ≡ a′ → b ≡ b′ → c ≡ c′ → d ≡ d′ → four a b c d ≡ four a′ b′ c′ d′
+same-four a a′ b b′ c c′ d d′ p q r s = λ i. p i ∷ q i ∷ r i ∷ s i ∷ []
+
+module _ (b recording : List ℕ) (m e d x r : ℕ) (after : List ℕ) (m′ e′ d′ x′ : ℕ) where
+  handed-as : (a : Addition) → additionIn b recording ≡ a → Fine a b → Reports (answerIn a) m e d x r m′ e′ d′ x′ → after ≡ addAfter a b → HandedIn r (four m e d x) (four m′ e′ d′ x′) b after
+  handed-as inner.none s f w t =
+      let z : r ≡ 15 * half + 0 = w .returned in
+      record {
+        in-64-bits = omega arith;
+        refusal-writes-no-place = λ k. same-four _ _ _ _ _ _ _ _ (w .first-place) (w .second-place) (w .third-place) (w .fourth-place);
+        refusal-only-ends = λ k. ap (drop 4) t;
+        no-report-stays = λ k. t;
+      }
+  handed-as (stopped n p) s f w t =
+      let z : r ≡ n * half + p = w .returned in
+      let l : p < half = f .tellable in
+      let k = f .stopping in
+      record {
+        in-64-bits = omega arith;
+        refusal-writes-no-place = λ k. same-four _ _ _ _ _ _ _ _ (w .first-place) (w .second-place) (w .third-place) (w .fourth-place);
+        refusal-only-ends = λ k. ap (drop 4) t;
+        no-report-stays = λ q. absurd (other n (sym (ap numberIn z ∙ number-refused n p l) ∙ q) (f .stopping .1));
+      }
+    where
+      other : (n : ℕ) → n ≡ 15 → n < 15 → ⊥
+      other n e l = omega arith
+  handed-as (inner.taken q) s f w t =
+      let z : numberIn r ≡ 0 = ap numberIn (w .returned) in
+      record { in-64-bits = small (w .returned); refusal-writes-no-place = λ k. absurd (k z); refusal-only-ends = λ k. absurd (k z); no-report-stays = λ k. absurd (other (numberIn r) z k) }
+    where
+      small : r ≡ 0 → r < half * half
+      small h = omega arith
+
+      other : (n : ℕ) → n ≡ 0 → n ≡ 15 → ⊥
+      other n e l = omega arith
+  handed-as (last q) s f w t =
+      let l = mean-small (figuresIn q .mean) in
+      let z : numberIn r ≡ 0 = ap numberIn (w .returned) ∙ number-result (meanTold (figuresIn q .mean)) l in
+      record { in-64-bits = small (meanTold (figuresIn q .mean)) l (w .returned); refusal-writes-no-place = λ k. absurd (k z); refusal-only-ends = λ k. absurd (k z); no-report-stays = λ k. absurd (other (numberIn r) z k) }
+    where
+      small : (n : ℕ) → n < half → r ≡ n → r < half * half
+      small n l h = omega arith
+
+      other : (n : ℕ) → n ≡ 0 → n ≡ 15 → ⊥
+      other n e l = omega arith
+
+  pub handed-in : Adds b recording m e d x r after m′ e′ d′ x′ → HandedIn r (four m e d x) (four m′ e′ d′ x′) b after
+  handed-in w = handed-as (additionIn b recording) refl (in-fine b recording) (w .told) (w .state)
+
 pub demand-1 : Demand1
 demand-1 = record {
   of-question = λ {recording} {text} {out} {r} {after} w.
@@ -249,4 +346,7 @@ demand-1 = record {
   of-lab-pair = λ {recording} {curve} {target} {earlier} {later} {r} {earlier-after} {later-after} c.
       pairs-answered (lab-pair recording curve target) (labPairOf recording curve target) earlier later r earlier-after later-after
       (lab-pair-told recording curve target) (lab-pair-in-half recording curve target) c;
+  of-report-start = λ {count} {text} {target} {report} {r} {after} w. start-answered (record { count = count; text = text; target = target }) report r after w;
+  of-report-add = λ {report} {recording} {met} {empty} {distances} {mean} {r} {after} {met-after} {empty-after} {distances-after} {mean-after} w.
+      handed-in report recording met empty distances mean r after met-after empty-after distances-after mean-after w;
 }

@@ -75,7 +75,7 @@ thinned-whole marks fine recording a room h =
     judged-none (recordingLines recording ++ marksLine marks ∷ outputLine room kept ∷ []) kept
     (append-none (recordingLines recording) (marksLine marks ∷ outputLine room kept ∷ []) a (fine .0, (le-ltb room (length kept) h, tt)))
 
-asked-askable : (marks text : List ℕ) → AskedOfKept marks text → Askable marks text
+pub asked-askable : (marks text : List ℕ) → AskedOfKept marks text → Askable marks text
 asked-askable marks text l n = asked-plain marks text l (read text) (read-reads text (n .1 .0))
 
 module _ (marks recording held : List ℕ) (fine : AcceptedMarks marks) (a : Accepted recording) (s : Selection (marksOf marks) recording held) where

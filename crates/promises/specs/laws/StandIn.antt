@@ -32,7 +32,9 @@ use Rattle.meaning.specs.laws.Overfull.{eight-overfull, nine-tops}
 use Rattle.meaning.specs.inner.Recorded.{InRange}
 use Rattle.meaning.specs.laws.Recorded.{accepted-recorded}
 use Rattle.question.specs.Question.{read, answer, askingLines, setLines, questionOf}
-use Rattle.degree.specs.Degree.{Value, valueOf, targetLine, nearnessOf}
+use Rattle.degree.specs.Degree.{Reach, reachIn, valued, targetLine, reachOf, nearnessOf}
+use Rattle.degree.specs.inner.Reach.{mapped}
+use Rattle.degree.specs.laws.Reach.{nearness-valued}
 use Rattle.band.specs.Call.{widthOf, theQuestion, widthLine, extremeLine, bandOf}
 use Rattle.band.specs.Means.{Bands}
 use Rattle.band.specs.inner.Ends.{bandsOf}
@@ -151,15 +153,19 @@ module _ (marks full held : List ℕ) (s : StandIn (marksOf marks) full held) (a
         (stand-setLines (marksOf marks) full held s accepted some (read text) plain)
         (setBytes-ext (answer held text) (answer full text) (λ n h. stand-val (marksOf marks) full held s accepted some (read text) plain n)))
 
+    -- the same whole distance, or the same refusal
+    pub stand-reach : (target : ℤ) → reachOf held text target ≡ reachOf full text target
+    unfolding reachOf
+    stand-reach target =
+        stand-asking (targetLine target ∷ setLines held (read text)) (targetLine target ∷ setLines full (read text))
+        (reachIn (answer held text) (index target)) (reachIn (answer full text) (index target))
+        (λ some plain. ap₂ (λ (ls : List Line) (x : Reach). judged (targetLine target ∷ ls) x)
+        (stand-setLines (marksOf marks) full held s accepted some (read text) plain)
+        (ap (λ (f : ℕ → Bool). reachIn f (index target)) (fun-ext (stand-val (marksOf marks) full held s accepted some (read text) plain))))
+
     -- THE DEGREE CALL: the same value, or the same refusal
     pub stand-degree : (target : ℤ) → nearnessOf held text target ≡ nearnessOf full text target
-    unfolding nearnessOf
-    stand-degree target =
-        stand-asking (targetLine target ∷ setLines held (read text)) (targetLine target ∷ setLines full (read text))
-        (valueOf (answer held text) (index target)) (valueOf (answer full text) (index target))
-        (λ some plain. ap₂ (λ (ls : List Line) (x : Value). judged (targetLine target ∷ ls) x)
-        (stand-setLines (marksOf marks) full held s accepted some (read text) plain)
-        (ap (λ (f : ℕ → Bool). valueOf f (index target)) (fun-ext (stand-val (marksOf marks) full held s accepted some (read text) plain))))
+    stand-degree target = nearness-valued held text target ∙ ap (mapped valued) (stand-reach target) ∙ sym (nearness-valued full text target)
 
     -- THE BAND CALL: the same two sets, or the same refusal
     pub stand-band : (e : ℤ) → bandOf held text e ≡ bandOf full text e
@@ -203,7 +209,7 @@ module _ (marks full held : List ℕ) (s : StandIn (marksOf marks) full held) (a
 
   -- A STAND-IN GIVES THE SAME ANSWERS
   pub stand-answers : SameAnswers marks held full
-  stand-answers = record { question = stand-question; degree = stand-degree; pair = stand-pair; band = stand-band; ordering = stand-order }
+  stand-answers = record { question = stand-question; reach = stand-reach; degree = stand-degree; pair = stand-pair; band = stand-band; ordering = stand-order }
 
 -- ---- selections
 

@@ -39,14 +39,14 @@ module _ (text : List ℕ) where
   pub reads-read : (t : Text) → ReadsWhole text t → read text ≡ t
   reads-read t r = ap theText (reading-is text t .1 r)
 
-  six-means : So (noReading (parsed text)) ↔ ((t : Text) → ReadsWhole text t → ⊥)
+  pub six-means : So (noReading (parsed text)) ↔ ((t : Text) → ReadsWhole text t → ⊥)
   six-means = (λ h. reading-none text .0 (is-none (parsed text) h), λ n. ap noReading (reading-none text .1 n))
     where
       is-none : (r : Parsed) → So (noReading r) → r ≡ none
       is-none (one t) h = absurd (false≢true h)
       is-none none h = refl
 
-  seven-means : (t : Text) → ReadsWhole text t → So (tooLarge text) ↔ ((mostNodes < nodes t) ⊎ So (tooDeep text))
+  pub seven-means : (t : Text) → ReadsWhole text t → So (tooLarge text) ↔ ((mostNodes < nodes t) ⊎ So (tooDeep text))
   seven-means t r = (λ h. to (ltb mostNodes (nodesOf (parsed text))) refl h, λ h. ⊎-elim many (deep (ltb mostNodes (nodesOf (parsed text)))) h)
     where
       counted-nodes : nodesOf (parsed text) ≡ nodes t
