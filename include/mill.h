@@ -1,11 +1,12 @@
 /*
 ** mill.h: questions about recordings of bead mills, and their thinning.
 **
-** Nine calls on plain bytes. Each answers with its result or with one numbered
+** Eleven calls on plain bytes. Each answers with its result or with one numbered
 ** refusal, for every input that can be handed in; a caller needs to test
 ** nothing first. A call reads only the bytes that it is given, keeps nothing
-** from one call to the next, takes no memory from the heap, and may run in any
-** number of threads at once. Link with libmill.a, which is for x86-64 and needs
+** from one call to the next (what must last lies in the caller's memory: CARRIED,
+** below), takes no memory from the heap, and may run in any number of threads at
+** once. Link with libmill.a, which is for x86-64 and needs
 ** memcpy and memset of the C library and no other library.
 **
 **
@@ -64,21 +65,33 @@
 ** MEMORY. A call writes its result and nothing else. With a refusal, with
 ** MILL_MET, MILL_NO_VALUE, MILL_NO_PAIR and MILL_SHEET_MET, all of the caller's
 ** memory stays as it was, and so do the two ends of a set that mill_band finds
-** empty. On success the output bytes behind the result stay as they were.
+** empty. On success the output bytes behind the result stay as they were. Of what
+** is carried from call to call the next paragraph speaks.
 **
 ** A pointer must point to as many bytes as the length that follows it says.
-** Bytes need no alignment; uint32_t, int32_t and double are aligned as C has
+** Bytes need no alignment; uint32_t, uint64_t, int32_t and double are aligned as C has
 ** them. Inputs (recording, text, marks, sheet) may overlap each other in any way.
 ** An output (out, distance, degree, earlier, later, the ends of mill_band, time,
-** line) must not overlap an input nor another output; where one does, nothing is
+** line, met, empty, distances, mean) must not overlap an input nor another output; where one does, nothing is
 ** promised. While a call runs, no other thread may write an input or touch an
 ** output.
 **
+** CARRIED. A report under way is MILL_REPORT_BYTES bytes of the caller's, which each
+** call takes as the last call left them. They are no output: where a refusal must be
+** remembered, they change with it, and with nothing else of the caller's memory.
+** Which refusals do is said at the calls; all others leave every byte. Bytes behind
+** MILL_REPORT_BYTES stay as they were. A copy of the bytes, at whatever place, goes on
+** as the original would. They need no setting up before mill_report_start, and no
+** freeing. Bytes that are too few, all zero or all 255 hold no report. Other bytes that
+** no call left there do no harm: a call answers with a result or a refusal of its
+** list, and touches nothing else. They must not overlap an input or an output.
+**
 ** A null pointer with length 0 serves as an empty input or an empty output.
 ** This is tested, and it is not part of what is proved. distance, degree,
-** earlier, later, the ends of mill_band, time and line are never null.
+** earlier, later, the ends of mill_band, time, line, met, empty, distances and mean
+** are never null.
 **
-** When a degree is asked for, round to nearest must be in force (FE_TONEAREST of
+** When a degree or a report is asked for, round to nearest must be in force (FE_TONEAREST of
 ** <fenv.h>), as it is when a program starts.
 **
 ** Results, refusals and what is written are proved of the source of the calls.
@@ -105,6 +118,7 @@ extern "C" {
 #define MILL_MARK_BYTES 4
 #define MILL_LINE_BYTES 2
 #define MILL_SET_BYTES 2048 /* MILL_MAX_RUNS runs: always room enough */
+#define MILL_REPORT_BYTES 320 /* a report under way */
 
 /* Limits. */
 #define MILL_MAX_RECORDS 4096        /* records of a recording */
@@ -121,6 +135,7 @@ extern "C" {
 #define MILL_MAX_MARK 2000000000     /* a mark */
 #define MILL_MAX_BAND 1000000        /* e of mill_band */
 #define MILL_MAX_LINES 32            /* lines of an order sheet */
+#define MILL_MAX_BATCHES 1000        /* recordings of a report */
 
 /*
 ** Bytes of stack with which each call does. Measured on x86-64 with the deepest
@@ -138,6 +153,8 @@ extern "C" {
 #define MILL_STACK_LAB_QUESTION 196608
 #define MILL_STACK_LAB_DEGREE 196608
 #define MILL_STACK_LAB_PAIR 4096
+#define MILL_STACK_REPORT_START 131072
+#define MILL_STACK_REPORT_ADD 196608
 
 /* Slopes of a record. */
 #define MILL_FALLING 0
@@ -170,6 +187,7 @@ extern "C" {
 #define MILL_BAD_TARGET 12      /* the target is off the axis, or the curve number is not 0 or 1 */
 #define MILL_BAD_SHEET 13       /* the order sheet has an odd length, over MILL_MAX_LINES lines, or a number not 1 to MILL_MAX_PIGMENT */
 #define MILL_NOT_FOR_LABORATORY 14 /* the laboratory may not ask it: see mill_lab_question */
+#define MILL_NO_REPORT 15       /* the named count is not 1 to MILL_MAX_BATCHES; or no report is under way */
 #define MILL_BAD_BAND 16        /* e is not 0 to MILL_MAX_BAND */
 #define MILL_NOT_BAND_QUESTION 17 /* the text is not one of high, low, lowafter, capafter and ampl alone */
 
@@ -464,6 +482,65 @@ uint64_t mill_lab_degree(const uint8_t *recording, size_t recording_len, const u
 */
 uint64_t mill_lab_pair(const uint8_t *recording, size_t recording_len, uint32_t curve, int64_t target, uint32_t *earlier,
                        uint32_t *later);
+
+/*
+** Begins a report: one text and one target, put to count recordings, which are then
+** handed to mill_report_add one after another.
+**
+** report is what is carried from call to call (CARRIED, above). Whatever it held is
+** ended: a naming that is refused leaves a report that answers MILL_NO_REPORT, but for
+** MILL_SHORT_OUTPUT, which is given where report_len is under MILL_REPORT_BYTES: so
+** short a buffer is never written. Returns 0.
+**
+** Refusals, in order: 15, 5, 6, 7, 12, 10.
+*/
+uint64_t mill_report_start(uint32_t count, const uint8_t *text, size_t text_len, int64_t target, uint8_t *report,
+                           size_t report_len);
+
+/*
+** Hands the next recording to a report.
+**
+** Each is judged as mill_degree judges it with the named text and target. The last of
+** the named count gives the report: how many met the target, how many had an empty set,
+** the exact sum of the other distances, and the mean degree. A batch that is met has
+** degree 1; those with an empty set are left out of the mean, and with none left there
+** is no mean. Degrees are added in the order handed in, begun at 0, each sum one
+** binary64 addition; the mean is one binary64 division of the sum by the number of
+** batches in it. It lies within one part in 1,000,000,000 of the exact fraction.
+**
+** A recording that mill_degree would refuse stops the report with that refusal. After
+** it, after the last of the named count, and where report holds no report, the answer is
+** MILL_NO_REPORT, whatever the recording, and leaves report as it was.
+**
+** Kept readings give the same report as full recordings, bit for bit, for the texts for
+** which mill_thin promises it.
+**
+** Three batches, next_batch giving the bytes of each and their length:
+**
+**     uint8_t year[MILL_REPORT_BYTES];
+**     uint32_t met, empty;
+**     uint64_t distances;
+**     double mean;
+**     int batch;
+**     uint64_t r = mill_report_start(3, (const uint8_t *)"peaks(A)", 8, 70, year, sizeof year);
+**     for (batch = 0; batch < 3 && MILL_NUMBER(r) == 0; batch++) {
+**         size_t batch_len;
+**         const uint8_t *bytes = next_batch(&batch_len);
+**         r = mill_report_add(year, sizeof year, bytes, batch_len, &met, &empty, &distances, &mean);
+**     }
+**     if (MILL_NUMBER(r) != 0)
+**         return report(MILL_NUMBER(r), MILL_PLACE(r));
+**     printf("%lu met, %lu empty, distances %lu\n", (unsigned long)met, (unsigned long)empty, (unsigned long)distances);
+**     if (r == MILL_REPORT)
+**         printf("mean degree %g\n", mean);
+**
+** Refusals, in order: 15, 1, 2, 3, 4, 9, 8.
+*/
+#define MILL_TAKEN 0          /* more recordings are to come; nothing is written */
+#define MILL_REPORT 1         /* the report: met, empty, distances and mean are written */
+#define MILL_REPORT_NO_MEAN 2 /* the report of batches that all had an empty set: the first three are written */
+uint64_t mill_report_add(uint8_t *report, size_t report_len, const uint8_t *recording, size_t recording_len, uint32_t *met,
+                         uint32_t *empty, uint64_t *distances, double *mean);
 
 #ifdef __cplusplus
 }

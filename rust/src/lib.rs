@@ -7,6 +7,8 @@
 pub mod plain;
 #[doc(hidden)]
 pub mod reference;
+#[cfg(feature = "library")]
+mod report;
 pub mod sys;
 
 /// A curve of the recording.
@@ -138,6 +140,8 @@ pub enum Refusal {
     /// 14: the laboratory may not ask it: a text that names B, `cross`, `crossup` or `lag`, has one of F, G, X, U and W or an after-time
     /// that is not among the marks; a pair of curve B.
     NotForLaboratory,
+    /// 15: the named count is 0 or over 1,000; or no report is under way: it has all its recordings, or one of them was refused.
+    NoReport,
     /// 16: the band is not 0 to 1,000,000 units.
     BadBand,
     /// 17: the text is not one of `high`, `low`, `lowafter`, `capafter` and `ampl` alone.
@@ -162,6 +166,7 @@ impl Refusal {
             Refusal::BadTarget => sys::MILL_BAD_TARGET,
             Refusal::BadSheet => sys::MILL_BAD_SHEET,
             Refusal::NotForLaboratory => sys::MILL_NOT_FOR_LABORATORY,
+            Refusal::NoReport => sys::MILL_NO_REPORT,
             Refusal::BadBand => sys::MILL_BAD_BAND,
             Refusal::NotBandQuestion => sys::MILL_NOT_BAND_QUESTION,
         }
@@ -193,6 +198,7 @@ impl Refusal {
             sys::MILL_BAD_TARGET => Refusal::BadTarget,
             sys::MILL_BAD_SHEET => Refusal::BadSheet,
             sys::MILL_NOT_FOR_LABORATORY => Refusal::NotForLaboratory,
+            sys::MILL_NO_REPORT => Refusal::NoReport,
             sys::MILL_BAD_BAND => Refusal::BadBand,
             sys::MILL_NOT_BAND_QUESTION => Refusal::NotBandQuestion,
             number => unreachable!("the library gives no refusal {number}"),
@@ -392,3 +398,5 @@ mod calls {
 pub use calls::{
     band, degree, lab_degree, lab_pair, lab_question, lab_question_into, order, pair, question, question_into, thin, thin_into,
 };
+#[cfg(feature = "library")]
+pub use report::{Added, Figures, Report};

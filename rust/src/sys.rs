@@ -11,6 +11,8 @@ pub const MILL_MARK_BYTES: usize = 4;
 pub const MILL_LINE_BYTES: usize = 2;
 /// Room for every set that a question answers.
 pub const MILL_SET_BYTES: usize = 2048;
+/// A report under way, as its calls carry it.
+pub const MILL_REPORT_BYTES: usize = 320;
 
 pub const MILL_MAX_RECORDS: usize = 4096;
 pub const MILL_MAX_TIME: u32 = 2_000_000_000;
@@ -27,6 +29,7 @@ pub const MILL_MAX_MARKS: usize = 8;
 pub const MILL_MAX_MARK: u32 = 2_000_000_000;
 pub const MILL_MAX_BAND: i64 = 1_000_000;
 pub const MILL_MAX_LINES: usize = 32;
+pub const MILL_MAX_BATCHES: u32 = 1_000;
 
 /// Bytes of stack with which each call does.
 pub const MILL_STACK_QUESTION: usize = 196_608;
@@ -38,6 +41,8 @@ pub const MILL_STACK_ORDER: usize = 4_096;
 pub const MILL_STACK_LAB_QUESTION: usize = 196_608;
 pub const MILL_STACK_LAB_DEGREE: usize = 196_608;
 pub const MILL_STACK_LAB_PAIR: usize = 4_096;
+pub const MILL_STACK_REPORT_START: usize = 131_072;
+pub const MILL_STACK_REPORT_ADD: usize = 196_608;
 
 pub const MILL_FALLING: u8 = 0;
 pub const MILL_FLAT: u8 = 1;
@@ -59,6 +64,10 @@ pub const MILL_POSSIBLE: u64 = 2;
 pub const MILL_SHEET_MET: u64 = 0;
 pub const MILL_SHEET_BROKEN: u64 = 1;
 
+pub const MILL_TAKEN: u64 = 0;
+pub const MILL_REPORT: u64 = 1;
+pub const MILL_REPORT_NO_MEAN: u64 = 2;
+
 pub const MILL_PARTIAL_RECORD: u32 = 1;
 pub const MILL_TOO_MANY_RECORDS: u32 = 2;
 pub const MILL_BAD_RECORD: u32 = 3;
@@ -73,6 +82,7 @@ pub const MILL_BAD_MARKS: u32 = 11;
 pub const MILL_BAD_TARGET: u32 = 12;
 pub const MILL_BAD_SHEET: u32 = 13;
 pub const MILL_NOT_FOR_LABORATORY: u32 = 14;
+pub const MILL_NO_REPORT: u32 = 15;
 pub const MILL_BAD_BAND: u32 = 16;
 pub const MILL_NOT_BAND_QUESTION: u32 = 17;
 
@@ -176,5 +186,25 @@ extern "C" {
         target: i64,
         earlier: *mut u32,
         later: *mut u32,
+    ) -> u64;
+
+    pub fn mill_report_start(
+        count: u32,
+        text: *const u8,
+        text_len: usize,
+        target: i64,
+        report: *mut u8,
+        report_len: usize,
+    ) -> u64;
+
+    pub fn mill_report_add(
+        report: *mut u8,
+        report_len: usize,
+        recording: *const u8,
+        recording_len: usize,
+        met: *mut u32,
+        empty: *mut u32,
+        distances: *mut u64,
+        mean: *mut f64,
     ) -> u64;
 }

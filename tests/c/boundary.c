@@ -305,6 +305,67 @@ static void laboratories(void)
     EXPECT(laboratory(kept, length, mark, "capafter(A,10)", 8, high) == 0);
 }
 
+static const uint8_t peaks_text[] = {'p', 'e', 'a', 'k', 's', '(', 'A', ')'}, lag_text[] = {'l', 'a', 'g'};
+
+static uint8_t year[MILL_REPORT_BYTES + 3];
+static uint32_t met, empty;
+static uint64_t distances;
+static double mean;
+
+/* Hands a recording to the report; whether the four numbers are then these. They are set apart before. */
+static int added(const uint8_t *recording, size_t length, uint64_t returned, uint32_t is_met, uint32_t is_empty, uint64_t sum, double is_mean)
+{
+    met = empty = 77;
+    distances = 77;
+    mean = 7.5;
+    return mill_report_add(year, sizeof year, recording, length, &met, &empty, &distances, &mean) == returned && met == is_met &&
+           empty == is_empty && distances == sum && memcmp(&mean, &is_mean, sizeof mean) == 0;
+}
+
+/* The same, with nothing written and the report left as it was. */
+static int not_under_way(const uint8_t *recording, size_t length)
+{
+    uint8_t before[sizeof year];
+    memcpy(before, year, sizeof year);
+    return added(recording, length, (uint64_t)MILL_NO_REPORT << 32, 77, 77, 77, 7.5) && memcmp(before, year, sizeof year) == 0;
+}
+
+static void reports(void)
+{
+    const uint64_t partial = (uint64_t)MILL_PARTIAL_RECORD << 32;
+    size_t length;
+    memset(year, 0, sizeof year);
+    EXPECT(not_under_way(r1, R1_BYTES));
+    memset(year, 0xFF, sizeof year);
+    EXPECT(not_under_way(r1, R1_BYTES));
+    EXPECT(mill_report_start(3, peaks_text, 8, 70, year, sizeof year) == 0);
+    EXPECT(added(r1, R1_BYTES, MILL_TAKEN, 77, 77, 77, 7.5));
+    EXPECT(added(r1, 64, MILL_TAKEN, 77, 77, 77, 7.5));
+    EXPECT(added(r1, 16, MILL_REPORT, 1, 1, 40, (1.0 + 1.0 / 41.0) / 2.0));
+    EXPECT(not_under_way(r1, R1_BYTES));
+    EXPECT(not_under_way(r1, 17));
+    EXPECT(mill_report_start(1, lag_text, 3, 0, year, sizeof year) == 0);
+    EXPECT(added(r1, R1_BYTES, MILL_REPORT_NO_MEAN, 0, 1, 0, 7.5));
+    EXPECT(mill_report_start(3, peaks_text, 8, 30, year, sizeof year) == 0);
+    EXPECT(added(r1, R1_BYTES, MILL_TAKEN, 77, 77, 77, 7.5));
+    EXPECT(added(r1, 17, partial, 77, 77, 77, 7.5));
+    EXPECT(not_under_way(r1, R1_BYTES));
+    EXPECT(mill_report_start(0, NULL, 0, INT64_MAX, year, sizeof year) == (uint64_t)MILL_NO_REPORT << 32);
+    EXPECT(mill_report_start(MILL_MAX_BATCHES + 1, NULL, 0, INT64_MAX, year, sizeof year) == (uint64_t)MILL_NO_REPORT << 32);
+    EXPECT(mill_report_start(MILL_MAX_BATCHES, NULL, 0, INT64_MAX, year, 0) == (uint64_t)MILL_TEXT_LENGTH << 32);
+    EXPECT(mill_report_start(MILL_MAX_BATCHES, lag_text, 2, INT64_MAX, year, 0) == (uint64_t)MILL_NO_READING << 32);
+    EXPECT(mill_report_start(MILL_MAX_BATCHES, lag_text, 3, INT64_MAX, year, 0) == (uint64_t)MILL_BAD_TARGET << 32);
+    for (length = 0; length < MILL_REPORT_BYTES; length++) {
+        memset(year, 0xA5, sizeof year);
+        EXPECT(mill_report_start(1, lag_text, 3, 0, year, length) == (uint64_t)MILL_SHORT_OUTPUT << 32);
+        EXPECT(mill_report_add(year, length, r1, R1_BYTES, &met, &empty, &distances, &mean) == (uint64_t)MILL_NO_REPORT << 32);
+        EXPECT(year[0] == 0xA5 && memcmp(year, year + 1, sizeof year - 1) == 0);
+    }
+    EXPECT(mill_report_start(1, lag_text, 3, 0, year, MILL_REPORT_BYTES) == 0);
+    EXPECT(year[MILL_REPORT_BYTES] == 0xA5 && year[MILL_REPORT_BYTES + 2] == 0xA5);
+    EXPECT(added(r2, R2_BYTES, MILL_REPORT_NO_MEAN, 0, 1, 0, 7.5));
+}
+
 /* Tops of A at 10, 20, 40 and 50: (10, 40) and (20, 50) lie 30 apart. The second record is the one that is not kept. */
 static void first_of_several_pairs(void)
 {
@@ -389,6 +450,22 @@ static void tops_for_a_laboratory(void)
     EXPECT(MILL_NUMBER(mill_lab_question(large, length, NULL, 0, peaks, 8, out, sizeof out)) == MILL_TOO_MANY_RUNS);
     EXPECT(MILL_NUMBER(mill_lab_degree(large, length, NULL, 0, peaks, 8, 2, &distance, &degree)) == MILL_TOO_MANY_RUNS);
     EXPECT(MILL_NUMBER(mill_lab_pair(large, length, MILL_CURVE_A, 2, &earlier, &later)) == MILL_TOO_MANY_TOPS);
+}
+
+/* 1,000 batches of MILL_MAX_RUNS tops, and one more top. */
+static void tops_in_a_report(void)
+{
+    const size_t length = sizeof large - MILL_RECORD_BYTES;
+    int batch;
+    make_tops(MILL_MAX_RUNS);
+    EXPECT(mill_report_start(MILL_MAX_BATCHES, peaks_text, 8, 1, year, sizeof year) == 0);
+    for (batch = 1; batch < MILL_MAX_BATCHES; batch++)
+        EXPECT(added(large, length, MILL_TAKEN, 77, 77, 77, 7.5));
+    EXPECT(added(large, length, MILL_REPORT, MILL_MAX_BATCHES, 0, 0, 1.0));
+    EXPECT(mill_report_start(2, peaks_text, 8, 1, year, sizeof year) == 0);
+    make_tops(MILL_MAX_RUNS + 1);
+    EXPECT(added(large, length, (uint64_t)MILL_TOO_MANY_RUNS << 32, 77, 77, 77, 7.5));
+    EXPECT(not_under_way(r1, R1_BYTES));
 }
 
 static uint32_t refused(const uint8_t *recording, size_t length, const char *text)
@@ -680,6 +757,8 @@ int main(void)
     orders();
     laboratories();
     tops_for_a_laboratory();
+    reports();
+    tops_in_a_report();
     refusals();
     nothing_at_all();
     thinning_of_r1();

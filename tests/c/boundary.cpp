@@ -137,6 +137,22 @@ void laboratories()
     EXPECT(mill_lab_pair(r1, length, MILL_CURVE_A, 40, &earlier, &later) == MILL_PAIR && earlier == 30 && later == 70);
 }
 
+void reports()
+{
+    const uint8_t text[] = {'g', 'a', 'p', 's', '(', 'A', ')'};
+    uint8_t year[MILL_REPORT_BYTES];
+    uint32_t met = 7, empty = 7;
+    uint64_t distances = 7;
+    double mean = 7;
+    EXPECT(mill_report_start(2, text, sizeof text, 43, year, sizeof year) == 0);
+    EXPECT(mill_report_add(year, sizeof year, r1, length, &met, &empty, &distances, &mean) == MILL_TAKEN && met == 7 && mean > 6);
+    EXPECT(mill_report_add(year, sizeof year, r1, 16, &met, &empty, &distances, &mean) == MILL_REPORT);
+    const double quarter = 0.25;
+    EXPECT(met == 0 && empty == 1 && distances == 3 && std::memcmp(&mean, &quarter, sizeof mean) == 0);
+    EXPECT(MILL_NUMBER(mill_report_add(year, sizeof year, r1, 16, &met, &empty, &distances, &mean)) == MILL_NO_REPORT);
+    EXPECT(MILL_NUMBER(mill_report_start(2, text, sizeof text, 43, year, sizeof year - 1)) == MILL_SHORT_OUTPUT);
+}
+
 void thinning()
 {
     uint8_t mark[MILL_MARK_BYTES], whole[length], held[length], out[length];
@@ -167,6 +183,7 @@ int main()
     bands();
     orders();
     laboratories();
+    reports();
     thinning();
     std::printf("boundary.cpp: %d failures\n", failures);
     return failures == 0 ? 0 : 1;

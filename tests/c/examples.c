@@ -1,7 +1,7 @@
 /*
 ** Covers: the examples in the comments of mill.h, as they stand there. tests/c/run takes them out into examples.h, compiles them
 ** as C and as C++, and holds what is printed to examples.out. Here stands what they leave to their reader: the recording R1, the
-** mark 40, R1 in pieces of three readings, and what is done with a refusal. tests/c/run says what CAPACITY is. All of R1 is kept.
+** mark 40, R1 in pieces of three readings, three batches, and what is done with a refusal. tests/c/run says what CAPACITY is. All of R1 is kept.
 */
 #include "mill.h"
 
@@ -15,7 +15,7 @@ size_t recording_len;
 const uint8_t marks[] = {40, 0, 0, 0};
 const size_t marks_len = sizeof marks;
 
-static size_t taken;
+static size_t taken, batches;
 
 /* Puts the next piece of the recording there and tells its length, 0 after the last. */
 size_t next_piece(uint8_t *to, size_t room)
@@ -28,6 +28,17 @@ size_t next_piece(uint8_t *to, size_t room)
     memcpy(to, recording + taken, length);
     taken += length;
     return length;
+}
+
+/* The next batch: all of the recording, its first four readings, its first. */
+const uint8_t *next_batch(size_t *length)
+{
+    static const size_t most[] = {READINGS, 4, 1};
+    *length = most[batches % 3] * MILL_RECORD_BYTES;
+    if (*length > recording_len || batches == 0)
+        *length = recording_len;
+    batches += 1;
+    return recording;
 }
 
 int report(uint32_t number, uint32_t place)
@@ -72,7 +83,7 @@ static void run(const char *name, int (*example)(void), size_t length)
 {
     int returned;
     recording_len = length;
-    taken = 0;
+    taken = batches = 0;
     printf("%s, %u bytes of R1\n", name, (unsigned)length);
     returned = example();
     printf("returned %d\n", returned);

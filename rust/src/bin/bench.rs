@@ -21,6 +21,7 @@ fn main() {
     pairs();
     bands();
     orders();
+    reports();
 }
 
 fn thinning() {
@@ -198,6 +199,26 @@ fn orders() {
     }
 }
 
+/// A batch handed to a report of 1,000 against its degree call, which stands in the column of plain Rust. Each begins with a copy of
+/// the report's bytes.
+fn reports() {
+    let recording = bytes(&with_tops(&evenly(64, RECORDS), &[]));
+    for (text, recording) in [
+        ("high(A)", &recording[..]),
+        ("peaks(A)", &recording),
+        ("F(T=v&fall(A))", &recording),
+        ("high(A)", &recording[..64 * 16]),
+    ] {
+        let mut report = mill::Report::start(sys::MILL_MAX_BATCHES, text.as_bytes(), 77).expect("a text");
+        assert_eq!(report.add(recording), Ok(mill::Added::Taken));
+        let library = || report.clone().add(black_box(recording));
+        let degree = || mill::degree(black_box(recording), text.as_bytes(), 77);
+        let records = recording.len() / 16;
+        let name = format!("a batch against its degree, {text}, {records}");
+        row(&name, "taken", best(library, degree), (records == RECORDS).then_some(1.05));
+    }
+}
+
 fn question(name: &str, aim: f64, readings: &[Reading], text: &str) {
     let (recording, text) = (bytes(readings), text.as_bytes());
     writing(name, aim, |out| mill::question_into(&recording, text, out), |out| plain::question(&recording, text, out));
@@ -220,7 +241,7 @@ fn writing(
 }
 
 fn row(name: &str, outcome: &str, (library, plain): (f64, f64), aim: Option<f64>) {
-    let aim = aim.map_or(String::new(), |aim| format!("{aim:.1}"));
+    let aim = aim.map_or(String::new(), |aim| format!("{aim:?}"));
     println!("{name:<52} {outcome:>14} {:>12.2} {:>12.2} {:>7.2} {aim:>5}", library * 1e6, plain * 1e6, library / plain);
 }
 

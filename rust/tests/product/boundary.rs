@@ -6,7 +6,8 @@ use crate::support::r2::r2_bytes;
 use crate::support::recordings::flat;
 use mill::reference::recording::bytes;
 use mill::sys::{
-    mill_band, mill_degree, mill_lab_degree, mill_lab_pair, mill_lab_question, mill_order, mill_pair, mill_question, mill_thin,
+    mill_band, mill_degree, mill_lab_degree, mill_lab_pair, mill_lab_question, mill_order, mill_pair, mill_question,
+    mill_report_add, mill_report_start, mill_thin, MILL_REPORT_BYTES,
 };
 use std::ptr::{null, null_mut};
 
@@ -55,6 +56,24 @@ fn null_with_length_0_in_the_laboratory() {
         assert_eq!(mill_lab_question(recording, length, recording.add(64), 4, recording, 20, out.as_mut_ptr(), 64), refusal(6));
     }
     assert_eq!((distance, degree, out, earlier, later), (77.0, 7.5, [9; 64], 77, 78));
+}
+
+#[test]
+fn null_with_length_0_in_reports() {
+    let r1 = r1_bytes();
+    let (mut met, mut empty, mut distances, mut mean) = (77, 78, 79, 7.5);
+    let mut report = [9u8; MILL_REPORT_BYTES];
+    // SAFETY: each pointer lies before as many bytes as its length says; null goes with 0.
+    unsafe {
+        assert_eq!(mill_report_start(1, null(), 0, i64::MIN, null_mut(), 0), refusal(5));
+        assert_eq!(mill_report_start(1, b"lag".as_ptr(), 3, 0, null_mut(), 0), refusal(10));
+        assert_eq!(mill_report_add(null_mut(), 0, null(), 0, &mut met, &mut empty, &mut distances, &mut mean), refusal(15));
+        let (at, length) = (report.as_mut_ptr(), report.len());
+        assert_eq!(mill_report_start(1, b"lag".as_ptr(), 3, 0, at, length), 0);
+        assert_eq!(mill_report_add(at, length, null(), 0, &mut met, &mut empty, &mut distances, &mut mean), refusal(4));
+        assert_eq!(mill_report_add(at, length, r1.as_ptr(), 128, &mut met, &mut empty, &mut distances, &mut mean), refusal(15));
+    }
+    assert_eq!((met, empty, distances, mean), (77, 78, 79, 7.5));
 }
 
 #[test]
@@ -190,6 +209,15 @@ fn lengths_past_32_bits_in_questions() {
             );
         }
         assert_eq!((distance, degree, out), (77.0, 7.5, [9; 64]));
+        let (mut met, mut empty, mut distances, mut mean) = (77, 78, 79, 7.5);
+        for length in [WRAPPED, WRAPPED + 7] {
+            assert_eq!(mill_report_start(1, at, length, 0, out.as_mut_ptr(), 64), refusal(5));
+        }
+        // What is carried may be longer than 4 GiB.
+        assert_eq!(mill_report_start(1, text.as_ptr(), 7, 0, at, WRAPPED + 5), 0);
+        assert_eq!(mill_report_add(at, WRAPPED + 5, r1.as_ptr(), 128, &mut met, &mut empty, &mut distances, &mut mean), 1);
+        assert_eq!((met, empty, distances, mean), (1, 0, 0, 1.0));
+        std::slice::from_raw_parts_mut(at, MILL_REPORT_BYTES).fill(0);
         // An output of over 4 GiB is room enough.
         assert_eq!(mill_lab_question(r1.as_ptr(), 128, null(), 0, text.as_ptr(), 7, at, WRAPPED), 8);
         assert_eq!(mill_question(r1.as_ptr(), 128, text.as_ptr(), 7, at, WRAPPED), 8);

@@ -14,6 +14,8 @@ pub struct Desk {
     pub recording: Guarded,
     pub second: Guarded,
     pub third: Guarded,
+    /// What a call takes as the last call left it.
+    carried: Guarded,
     out: Guarded,
     numbers: [Guarded; 4],
     /// What outputs hold before a call, from a place that changes with the turn.
@@ -30,6 +32,7 @@ thread_local! {
         recording: Guarded::input(MOST_LENGTH),
         second: Guarded::input(1 << 16),
         third: Guarded::input(1 << 16),
+        carried: Guarded::output(1 << 16),
         out: Guarded::output(MOST_LENGTH),
         numbers: [(); 4].map(|()| Guarded::output(8)),
         filling: (0..MOST_LENGTH + 256).map(|at| (at % 251) as u8).collect(),
@@ -89,15 +92,36 @@ impl Desk {
         (returned, result)
     }
 
+    /// What a call returns that is handed these bytes to take and to leave; that nothing around them is touched.
+    pub fn carried(&mut self, bytes: &mut [u8], against: Against, call: impl FnOnce(*mut u8) -> u64) -> u64 {
+        let length = bytes.len();
+        let (at, start) = (self.carried.place(length, against), self.carried.offset(length, against));
+        let (from, to) = (start.saturating_sub(CANARY), (start + length + CANARY).min(self.carried.bytes().len()));
+        let filler = filler(self.turn);
+        self.carried.bytes()[from..to].fill(filler);
+        self.carried.bytes()[start..start + length].copy_from_slice(bytes);
+        let returned = call(at);
+        let after = self.carried.bytes();
+        let around = after[from..start].iter().chain(&after[start + length..to]);
+        assert!(around.copied().all(|byte| byte == filler), "bytes around what is carried were touched; {}", place());
+        bytes.copy_from_slice(&after[start..start + length]);
+        returned
+    }
+
     /// Places for four numbers of so many bytes, filled.
     pub fn number_places(&mut self, against: Against, size: usize) -> [*mut u8; 4] {
+        self.places_of(against, [size; 4])
+    }
+
+    /// The same for numbers of these sizes.
+    pub fn places_of(&mut self, against: Against, sizes: [usize; 4]) -> [*mut u8; 4] {
         let turn = self.turn;
         let against = aligned(against);
         for number in &mut self.numbers {
             let at = number.offset(16, against);
             number.bytes()[at..at + 16].fill(filler(turn));
         }
-        [0, 1, 2, 3].map(|which| self.numbers[which].place(size, against))
+        [0, 1, 2, 3].map(|which| self.numbers[which].place(sizes[which], against))
     }
 
     /// What number places hold before a call.
@@ -107,6 +131,11 @@ impl Desk {
 
     /// The bytes at the number places, and that the bytes beside them are untouched.
     pub fn numbers_after(&mut self, against: Against, size: usize) -> [Vec<u8>; 4] {
+        self.numbers_of(against, [size; 4])
+    }
+
+    /// The same of numbers of these sizes.
+    pub fn numbers_of(&mut self, against: Against, sizes: [usize; 4]) -> [Vec<u8>; 4] {
         let turn = self.turn;
         let against = aligned(against);
         let mut read = |which: usize, size: usize| {
@@ -120,7 +149,7 @@ impl Desk {
             assert!(beside.iter().all(|byte| *byte == filler(turn)), "bytes beside a number were touched; {}", place());
             own.to_vec()
         };
-        [0, 1, 2, 3].map(|which| read(which, size))
+        [0, 1, 2, 3].map(|which| read(which, sizes[which]))
     }
 }
 

@@ -21,6 +21,7 @@ mod page;
 mod pair;
 mod pinned;
 mod question;
+mod report;
 mod stack;
 mod texts;
 mod thinning;

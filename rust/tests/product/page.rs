@@ -8,6 +8,7 @@
 //! ```` ```mill degree 51 ```` asks for degrees of this target: `met`,
 //! `distance d, degree g` or `no value`. ```` ```mill band 5 ```` asks within this band: `certain` and a set, `; possible` and a
 //! set. ```` ```mill order ```` checks order sheets, lines `a b` parted by `, `: `met`, or `line k broken at t`.
+//! ```` ```mill report 31 R1 R2 ```` puts texts and this target to these recordings: `met m, empty n, distances d, mean g`, or `no mean`.
 //! ```` ```mill R2 ```` to ```` ```mill R5 ````, with any of these behind it, ask R2 to R5, and
 //! ```` ```mill R4 old ```` the readings that document 01's own rule kept of R4.
 //! Blank lines, and lines that begin with `#`, say nothing. A block ```` ```ask ```` holds lines `$ echo 'text' | ask`, each with
@@ -20,7 +21,7 @@ use crate::support::r3::{self, r3_bytes};
 use crate::support::r4::{self, r4_bytes};
 use crate::support::r5::r5_bytes;
 use mill::reference::recording::{bytes, in_rules};
-use mill::{Degree, Order, Refusal, Run};
+use mill::{Added, Degree, Order, Refusal, Report, Run};
 
 /// Of which recording.
 #[derive(Clone, Copy, PartialEq)]
@@ -45,6 +46,8 @@ enum Asked {
     Degree(i64),
     Band(i64),
     Order,
+    /// A target, put to these recordings.
+    Report(i64, Vec<Recording>),
     AtThePrompt,
 }
 
@@ -107,10 +110,7 @@ fn block_of(name: &str) -> Result<Block, String> {
     let words: Vec<&str> = name.split_whitespace().collect();
     let unread = |_| format!("numbers of '{name}'");
     let (recording, how) = match words[..] {
-        ["mill", "R2", ref how @ ..] => (Recording::R2, how),
-        ["mill", "R3", ref how @ ..] => (Recording::R3, how),
-        ["mill", "R4", ref how @ ..] => (Recording::R4, how),
-        ["mill", "R5", ref how @ ..] => (Recording::R5, how),
+        ["mill", first, ref how @ ..] if recording_of(first).is_some() => (recording_of(first).unwrap(), how),
         ["mill", ref how @ ..] => (Recording::R1, how),
         ["ask"] => return Ok(Block::Examples(Recording::R1, Asked::AtThePrompt)),
         _ => return Ok(Block::Other),
@@ -129,20 +129,45 @@ fn block_of(name: &str) -> Result<Block, String> {
         ["degree", target] => Asked::Degree(target.parse().map_err(unread)?),
         ["band", e] => Asked::Band(e.parse().map_err(unread)?),
         ["order"] => Asked::Order,
+        ["report", target, of @ ..] => {
+            let of: Option<Vec<Recording>> = of.iter().map(|word| recording_of(word)).collect();
+            Asked::Report(target.parse().map_err(unread)?, of.ok_or(format!("recordings of '{name}'"))?)
+        }
         _ => return Err(format!("unknown block '{name}'")),
     };
     Ok(Block::Examples(recording, asked))
 }
 
-/// The answer of the library, written as the page writes it.
-fn answer(example: &Example) -> String {
-    let recording = match example.recording {
+fn recording_of(word: &str) -> Option<Recording> {
+    let all = [("R1", Recording::R1), ("R2", Recording::R2), ("R3", Recording::R3), ("R4", Recording::R4), ("R5", Recording::R5)];
+    all.into_iter().find(|(name, _)| *name == word).map(|(_, recording)| recording)
+}
+
+fn bytes_of(recording: Recording) -> Vec<u8> {
+    match recording {
         Recording::R1 => r1_bytes(),
         Recording::R2 => r2_bytes(),
         Recording::R3 => r3_bytes(),
         Recording::R4 => r4_bytes(),
         Recording::R5 => r5_bytes(),
-    };
+    }
+}
+
+/// The report on these recordings, all but the last taken, as the page writes it.
+fn report(text: &[u8], target: i64, recordings: &[Recording]) -> Result<String, Refusal> {
+    let mut report = Report::start(recordings.len() as u32, text, target)?;
+    let (last, others) = recordings.split_last().expect("a recording");
+    for recording in others {
+        assert_eq!(report.add(&bytes_of(*recording))?, Added::Taken);
+    }
+    let Added::Report(figures) = report.add(&bytes_of(*last))? else { panic!("the last gives the report") };
+    let mean = figures.mean.map_or("no mean".into(), |mean| format!("mean {mean}"));
+    Ok(format!("met {}, empty {}, distances {}, {mean}", figures.met, figures.empty, figures.distances))
+}
+
+/// The answer of the library, written as the page writes it.
+fn answer(example: &Example) -> String {
+    let recording = bytes_of(example.recording);
     let text = example.text.as_bytes();
     let written = match &example.asked {
         Asked::OfFull => mill::question(&recording, text).map(|runs| on_the_page(&runs)),
@@ -179,6 +204,7 @@ fn answer(example: &Example) -> String {
             Order::Met => "met".into(),
             Order::Broken { time, line } => format!("line {line} broken at {time}"),
         }),
+        Asked::Report(target, recordings) => report(text, *target, recordings),
         Asked::AtThePrompt => return at_the_prompt(mill::question(&recording, text)),
     };
     written.unwrap_or_else(|refusal| refusal.to_string())
@@ -295,6 +321,7 @@ fn the_page_answers_as_the_library() {
         let of_it = |example: &Example| example.recording == recording && asks(example);
         assert!(examples.iter().any(of_it), "{path} has no example of the laboratory");
     }
+    assert!(examples.iter().any(|example| matches!(example.asked, Asked::Report(..))), "{path} has no example of a report");
     for name in names {
         assert!(examples.iter().any(|example| example.text.contains(name)), "{path} has no example with {name}");
     }
@@ -370,6 +397,10 @@ high(A) => certain Lo..85; possible Lo..94
 7 16 => met
 7 16, 16 7 => line 0 broken at 20
 ```
+```mill report 31 R1 R2
+peaks(A) => met 0, empty 0, distances 10, mean 0.3
+lag => met 0, empty 2, distances 0, mean 1
+```
 ```ask
 $ echo 'peaks(A)' | ask
 runs 2
@@ -384,9 +415,9 @@ refused 6 0
 ```
 ";
     let found = examples(page).unwrap();
-    assert_eq!(found.len(), 33);
+    assert_eq!(found.len(), 35);
     let wrong = wrong(&found);
-    assert_eq!(wrong.len(), 11, "{wrong:?}");
+    assert_eq!(wrong.len(), 12, "{wrong:?}");
     assert_eq!(wrong[0], "line 7: A=v|A>90 => 40, and not refused 9 9");
     assert_eq!(wrong[1], "line 22: F(T=v&A=55) => 50, and not empty");
     assert_eq!(wrong[2], "line 26: peaks(A) => distance 19, degree 0.05, and not distance 19, degree 0.06");
@@ -397,7 +428,8 @@ refused 6 0
     assert_eq!(wrong[7], "line 57: peaks(A) => empty, and not 40");
     assert_eq!(wrong[8], "line 61: high(A) => certain Lo..85; possible Lo..95, and not certain Lo..85; possible Lo..94");
     assert_eq!(wrong[9], "line 65: 7 16, 16 7 => line 1 broken at 20, and not line 0 broken at 20");
-    assert_eq!(wrong[10], "line 74: lag => runs 0\n, and not runs 1\n");
+    assert_eq!(wrong[10], "line 69: lag => met 0, empty 2, distances 0, no mean, and not met 0, empty 2, distances 0, mean 1");
+    assert_eq!(wrong[11], "line 78: lag => runs 0\n, and not runs 1\n");
     assert!(examples("```mill\nlag\n```\n").is_err());
     assert!(examples("```mill\nlag => empty\n").is_err());
     assert!(examples("```mill keep\n```\n").is_err());
@@ -408,6 +440,8 @@ refused 6 0
     assert!(examples("```mill kept 10 lab x\n```\n").is_err());
     assert!(examples("```mill degree\n```\n").is_err());
     assert!(examples("```mill band x\n```\n").is_err());
+    assert!(examples("```mill report x R1\n```\n").is_err());
+    assert!(examples("```mill report 3 R9\n```\n").is_err());
     assert!(examples("```mill order 3\n```\n").is_err());
     assert!(examples("```ask\nruns 0\n```\n").is_err());
 }

@@ -7,7 +7,8 @@ use crate::support::small_stack::on_stack_of;
 use crate::support::{header, painted};
 use mill::reference::recording::bytes;
 use mill::sys::{
-    mill_band, mill_degree, mill_lab_degree, mill_lab_pair, mill_lab_question, mill_order, mill_pair, mill_question, mill_thin,
+    mill_band, mill_degree, mill_lab_degree, mill_lab_pair, mill_lab_question, mill_order, mill_pair, mill_question,
+    mill_report_add, mill_report_start, mill_thin, MILL_REPORT_BYTES,
 };
 use std::collections::BTreeMap;
 
@@ -105,6 +106,9 @@ enum Job {
     LabQuestion(Vec<u8>, String),
     LabDegree(Vec<u8>, String),
     LabPair(Vec<u8>, i64),
+    ReportStart(String),
+    /// With a report that was begun with the text; none where the text is refused.
+    ReportAdd(Vec<u8>, Vec<u8>),
 }
 
 impl Job {
@@ -120,6 +124,8 @@ impl Job {
             Job::LabQuestion(..) => ("mill_lab_question", header::stack("LAB_QUESTION")),
             Job::LabDegree(..) => ("mill_lab_degree", header::stack("LAB_DEGREE")),
             Job::LabPair(..) => ("mill_lab_pair", header::stack("LAB_PAIR")),
+            Job::ReportStart(_) => ("mill_report_start", header::stack("REPORT_START")),
+            Job::ReportAdd(..) => ("mill_report_add", header::stack("REPORT_ADD")),
         }
     }
 }
@@ -131,6 +137,10 @@ fn jobs() -> Vec<Job> {
             jobs.push(Job::Question(recording.clone(), text.clone()));
             jobs.push(Job::Degree(recording.clone(), text.clone()));
             jobs.push(Job::Band(recording.clone(), text.clone()));
+            jobs.push(Job::ReportStart(text.clone()));
+            let report = mill::Report::start(2, text.as_bytes(), 7)
+                .map_or(vec![0; MILL_REPORT_BYTES], |report| report.as_bytes().to_vec());
+            jobs.push(Job::ReportAdd(report, recording.clone()));
             // Of A alone, and as it is.
             let of_a = text.replace("B=v", "A=v").replace("steps(B)", "steps(A)").replace("lag", "gaps(A)");
             for text in [of_a, text] {
@@ -176,6 +186,13 @@ fn run(job: &Job, out: &mut [u8]) -> u64 {
                 let [mut low, mut high, mut lowest, mut highest] = [0; 4];
                 let (at, length) = (recording.as_ptr(), recording.len());
                 mill_band(at, length, text.as_ptr(), text.len(), 9, &mut low, &mut high, &mut lowest, &mut highest)
+            }
+            Job::ReportStart(text) => mill_report_start(3, text.as_ptr(), text.len(), 7, out.as_mut_ptr(), out.len()),
+            Job::ReportAdd(report, recording) => {
+                let (mut distances, mut mean) = (0, 0.0);
+                let (at, length, room) = (recording.as_ptr(), recording.len(), out.len());
+                out[..report.len()].copy_from_slice(report);
+                mill_report_add(out.as_mut_ptr(), room, at, length, &mut one, &mut two, &mut distances, &mut mean)
             }
             Job::LabQuestion(recording, text) => {
                 let (at, length, room, out) = (recording.as_ptr(), recording.len(), out.len(), out.as_mut_ptr());
@@ -237,7 +254,7 @@ fn peak_of_every_call() {
 #[test]
 fn a_stack_that_is_too_small_is_seen() {
     const LESS: &str = "MILL_LESS_STACK";
-    let recording = bytes(&flat(1));
+    let (recording, lag) = (bytes(&flat(1)), "!".repeat(31) + "lag");
     let jobs = [
         (Job::Question(recording.clone(), "(".repeat(256)), 65_536),
         (Job::Degree(recording.clone(), "(".repeat(256)), 65_536),
@@ -247,7 +264,9 @@ fn a_stack_that_is_too_small_is_seen() {
         (Job::Order(recording.clone()), 128),
         (Job::LabQuestion(recording.clone(), "(".repeat(256)), 65_536),
         (Job::LabDegree(recording.clone(), "(".repeat(256)), 65_536),
-        (Job::LabPair(recording, 16), 512),
+        (Job::LabPair(recording.clone(), 16), 512),
+        (Job::ReportStart("(".repeat(256)), 65_536),
+        (Job::ReportAdd(mill::Report::start(2, lag.as_bytes(), 7).unwrap().as_bytes().to_vec(), recording), 65_536),
     ];
     if let Ok(which) = std::env::var(LESS) {
         let which: usize = which.parse().unwrap();
@@ -255,7 +274,7 @@ fn a_stack_that_is_too_small_is_seen() {
         begin("too small a stack", which as u64);
         let (job, bytes) = &jobs[which];
         on_stack_of(*bytes, &mut || {
-            run(job, &mut [0; 16]);
+            run(job, &mut [0; 1_024]);
         });
         return;
     }

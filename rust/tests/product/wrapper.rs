@@ -99,6 +99,7 @@ fn every_refusal() {
         (14, mill::lab_question(&recording, &[], b"lag").unwrap_err()),
         (14, mill::lab_degree(&recording, &[], b"lag", 2_000_000_001).unwrap_err()),
         (14, mill::lab_pair(&recording, Curve::B, 40).unwrap_err()),
+        (15, mill::Report::start(1_001, b"lag", 40).unwrap_err()),
         (16, mill::band(&recording, b"high(A)", 1_000_001).unwrap_err()),
         (17, mill::band(&recording, b"peaks(A)", 0).unwrap_err()),
     ];
