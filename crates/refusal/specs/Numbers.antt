@@ -1,7 +1,7 @@
 -- Document 01, the table of refusals, and document 02, which adds to it: the number and the place of each.
 use Prim.Native.Nat.{ℕ}
 use Rattle.refusal.specs.declared.Refusal.{Refusal}
-use Rattle.refusal.specs.declared.Refusal.the-variants.{PartialRecord, TooManyRecords, BadRecord, NoRecord, TextLength, NoReading, TextTooLarge, TooManyRuns, TooManyTops, ShortOutput, BadMarks, BadTarget, BadSheet, NotForLaboratory, NoReport, BadBand, NotBandQuestion}
+use Rattle.refusal.specs.declared.Refusal.the-variants.{PartialRecord, TooManyRecords, BadRecord, NoRecord, TextLength, NoReading, TextTooLarge, TooManyRuns, TooManyTops, ShortOutput, BadMarks, BadTarget, BadSheet, NotForLaboratory, NoReport, BadBand, NotBandQuestion, BadMoment, TooManyKept}
 
 abbrev pub numberOf : Refusal → ℕ
 numberOf PartialRecord = 1
@@ -21,6 +21,8 @@ numberOf NotForLaboratory = 14
 numberOf NoReport = 15
 numberOf BadBand = 16
 numberOf NotBandQuestion = 17
+numberOf BadMoment = 18
+numberOf TooManyKept = 19
 
 -- the index of the record for number 3, else 0
 abbrev pub placeOf : Refusal → ℕ
@@ -41,3 +43,5 @@ placeOf NotForLaboratory = 0
 placeOf NoReport = 0
 placeOf BadBand = 0
 placeOf NotBandQuestion = 0
+placeOf BadMoment = 0
+placeOf TooManyKept = 0

@@ -37,6 +37,10 @@ pub enum Refusal {
     BadBand,
     // The text is not one question that is answered within a band, alone.
     NotBandQuestion,
+    // The name of a moment is not 1 to 8, or is not set when going back.
+    BadMoment,
+    // The run with the new reading would hold over 128 kept readings.
+    TooManyKept,
 }
 
 // The refusal's number in the table.
@@ -61,6 +65,8 @@ pub fn number(r: Refusal) -> u32
         Refusal::NoReport => 15,
         Refusal::BadBand => 16,
         Refusal::NotBandQuestion => 17,
+        Refusal::BadMoment => 18,
+        Refusal::TooManyKept => 19,
     }
 }
 
@@ -86,5 +92,7 @@ pub fn place(r: Refusal) -> usize
         Refusal::NoReport => 0,
         Refusal::BadBand => 0,
         Refusal::NotBandQuestion => 0,
+        Refusal::BadMoment => 0,
+        Refusal::TooManyKept => 0,
     }
 }
