@@ -88,6 +88,44 @@ put-put at v w s h =
     ∙ ap (λ (i : ℕ). drop i s) e′)
     ∙ ap (λ (x : List ℕ). x ++ drop (at + length (v ++ w)) s) (append-assoc (take at s) v w)
 
+-- bytes right before those that were put
+pub put-before : (at : ℕ) (v w s : List ℕ) → at + length v + length w ≤ length s → put at v (put (at + length v) w s) ≡ put at (v ++ w) s
+unfolding put
+put-before at v w s h =
+    let l : ℕ = at + length v in
+    let e = length-append v w in
+    let e′ : l + length w ≡ at + length (v ++ w) = omega arith in
+    ap₂ (λ (x y : List ℕ). (x ++ v) ++ y) (part-before l w s h 0 at (omega arith))
+    (ap (drop l) (append-assoc (take l s) w (drop (l + length w) s)) ∙ drop-at (take l s) (w ++ drop (l + length w) s) l (length-take-le l s (omega arith)))
+    ∙ sym (append-assoc (take at s ++ v) w (drop (l + length w) s))
+    ∙ ap₂ (λ (x : List ℕ) (i : ℕ). x ++ drop i s) (append-assoc (take at s) v w) e′
+
+-- what stood there is put again
+pub put-same : (at n : ℕ) (s : List ℕ) → at + n ≤ length s → put at (part at n s) s ≡ s
+unfolding put
+put-same at n s h =
+    append-assoc (take at s) (part at n s) (drop (at + length (part at n s)) s)
+    ∙ ap (λ (k : ℕ). take at s ++ (part at n s ++ drop (at + k) s)) (length-part at n s h)
+    ∙ ap (λ (d : List ℕ). take at s ++ (part at n s ++ d)) (sym (drop-drop n at s))
+    ∙ ap (λ (d : List ℕ). take at s ++ d) (take-append-drop n (drop at s))
+    ∙ take-append-drop at s
+
+-- bytes put to the front of a part, the rest of which stays
+pub put-part : (at n : ℕ) (v s : List ℕ) → length v ≤ n → at + n ≤ length s → put at (v ++ drop (length v) (part at n s)) s ≡ put at v s
+unfolding put
+put-part at n v s h k =
+    let l : ℕ = length v in
+    let w : List ℕ = drop l (part at n s) in
+    let lp = length-part at n s k in
+    let lw = length-drop l (part at n s) in
+    let e = length-append v w in
+    let f : at + length (v ++ w) ≡ at + n = omega arith in
+    ap₂ (λ (x : List ℕ) (i : ℕ). x ++ drop i s) (sym (append-assoc (take at s) v w)) f
+    ∙ append-assoc (take at s ++ v) w (drop (at + n) s)
+    ∙ ap (λ (d : List ℕ). (take at s ++ v) ++ d)
+    (sym (drop-append-le l (part at n s) (drop (at + n) s) (omega arith)) ∙ ap (λ (d : List ℕ). drop l (part at n s ++ d)) (sym (drop-drop n at s))
+    ∙ ap (drop l) (take-append-drop n (drop at s)) ∙ drop-drop l at s)
+
 -- ---- a copy under way
 
 -- m bytes more

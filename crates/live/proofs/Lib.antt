@@ -1,0 +1,3 @@
+-- Laws on which the proofs of functions rest.
+pub mod Joined
+pub mod Growing

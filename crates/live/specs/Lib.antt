@@ -1,0 +1,4 @@
+pub mod History
+pub mod Call
+pub mod inner
+pub mod laws
