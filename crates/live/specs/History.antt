@@ -7,9 +7,11 @@ use lib.Dec.{ltb, eqb}
 use lib.ListN.{length}
 use Rattle.refusal.specs.Outcome.{Outcome, result, refused, Line, line, judged}
 use Rattle.recording.specs.Condition.{pick, on}
-use Rattle.recording.specs.Recording.{Raw, reading, lawful, mostRecords}
+use Rattle.recording.specs.Recording.{Raw, reading, flat, lawful, mostRecords}
+use Rattle.recording.specs.Output.{outputLine}
 use Rattle.kept.specs.Kept.{keptFor}
 use Rattle.marks.specs.Marks.{marksOf, marksLine}
+use Rattle.thin.specs.Thin.{keptBytes}
 use Rattle.live_state.specs.Limits.{mostHeld, mostMoments}
 
 -- a moment that was set: its name, and the run's readings as they were then
@@ -105,3 +107,13 @@ told (refused n p) = refused n p
 
 abbrev pub answer : History → Step → Outcome ℕ
 answer h s = told (outcome h s)
+
+-- ---- the readings held
+
+-- THE KEPT READINGS OF THE RUN, under its marks, as bytes
+abbrev pub keptRun : History → List ℕ
+keptRun h = keptBytes (marksOf (h .marks)) (flat (h .run))
+
+-- THE READ-OUT, which is no step: 11; 10 where the output is shorter; else the kept readings of the run
+unfoldable pub readOut : History → ℕ → Outcome (List ℕ)
+readOut h room = judged (marksLine (h .marks) ∷ outputLine room (keptRun h) ∷ []) (keptRun h)

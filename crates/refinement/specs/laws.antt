@@ -1,0 +1,9 @@
+pub mod Alike
+pub mod Parts
+pub mod Run
+pub mod State
+pub mod Placed
+pub mod Add
+pub mod Moments
+pub mod Start
+pub mod Follow

@@ -1,0 +1,1 @@
+// That the state of a live run follows its history: definitions and theorems, no code.
