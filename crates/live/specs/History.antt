@@ -108,6 +108,15 @@ told (refused n p) = refused n p
 abbrev pub answer : History → Step → Outcome ℕ
 answer h s = told (outcome h s)
 
+-- of a list of steps: what each answers, and the history after them
+abbrev pub answers : History → List Step → List (Outcome ℕ)
+answers h [] = []
+answers h (s ∷ ss) = answer h s ∷ answers (after h s) ss
+
+abbrev pub afterAll : History → List Step → History
+afterAll h [] = h
+afterAll h (s ∷ ss) = afterAll (after h s) ss
+
 -- ---- the readings held
 
 -- THE KEPT READINGS OF THE RUN, under its marks, as bytes

@@ -1,2 +1,4 @@
 pub mod Thinned
 pub mod Step
+pub mod InHalf
+pub mod Examples

@@ -5,14 +5,14 @@ use mathlib.Core.Path.{_≡_, refl, sym, ap, ap₂, _∙_, subst}
 use mathlib.Core.Bool.{Bool, true, false, cond, not}
 use mathlib.Core.Logic.{_⊎_, inl, inr, ⊎-elim}
 use mathlib.Core.List.{List, [], _∷_, _++_}
-use lib.ListN.{length}
+use lib.ListN.{length, replicate, length-replicate}
 use lib.Dec.{ltb, eqb}
 use borrow.Author.Tests.{eqb-true, ltb-false, ltb-true}
 use Rattle.number.specs.laws.Boolean.{clash}
 use Rattle.refusal.specs.Outcome.{Outcome, result, refused, Line, line, judged, NoneMeets}
 use Rattle.recording.specs.Recording.{flat, mostRecords}
 use Rattle.recording.specs.Output.{outputLine}
-use Rattle.recording.specs.laws.Outcome.{judged-first}
+use Rattle.recording.specs.laws.Outcome.{judged-first, result-none}
 use Rattle.copying.specs.Put.{put}
 use Rattle.number.specs.Words.{word}
 use Rattle.marks.specs.Marks.{marksOf, marksLine}
@@ -121,3 +121,21 @@ start-followed marks s w = by (marksLine marks .meets) (ltb (length s) liveBytes
     by true true ea eb = subst (Follows (begun marks)) (sym (start-by s marks true true ea eb .1)) (inr (ea, short-none s eb))
     by false true ea eb =
         ⊎-elim (λ l. absurd (let z = ltb-true (length s) liveBytes eb in omega arith)) (λ c. absurd (clash c ea)) w
+
+-- the marks stay, at every step
+pub same-marks : (h : History) (t : Step) → after h t .marks ≡ h .marks
+unfolding outcome
+same-marks h t = by (outcome h t) refl
+  where
+    kept-marks : (t : Step) → taken h t .marks ≡ h .marks
+    kept-marks (add x) = refl
+    kept-marks (save name) = refl
+    kept-marks (restore name) = refl
+
+    by : (o : Outcome History) → outcome h t ≡ o → goesOn h o .marks ≡ h .marks
+    by (refused n p) e = refl
+    by (result g) e = ap (λ (k : History). k .marks) (sym (result-none (stepLines h t) (taken h t) g e .1)) ∙ kept-marks t
+
+-- bytes of any number
+pub some-bytes : (n : ℕ) → (s : List ℕ) × (length s ≡ n)
+some-bytes n = (replicate n 0, length-replicate n 0)

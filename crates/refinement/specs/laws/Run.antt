@@ -25,7 +25,7 @@ use Rattle.kept.specs.laws.Kept.{last-kept}
 use Rattle.thin.specs.Thin.{keptBytes}
 use Rattle.thin.specs.laws.Model.{kept-join}
 use Rattle.thin.specs.laws.Join.{next-pick}
-use Rattle.thin.specs.laws.Cut.{good-select}
+use Rattle.thin.specs.laws.Selection.{good-select}
 use Rattle.live_state.specs.Limits.{mostHeld}
 use Rattle.live_state.specs.State.{headOf}
 use Rattle.live.specs.History.{keptOf}
