@@ -13,6 +13,7 @@ use Rattle.sheet.specs.Call.{orderOf}
 use Rattle.lab.specs.Lab.{labQuestionOf, labDegreeOf, labPairOf}
 use Rattle.report.specs.inner.Naming.{naming}
 use Rattle.report_state.specs.Call.{Starts, Adds}
+use Rattle.live.specs.Call.{addOf, saveOf, restoreOf, heldOf, StepTold, StartTold}
 use Rattle.boundary.specs.Boundary.{Writes, Degrees, Pairs, InBands, Orders}
 
 abbrev pub QuestionCall : (recording text out : List ℕ) (r : ℕ) (after : List ℕ) → Type 0
@@ -50,3 +51,20 @@ ReportStartCall count text target report r after = Starts (naming count text tar
 
 abbrev pub ReportAddCall : (report recording : List ℕ) (met empty distances mean r : ℕ) (after : List ℕ) (first second third fourth : ℕ) → Type 0
 ReportAddCall report recording met empty distances mean r after first second third fourth = Adds report recording met empty distances mean r after first second third fourth
+
+-- the calls of a live run (document 02, Paper 11); of the bytes of a state, `live` before and `after` after
+abbrev pub LiveStartCall : (marks live : List ℕ) (r : ℕ) (after : List ℕ) → Type 0
+LiveStartCall marks live r after = StartTold marks live r after
+
+abbrev pub LiveAddCall : (live reading : List ℕ) (r : ℕ) (after : List ℕ) → Type 0
+LiveAddCall live reading r after = StepTold (addOf live reading) live r after
+
+abbrev pub LiveSaveCall : (live : List ℕ) (name r : ℕ) (after : List ℕ) → Type 0
+LiveSaveCall live name r after = StepTold (saveOf live name) live r after
+
+abbrev pub LiveRestoreCall : (live : List ℕ) (name r : ℕ) (after : List ℕ) → Type 0
+LiveRestoreCall live name r after = StepTold (restoreOf live name) live r after
+
+-- of the output, `out` before and `after` after
+abbrev pub LiveKeptCall : (live out : List ℕ) (r : ℕ) (after : List ℕ) → Type 0
+LiveKeptCall live out r after = Writes (heldOf live (length out)) out r after

@@ -1,5 +1,5 @@
 // The C boundary of the library.
-ghost use Rattle.mill.specs.Calls.{QuestionCall, DegreeCall, PairCall, ThinCall, BandCall, OrderCall, LabQuestionCall, LabDegreeCall, LabPairCall, ReportStartCall, ReportAddCall};
+ghost use Rattle.mill.specs.Calls.{QuestionCall, DegreeCall, PairCall, ThinCall, BandCall, OrderCall, LabQuestionCall, LabDegreeCall, LabPairCall, ReportStartCall, ReportAddCall, LiveStartCall, LiveAddCall, LiveSaveCall, LiveRestoreCall, LiveKeptCall};
 
 // THE QUESTION CALL. Returns how many bytes of the output the answered set takes, or the refusal.
 #[no_mangle]
@@ -145,4 +145,49 @@ pub extern "C" fn mill_report_add(
     ensures { λ r. ⌜ ReportAddCall (now (report .entry)) (now (rec .entry)) (now (met .entry)) (now (empty .entry)) (now (distances .entry)) (now (mean .entry)) r (now (report .exit)) (now (met .exit)) (now (empty .exit)) (now (distances .exit)) (now (mean .exit)) ⌝ }
 {
     report_state::add(report, rec, met, empty, distances, mean)
+}
+
+// A LIVE RUN STARTS, empty, with its marks, in the bytes that the caller lends. Returns 0, or the refusal; one by 11 ends what the bytes held.
+#[no_mangle]
+pub extern "C" fn mill_live_start(marks: &[u8], live: &mut [u8]) -> u64
+    ensures { λ r. ⌜ LiveStartCall (now (marks .entry)) (now (live .entry)) r (now (live .exit)) ⌝ }
+{
+    let answer = live::start(marks, live);
+    live::tell(answer)
+}
+
+// A READING ARRIVES. Returns 0, or the refusal.
+#[no_mangle]
+pub extern "C" fn mill_live_add(live: &mut [u8], reading: &[u8]) -> u64
+    ensures { λ r. ⌜ LiveAddCall (now (live .entry)) (now (reading .entry)) r (now (live .exit)) ⌝ }
+{
+    let answer = live::add(live, reading);
+    live::tell(answer)
+}
+
+// A MOMENT IS SET, or set again. Returns 0, or the refusal.
+#[no_mangle]
+pub extern "C" fn mill_live_save(live: &mut [u8], name: u32) -> u64
+    ensures { λ r. ⌜ LiveSaveCall (now (live .entry)) name r (now (live .exit)) ⌝ }
+{
+    let answer = live::save(live, name);
+    live::tell(answer)
+}
+
+// THE RUN GOES BACK TO A MOMENT. Returns 0, or the refusal.
+#[no_mangle]
+pub extern "C" fn mill_live_restore(live: &mut [u8], name: u32) -> u64
+    ensures { λ r. ⌜ LiveRestoreCall (now (live .entry)) name r (now (live .exit)) ⌝ }
+{
+    let answer = live::restore(live, name);
+    live::tell(answer)
+}
+
+// THE KEPT READINGS OF THE RUN. Returns how many bytes of the output they take, or the refusal.
+#[no_mangle]
+pub extern "C" fn mill_live_kept(live: &[u8], out: &mut [u8]) -> u64
+    ensures { λ r. ⌜ LiveKeptCall (now (live .entry)) (now (out .entry)) r (now (out .exit)) ⌝ }
+{
+    let written = live::kept(live, out);
+    reply::written(written)
 }

@@ -9,4 +9,5 @@ pub mod EndToEnd
 pub mod FormulasAsked
 pub mod MarkedLines
 pub mod OldRecordings
+pub mod LiveRuns
 pub mod laws

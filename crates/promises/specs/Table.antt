@@ -10,7 +10,7 @@ use lib.Signed.{_≤ℤ_}
 use Rattle.number.specs.Axis.{OfAxis}
 use Rattle.refusal.specs.Numbers.{numberOf, placeOf}
 use Rattle.refusal.specs.declared.Refusal.{Refusal}
-use Rattle.refusal.specs.declared.Refusal.the-variants.{PartialRecord, TooManyRecords, BadRecord, NoRecord, TextLength, NoReading, TextTooLarge, TooManyRuns, TooManyTops, ShortOutput, BadMarks, BadTarget, BadSheet, NotForLaboratory, NoReport, BadBand, NotBandQuestion}
+use Rattle.refusal.specs.declared.Refusal.the-variants.{PartialRecord, TooManyRecords, BadRecord, NoRecord, TextLength, NoReading, TextTooLarge, TooManyRuns, TooManyTops, ShortOutput, BadMarks, BadTarget, BadSheet, NotForLaboratory, NoReport, BadBand, NotBandQuestion, BadMoment, TooManyKept}
 use Rattle.recording.specs.Condition.{pick}
 use Rattle.recording.specs.Reading.{top, curveOf}
 use Rattle.recording.specs.Recording.{Raw, records, readings, lawful, mostRecords, mostPigments}
@@ -226,6 +226,9 @@ Met q NotForLaboratory = NotLaboratory q
 Met q NoReport = CountBad q
 Met q BadBand = BandBad q
 Met q NotBandQuestion = NotOneExtreme q
+-- 18 and 19 are of the steps of a live run, whose page is LiveRuns
+Met q BadMoment = ⊥
+Met q TooManyKept = ⊥
 
 -- 4 to 10 in the question call's order: the lines for an accepted recording
 abbrev pub acceptedOrder : List ℕ

@@ -21,3 +21,4 @@ pub mod TwoMasters
 pub mod Demands
 pub mod AskedOfKept
 pub mod BandToday
+pub mod LiveRuns

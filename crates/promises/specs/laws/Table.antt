@@ -13,7 +13,7 @@ use Rattle.number.specs.laws.Least.{least-le, least-holds, least-first, least-i
 use Rattle.refusal.specs.Outcome.{Outcome, result, refused, Line, line, judged, NoneMeets}
 use Rattle.refusal.specs.Numbers.{numberOf, placeOf}
 use Rattle.refusal.specs.declared.Refusal.{Refusal}
-use Rattle.refusal.specs.declared.Refusal.the-variants.{PartialRecord, TooManyRecords, BadRecord, NoRecord, TextLength, NoReading, TextTooLarge, TooManyRuns, TooManyTops, ShortOutput, BadMarks, BadTarget, BadSheet, NotForLaboratory, NoReport, BadBand, NotBandQuestion}
+use Rattle.refusal.specs.declared.Refusal.the-variants.{PartialRecord, TooManyRecords, BadRecord, NoRecord, TextLength, NoReading, TextTooLarge, TooManyRuns, TooManyTops, ShortOutput, BadMarks, BadTarget, BadSheet, NotForLaboratory, NoReport, BadBand, NotBandQuestion, BadMoment, TooManyKept}
 use Rattle.recording.specs.Recording.{Raw, records, readings, lawful, firstBad, mostRecords, recordingLines, noRecord, Accepted}
 use Rattle.recording.specs.laws.Outcome.{no-result}
 use Rattle.promises.specs.Table.{Request, recordingIn, textIn, FirstBroken, Met, NoneMet, FirstMet}
@@ -38,7 +38,9 @@ refusalOf n p =
     (cond (eqb n 13) BadSheet
     (cond (eqb n 14) NotForLaboratory
     (cond (eqb n 15) NoReport
-    (cond (eqb n 16) BadBand NotBandQuestion)))))))))))))))
+    (cond (eqb n 16) BadBand
+    (cond (eqb n 17) NotBandQuestion
+    (cond (eqb n 18) BadMoment TooManyKept)))))))))))))))))
 
 refusal-back : (x : Refusal) → refusalOf (numberOf x) (placeOf x) ≡ x
 refusal-back PartialRecord = refl
@@ -58,8 +60,10 @@ refusal-back NotForLaboratory = refl
 refusal-back NoReport = refl
 refusal-back BadBand = refl
 refusal-back NotBandQuestion = refl
+refusal-back BadMoment = refl
+refusal-back TooManyKept = refl
 
-pub number-bounds : (x : Refusal) → (0 < numberOf x) × (numberOf x < 18)
+pub number-bounds : (x : Refusal) → (0 < numberOf x) × (numberOf x < 20)
 number-bounds PartialRecord = (omega arith, omega arith)
 number-bounds TooManyRecords = (omega arith, omega arith)
 number-bounds (BadRecord i) = (omega arith, omega arith)
@@ -77,6 +81,8 @@ number-bounds NotForLaboratory = (omega arith, omega arith)
 number-bounds NoReport = (omega arith, omega arith)
 number-bounds BadBand = (omega arith, omega arith)
 number-bounds NotBandQuestion = (omega arith, omega arith)
+number-bounds BadMoment = (omega arith, omega arith)
+number-bounds TooManyKept = (omega arith, omega arith)
 
 -- ---- lines that agree with the table
 

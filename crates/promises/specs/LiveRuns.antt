@@ -1,0 +1,105 @@
+-- Document 02, Paper 11, of the calls of the C boundary: every list of calls of a live run behind its start, as a caller makes them, of the numbers that they
+-- return and the bytes that they leave, the state handed on from call to call. That `LiveRuns` holds is `live-runs` (laws/LiveRuns).
+use Prim.Native.Nat.{ℕ, _*_, _≤_}
+use mathlib.Core.Path.{_≡_}
+use mathlib.Core.List.{List, [], _∷_, _++_}
+use lib.ListN.{length, take}
+use Rattle.recording.specs.Recording.{flat, Accepted}
+use Rattle.recording.specs.Output.{counted, outputAfter}
+use Rattle.marks.specs.Marks.{marksOf, AcceptedMarks}
+use Rattle.thin.specs.Thin.{keptBytes}
+use Rattle.reply.specs.Reply.{numberIn, lowIn, unpacked}
+use Rattle.live_state.specs.Limits.{mostHeld}
+use Rattle.live_state.specs.State.{marksIn, heldIn}
+use Rattle.live.specs.History.{History, begun, Step, add, save, restore, after, answer, keptRun, readOut}
+use Rattle.mill.specs.Calls.{ThinCall, LiveStartCall, LiveAddCall, LiveSaveCall, LiveRestoreCall, LiveKeptCall}
+use Rattle.promises.specs.Demands.{InPlaceOf}
+
+-- ---- the calls as they are made
+
+-- a call behind the start: a step, or a read-out to an output
+pub data LiveCall : Type 0 where
+  step : Step → LiveCall
+  read : (output : List ℕ) → LiveCall
+
+-- what it returned, and what it left: of a step the state, of a read-out the output
+pub record LiveReturned : Type 0 where
+  pub returned : ℕ
+  pub left : List ℕ
+
+-- the step was made on these bytes, and meets the contract of its call
+abbrev pub StepMade : List ℕ → Step → LiveReturned → Type 0
+StepMade live (add x) y = LiveAddCall live x (y .returned) (y .left)
+StepMade live (save name) y = LiveSaveCall live name (y .returned) (y .left)
+StepMade live (restore name) y = LiveRestoreCall live name (y .returned) (y .left)
+
+abbrev pub LiveMade : List ℕ → LiveCall → LiveReturned → Type 0
+LiveMade live (step s) y = StepMade live s y
+LiveMade live (read out) y = LiveKeptCall live out (y .returned) (y .left)
+
+-- the bytes that the next call is handed: as the last step left them; a read-out only reads them
+abbrev pub liveNext : List ℕ → LiveCall → LiveReturned → List ℕ
+liveNext live (step s) y = y .left
+liveNext live (read out) y = live
+
+-- a list of calls, each handed the state as the last one left it
+abbrev pub LiveCallsMade : List ℕ → List LiveCall → List LiveReturned → Type 0
+LiveCallsMade live [] [] = Unit {0}
+LiveCallsMade live [] (y ∷ ys) = ⊥
+LiveCallsMade live (c ∷ cs) [] = ⊥
+LiveCallsMade live (c ∷ cs) (y ∷ ys) = LiveMade live c y × LiveCallsMade (liveNext live c y) cs ys
+
+-- ---- the history beside them
+
+-- a read-out is no step
+abbrev pub historyNext : History → LiveCall → History
+historyNext h (step s) = after h s
+historyNext h (read out) = h
+
+abbrev pub historyAfter : History → List LiveCall → History
+historyAfter h [] = h
+historyAfter h (c ∷ cs) = historyAfter (historyNext h c) cs
+
+-- the step answers as the history does, and a refused one leaves every byte of the state
+pub record StepAnswered (h : History) (live : List ℕ) (s : Step) (y : LiveReturned) : Type 0 where
+  pub answers : unpacked (y .returned) ≡ answer h s
+  pub refused-stays : ¬ (numberIn (y .returned) ≡ 0) → y .left ≡ live
+
+-- the read-out writes exactly the kept readings of the history's run, or is refused and writes nothing
+pub record ReadAnswered (h : History) (out : List ℕ) (y : LiveReturned) : Type 0 where
+  pub answers : unpacked (y .returned) ≡ counted (readOut h (length out))
+  pub writes : y .left ≡ outputAfter (readOut h (length out)) out
+
+abbrev pub Answered : History → List ℕ → LiveCall → LiveReturned → Type 0
+Answered h live (step s) y = StepAnswered h live s y
+Answered h live (read out) y = ReadAnswered h out y
+
+-- "after each the kept readings are those of the run so far under these marks. The run holds them": byte for byte, at most 128; and the run is an accepted recording
+pub record RunHeld (h : History) (live : List ℕ) : Type 0 where
+  pub marks : marksIn live ≡ h .marks
+  pub kept : heldIn live 0 ≡ keptRun h
+  pub few : length (keptRun h) ≤ 16 * mostHeld
+  pub accepted : Accepted (flat (h .run))
+
+-- EVERY CALL ANSWERS AS THE HISTORY DOES, and before the first call and after each the run holds the kept readings of the history's run, where its marks are accepted
+abbrev pub AsTheHistory : History → List ℕ → List LiveCall → List LiveReturned → Type 0
+AsTheHistory h live [] ys = AcceptedMarks (h .marks) → RunHeld h live
+AsTheHistory h live (c ∷ cs) [] = ⊥
+AsTheHistory h live (c ∷ cs) (y ∷ ys) =
+    (AcceptedMarks (h .marks) → RunHeld h live) × Answered h live c y × AsTheHistory (historyNext h c) (liveNext live c y) cs ys
+
+-- ---- what is held, afterwards
+
+-- "Going back makes the discarded readings no part of the run, for cutting as well as for questions": what is read out answers as the history's run does, and with a
+-- further piece behind it thins, with room, to the kept readings of the history's run with that piece
+pub record HeldLikeRun (h : History) : Type 0 where
+  pub in-place : InPlaceOf (h .marks) (flat (h .run)) (keptRun h)
+  pub thins-on : (piece : List ℕ) {out : List ℕ} {r : ℕ} {written : List ℕ} → Accepted (flat (h .run) ++ piece)
+      → length (keptBytes (marksOf (h .marks)) (flat (h .run) ++ piece)) ≤ length out → ThinCall (keptRun h ++ piece) (h .marks) out r written
+      → (numberIn r ≡ 0) × (take (lowIn r) written ≡ keptBytes (marksOf (h .marks)) (flat (h .run) ++ piece))
+
+-- PAPER 11: of every start, whatever the marks, that is not refused for a buffer that is too short, and every list of calls after it
+pub record LiveRuns : Type 0 where
+  pub every-run : {marks buffer live : List ℕ} {r : ℕ} → LiveStartCall marks buffer r live → ¬ (numberIn r ≡ 10) → (cs : List LiveCall) (ys : List LiveReturned)
+      → LiveCallsMade live cs ys → AsTheHistory (begun marks) live cs ys
+  pub held-like-run : (marks : List ℕ) → AcceptedMarks marks → (cs : List LiveCall) → HeldLikeRun (historyAfter (begun marks) cs)

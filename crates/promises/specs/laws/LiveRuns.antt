@@ -1,0 +1,179 @@
+-- PAPER 11 at the C boundary, proved: by the state that follows the history (crate `refinement`), call by call.
+use Prim.Native.Nat.{ℕ, _+_, _*_, _%_, _≤_}
+use native.Mathlib.Omega.{arith}
+use mathlib.Core.Path.{_≡_, refl, sym, ap, ap₂, subst, _∙_}
+use mathlib.Core.Bool.{Bool, true, false}
+use mathlib.Core.Logic.{_⊎_, inl, inr, ⊎-elim}
+use mathlib.Core.List.{List, [], _∷_, _++_}
+use lib.Dec.{ltb}
+use lib.ListN.{length, take}
+use borrow.Author.Tests.{ltb-false, le-ltb}
+use Rattle.number.specs.laws.Boolean.{clash}
+use Rattle.refusal.specs.Outcome.{Outcome, result, refused, Line, judged}
+use Rattle.recording.specs.Recording.{Raw, flat, records, recordingLines, Accepted}
+use Rattle.recording.specs.Output.{counted, outputAfter, outputLine}
+use Rattle.recording.specs.laws.Record.{length-flat, records-flat}
+use Rattle.recording.specs.laws.Acceptance.{Good, Sound, accepted-sound, sound-accepted}
+use Rattle.recording.specs.laws.Outcome.{judged-none, append-none}
+use Rattle.marks.specs.Marks.{marksOf, marksLine, AcceptedMarks}
+use Rattle.thin.specs.Thin.{keptBytes, thinOf}
+use Rattle.thin.specs.laws.Model.{kept-join}
+use Rattle.thin.specs.laws.Cut.{sound-thinned}
+use Rattle.thin.specs.laws.Selection.{kept-selection}
+use Rattle.reply.specs.Reply.{packed, numberIn, lowIn, unpacked, InHalf}
+use Rattle.reply.specs.laws.Unpacked.{Numbered, number-result, number-refused, unpacked-packed}
+use Rattle.live_state.specs.Limits.{mostHeld}
+use Rattle.live_state.specs.State.{liveBytes, heldIn}
+use Rattle.live.specs.History.{History, begun, Step, add, save, restore, after, told, answer, keptRun, readOut, keptOf}
+use Rattle.live.specs.Call.{StepTold, StartTold, startOf, startAfter, stepOf, stateAfter, heldOf}
+use Rattle.live.specs.laws.Step.{start-by}
+use Rattle.live.specs.laws.InHalf.{step-in-half, step-numbered, start-in-half, held-in-half, held-numbered}
+use Rattle.refinement.specs.Represents.{Represents, Follows, Taken}
+use Rattle.refinement.specs.laws.Run.{kept-flat, kept-sixteen}
+use Rattle.refinement.specs.laws.State.{the-marks, the-held}
+use Rattle.refinement.specs.laws.Follow.{step-followed, read-followed, start-followed, same-marks, some-bytes}
+use Rattle.boundary.specs.Boundary.{Writes}
+use Rattle.mill.specs.Calls.{ThinCall, LiveStartCall, LiveKeptCall}
+use Rattle.mill.specs.laws.Calls.{thin-in-half}
+use Rattle.promises.specs.LiveRuns.{LiveCall, step, read, LiveReturned, StepMade, LiveMade, liveNext, LiveCallsMade, historyNext, historyAfter, StepAnswered, ReadAnswered, Answered, RunHeld, AsTheHistory, HeldLikeRun, LiveRuns}
+use Rattle.promises.specs.laws.Demand1.{wrote}
+use Rattle.promises.specs.laws.Selected.{selected-place}
+
+-- ---- one call
+
+-- what a step returned and left
+step-told : (live : List ℕ) (s : Step) (y : LiveReturned) → StepMade live s y → StepTold (stepOf live s) live (y .returned) (y .left)
+step-told live (add x) y m = m
+step-told live (save name) y m = m
+step-told live (restore name) y m = m
+
+step-answered : (h : History) (live : List ℕ) → Follows h live → (s : Step) (y : LiveReturned) → StepMade live s y → StepAnswered h live s y
+step-answered h live f s y m =
+    let t = step-told live s y m in
+    record {
+      answers = ap unpacked (t .returned) ∙ unpacked-packed (told (stepOf live s)) (step-in-half live s) (step-numbered live s) ∙ step-followed h live f s .answers;
+      refused-stays = λ k. stays (stepOf live s) refl k (t .returned) (t .state) (step-in-half live s);
+    }
+  where
+    stays : (o : Outcome (List ℕ)) → stepOf live s ≡ o → ¬ (numberIn (y .returned) ≡ 0) → y .returned ≡ packed (told (stepOf live s)) → y .left ≡ stateAfter (stepOf live s) live
+        → InHalf (told (stepOf live s)) → y .left ≡ live
+    stays (refused n p) e k r l i = l ∙ ap (λ (o : Outcome (List ℕ)). stateAfter o live) e
+    stays (result b) e k r l i = absurd (k (ap numberIn (r ∙ ap (λ (o : Outcome (List ℕ)). packed (told o)) e) ∙ number-result 0 (omega arith)))
+
+read-answered : (h : History) (live : List ℕ) → Follows h live → (out : List ℕ) (y : LiveReturned) → LiveKeptCall live out (y .returned) (y .left) → ReadAnswered h out y
+read-answered h live f out y w =
+    let e = read-followed h live f (length out) in
+    record {
+      answers = ap unpacked (w .returned) ∙ unpacked-packed (counted (heldOf live (length out))) (held-in-half live (length out)) (held-numbered live (length out)) ∙ ap counted e;
+      writes = w .output ∙ ap (λ (o : Outcome (List ℕ)). outputAfter o out) e;
+    }
+
+-- the run is an accepted recording
+taken-accepted : (ks : List ℕ) (run : List Raw) → Taken ks run → Accepted (flat run)
+taken-accepted ks run t =
+    let l = length-flat run (t .sixteens) in
+    let few = t .few in
+    sound-accepted (flat run) (record { whole = omega arith; few = omega arith; good = subst (Good 0) (sym (records-flat run (t .sixteens))) (t .good) })
+
+run-held : (h : History) (live : List ℕ) → Follows h live → AcceptedMarks (h .marks) → RunHeld h live
+run-held h live f fine = ⊎-elim holds (λ b. absurd (clash (b .0) (fine .0))) f
+  where
+    holds : Represents h live → RunHeld h live
+    holds r =
+        let ks : List ℕ = marksOf (h .marks) in
+        let t = r .taken in
+        let e = ap length (kept-flat ks (h .run) (t .sixteens)) in
+        let l = length-flat (keptOf ks (h .run)) (kept-sixteen ks (h .run) (t .sixteens)) in
+        let m = t .held in
+        record { marks = the-marks h live r; kept = the-held h live r; few = omega arith; accepted = taken-accepted ks (h .run) t }
+
+-- ---- every list
+
+follows-next : (h : History) (live : List ℕ) → Follows h live → (c : LiveCall) (y : LiveReturned) → LiveMade live c y → Follows (historyNext h c) (liveNext live c y)
+follows-next h live f (step s) y m = subst (Follows (after h s)) (sym (step-told live s y m .state)) (step-followed h live f s .follows)
+follows-next h live f (read out) y m = f
+
+answered : (h : History) (live : List ℕ) → Follows h live → (c : LiveCall) (y : LiveReturned) → LiveMade live c y → Answered h live c y
+answered h live f (step s) y m = step-answered h live f s y m
+answered h live f (read out) y m = read-answered h live f out y m
+
+from-state : (h : History) (live : List ℕ) → Follows h live → (cs : List LiveCall) (ys : List LiveReturned) → LiveCallsMade live cs ys → AsTheHistory h live cs ys
+from-state h live f [] ys m = run-held h live f
+from-state h live f (c ∷ cs) [] m = m
+from-state h live f (c ∷ cs) (y ∷ ys) m =
+    (run-held h live f, answered h live f c y (m .0), from-state (historyNext h c) (liveNext live c y) (follows-next h live f c y (m .0)) cs ys (m .1))
+
+-- a start that is not refused with 10: the buffer is long, or 11 refuses the marks
+not-ten : (marks buffer live : List ℕ) (r : ℕ) → LiveStartCall marks buffer r live → ¬ (numberIn r ≡ 10) → (liveBytes ≤ length buffer) ⊎ (marksLine marks .meets ≡ true)
+not-ten marks buffer live r w k = by (marksLine marks .meets) (ltb (length buffer) liveBytes) refl refl
+  where
+    by : (a b : Bool) → marksLine marks .meets ≡ a → ltb (length buffer) liveBytes ≡ b → (liveBytes ≤ length buffer) ⊎ (marksLine marks .meets ≡ true)
+    by true b ea eb = inr ea
+    by false false ea eb = inl (ltb-false (length buffer) liveBytes eb)
+    by false true ea eb =
+        absurd (k (ap numberIn (w .returned ∙ ap (λ (o : Outcome (List ℕ)). packed (told o)) (start-by buffer marks false true ea eb .0)) ∙ number-refused 10 0 (omega arith)))
+
+-- ---- what is held, of every history
+
+taken-next : (h : History) (live : List ℕ) → Follows h live → (cs : List LiveCall) → (live′ : List ℕ) × Follows (historyAfter h cs) live′
+taken-next h live f [] = (live, f)
+taken-next h live f (step s ∷ cs) = taken-next (after h s) (stateAfter (stepOf live s) live) (step-followed h live f s .follows) cs
+taken-next h live f (read out ∷ cs) = taken-next h live f cs
+
+marks-stay : (h : History) (cs : List LiveCall) → historyAfter h cs .marks ≡ h .marks
+marks-stay h [] = refl
+marks-stay h (step s ∷ cs) = marks-stay (after h s) cs ∙ same-marks h s
+marks-stay h (read out ∷ cs) = marks-stay h cs
+
+thinned-on : (marks join piece : List ℕ) → AcceptedMarks marks → length join % 16 ≡ 0 → (room : ℕ) → Accepted (join ++ piece)
+    → length (keptBytes (marksOf marks) (join ++ piece)) ≤ room
+    → thinOf (keptBytes (marksOf marks) join ++ piece) marks room ≡ result (keptBytes (marksOf marks) (join ++ piece))
+unfolding thinOf
+thinned-on marks join piece fine whole room a long =
+    let ks : List ℕ = marksOf marks in
+    let bytes : List ℕ = keptBytes ks join ++ piece in
+    let e : keptBytes ks bytes ≡ keptBytes ks (join ++ piece) = kept-join ks join piece whole in
+    let l = ap length e in
+    judged-none (recordingLines bytes ++ marksLine marks ∷ outputLine room (keptBytes ks bytes) ∷ []) (keptBytes ks bytes)
+    (append-none (recordingLines bytes) (marksLine marks ∷ outputLine room (keptBytes ks bytes) ∷ [])
+    (sound-accepted bytes (sound-thinned ks join piece whole (accepted-sound (join ++ piece) a))) (fine .0, (le-ltb room (length (keptBytes ks bytes)) (omega arith), tt)))
+    ∙ ap result e
+
+held-like : (h : History) → AcceptedMarks (h .marks) → Accepted (flat (h .run)) → HeldLikeRun h
+held-like h fine a =
+    record {
+      in-place = selected-place (h .marks) (flat (h .run)) (keptRun h) fine a (kept-selection (marksOf (h .marks)) (flat (h .run)));
+      thins-on = λ piece {out} {r} {written} b long w. on piece out r written b long w;
+    }
+  where
+    on : (piece out : List ℕ) (r : ℕ) (written : List ℕ) → Accepted (flat (h .run) ++ piece) → length (keptBytes (marksOf (h .marks)) (flat (h .run) ++ piece)) ≤ length out
+        → ThinCall (keptRun h ++ piece) (h .marks) out r written
+        → (numberIn r ≡ 0) × (take (lowIn r) written ≡ keptBytes (marksOf (h .marks)) (flat (h .run) ++ piece))
+    on piece out r written b long w =
+        let k : List ℕ = keptBytes (marksOf (h .marks)) (flat (h .run) ++ piece) in
+        let o : Outcome (List ℕ) = thinOf (keptRun h ++ piece) (h .marks) (length out) in
+        let e : o ≡ result k = thinned-on (h .marks) (flat (h .run)) piece fine (accepted-sound (flat (h .run)) a .whole) (length out) b long in
+        let i : InHalf (counted (result k)) = subst (λ (p : Outcome (List ℕ)). InHalf (counted p)) e (thin-in-half (keptRun h ++ piece) (h .marks) (length out)) in
+        let w′ : Writes (result k) out r written = subst (λ (p : Outcome (List ℕ)). Writes p out r written) e w in
+        let z : numberIn r ≡ 0 = ap numberIn (w′ .returned) ∙ number-result (length k) i in
+        let q = wrote (result k) out r written i tt w′ z in
+        let f : k ≡ q .0 = cc in
+        (z, q .3 ∙ sym f)
+
+-- PAPER 11
+pub live-runs : LiveRuns
+live-runs =
+    record {
+      every-run = λ {marks} {buffer} {live} {r} w k cs ys m.
+          from-state (begun marks) live (subst (Follows (begun marks)) (sym (w .state)) (start-followed marks buffer (not-ten marks buffer live r w k))) cs ys m;
+      held-like-run = λ marks fine cs. reached marks fine cs;
+    }
+  where
+    reached : (marks : List ℕ) → AcceptedMarks marks → (cs : List LiveCall) → HeldLikeRun (historyAfter (begun marks) cs)
+    reached marks fine cs =
+        let b = some-bytes liveBytes in
+        let l = b .1 in
+        let e = taken-next (begun marks) (startAfter marks (b .0)) (start-followed marks (b .0) (inl (omega arith))) cs in
+        let h : History = historyAfter (begun marks) cs in
+        let fine′ : AcceptedMarks (h .marks) = subst AcceptedMarks (sym (marks-stay (begun marks) cs)) fine in
+        held-like h fine′ (run-held h (e .0) (e .1) fine′ .accepted)
