@@ -1,17 +1,21 @@
 -- Document 02, Paper 11, of the calls of the C boundary: every list of calls of a live run behind its start, as a caller makes them, of the numbers that they
 -- return and the bytes that they leave, the state handed on from call to call. That `LiveRuns` holds is `live-runs` (laws/LiveRuns).
-use Prim.Native.Nat.{ℕ, _*_, _≤_}
+use Prim.Native.Nat.{ℕ, _*_, _≤_, _<_}
 use mathlib.Core.Path.{_≡_}
+use mathlib.Core.Bool.{true}
 use mathlib.Core.List.{List, [], _∷_, _++_}
 use lib.ListN.{length, take}
+use Rattle.number.specs.Words.{word}
+use Rattle.refusal.specs.Outcome.{Outcome, refused}
 use Rattle.recording.specs.Recording.{flat, Accepted}
 use Rattle.recording.specs.Output.{counted, outputAfter}
 use Rattle.marks.specs.Marks.{marksOf, AcceptedMarks}
 use Rattle.thin.specs.Thin.{keptBytes}
 use Rattle.reply.specs.Reply.{numberIn, lowIn, unpacked}
 use Rattle.live_state.specs.Limits.{mostHeld}
-use Rattle.live_state.specs.State.{marksIn, heldIn}
-use Rattle.live.specs.History.{History, begun, Step, add, save, restore, after, answer, keptRun, readOut}
+use Rattle.live_state.specs.State.{signature, liveBytes, marksIn, heldIn, noState}
+use Rattle.live.specs.History.{History, begun, Step, add, save, restore, after, told, answer, keptRun, readOut}
+use Rattle.live.specs.Call.{startOf, stepOf, heldOf, Behind}
 use Rattle.mill.specs.Calls.{ThinCall, LiveStartCall, LiveAddCall, LiveSaveCall, LiveRestoreCall, LiveKeptCall}
 use Rattle.promises.specs.Demands.{InPlaceOf}
 
@@ -98,8 +102,36 @@ pub record HeldLikeRun (h : History) : Type 0 where
       → length (keptBytes (marksOf (h .marks)) (flat (h .run) ++ piece)) ≤ length out → ThinCall (keptRun h ++ piece) (h .marks) out r written
       → (numberIn r ≡ 0) × (take (lowIn r) written ≡ keptBytes (marksOf (h .marks)) (flat (h .run) ++ piece))
 
+-- ---- DEMAND 1, of these calls
+
+-- one answer, by the call's lines over the bytes; a refusal leaves the caller's bytes
+pub record OneLiveAnswer (outcome : Outcome ℕ) (r : ℕ) (before left : List ℕ) : Type 0 where
+  pub answer : unpacked r ≡ outcome
+  pub refusal-writes-nothing : ¬ (numberIn r ≡ 0) → left ≡ before
+
+-- THE ONE EXCEPTION: a start that is refused by 11 is remembered, in a buffer that is long enough for a state: what stood there is no state any more
+pub record OneStartAnswer (marks buffer : List ℕ) (r : ℕ) (live : List ℕ) : Type 0 where
+  pub answer : unpacked r ≡ told (startOf marks buffer)
+  pub other-refusal-writes-nothing : ¬ (numberIn r ≡ 0) → ¬ (numberIn r ≡ 11) → live ≡ buffer
+  pub short-buffer-stays : length buffer < liveBytes → live ≡ buffer
+
+-- bytes that are plainly no state answer 11 to every call; such are a buffer that is too short, and bytes that begin otherwise, as all zero or all 255 do
+pub record NoStates : Type 0 where
+  pub eleven : (live : List ℕ) → noState live ≡ true → (c : LiveCall) (y : LiveReturned) → LiveMade live c y → unpacked (y .returned) ≡ refused 11 0
+  pub short : (live : List ℕ) → length live < liveBytes → noState live ≡ true
+  pub otherwise : (live : List ℕ) → ¬ (word live 0 ≡ signature) → noState live ≡ true
+
+-- DEMAND 1 of the calls of a live run, for any bytes: those of a state that a call left, and all others
+pub record LiveDemand1 : Type 0 where
+  pub of-start : {marks buffer live : List ℕ} {r : ℕ} → LiveStartCall marks buffer r live → OneStartAnswer marks buffer r live
+  pub of-step : (live : List ℕ) (s : Step) (y : LiveReturned) → StepMade live s y → OneLiveAnswer (told (stepOf live s)) (y .returned) live (y .left)
+  pub of-kept : (live : List ℕ) {out : List ℕ} {r : ℕ} {written : List ℕ} → LiveKeptCall live out r written → OneLiveAnswer (counted (heldOf live (length out))) r out written
+  pub behind : (live : List ℕ) (s : Step) (y : LiveReturned) → StepMade live s y → Behind live (y .left)
+  pub no-states : NoStates
+
 -- PAPER 11: of every start, whatever the marks, that is not refused for a buffer that is too short, and every list of calls after it
 pub record LiveRuns : Type 0 where
+  pub one : LiveDemand1
   pub every-run : {marks buffer live : List ℕ} {r : ℕ} → LiveStartCall marks buffer r live → ¬ (numberIn r ≡ 10) → (cs : List LiveCall) (ys : List LiveReturned)
       → LiveCallsMade live cs ys → AsTheHistory (begun marks) live cs ys
   pub held-like-run : (marks : List ℕ) → AcceptedMarks marks → (cs : List LiveCall) → HeldLikeRun (historyAfter (begun marks) cs)

@@ -1,2 +1,1 @@
-pub mod Represents
 pub mod laws

@@ -1,3 +1,4 @@
+pub mod Represents
 pub mod Alike
 pub mod Parts
 pub mod Run

@@ -72,7 +72,7 @@ module _ (q : Request) (ks : List ℕ) where
   told-numbered (refused n p) t = let b = number-bounds (t .0) in let m = t .2 in omega arith
 
 -- a call that writes bytes and is refused leaves its output
-kept-output : (o : Outcome (List ℕ)) (out : List ℕ) (r : ℕ) (after : List ℕ) → InHalf (counted o) → Writes o out r after → ¬ (numberIn r ≡ 0) → after ≡ out
+pub kept-output : (o : Outcome (List ℕ)) (out : List ℕ) (r : ℕ) (after : List ℕ) → InHalf (counted o) → Writes o out r after → ¬ (numberIn r ≡ 0) → after ≡ out
 kept-output (result b) out r after h w k = absurd (k (ap numberIn (w .returned) ∙ number-result (length b) h))
 kept-output (refused n p) out r after h w k = w .output
 

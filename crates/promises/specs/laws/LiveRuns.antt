@@ -2,12 +2,12 @@
 use Prim.Native.Nat.{ℕ, _+_, _*_, _%_, _≤_}
 use native.Mathlib.Omega.{arith}
 use mathlib.Core.Path.{_≡_, refl, sym, ap, ap₂, subst, _∙_}
-use mathlib.Core.Bool.{Bool, true, false}
+use mathlib.Core.Bool.{Bool, true, false, cond}
 use mathlib.Core.Logic.{_⊎_, inl, inr, ⊎-elim}
 use mathlib.Core.List.{List, [], _∷_, _++_}
 use lib.Dec.{ltb}
 use lib.ListN.{length, take}
-use borrow.Author.Tests.{ltb-false, le-ltb}
+use borrow.Author.Tests.{ltb-false, le-ltb, lt-ltb}
 use Rattle.number.specs.laws.Boolean.{clash}
 use Rattle.refusal.specs.Outcome.{Outcome, result, refused, Line, judged}
 use Rattle.recording.specs.Recording.{Raw, flat, records, recordingLines, Accepted}
@@ -23,20 +23,21 @@ use Rattle.thin.specs.laws.Selection.{kept-selection}
 use Rattle.reply.specs.Reply.{packed, numberIn, lowIn, unpacked, InHalf}
 use Rattle.reply.specs.laws.Unpacked.{Numbered, number-result, number-refused, unpacked-packed}
 use Rattle.live_state.specs.Limits.{mostHeld}
-use Rattle.live_state.specs.State.{liveBytes, heldIn}
+use Rattle.live_state.specs.State.{liveBytes, noState, started}
 use Rattle.live.specs.History.{History, begun, Step, add, save, restore, after, told, answer, keptRun, readOut, keptOf}
-use Rattle.live.specs.Call.{StepTold, StartTold, startOf, startAfter, stepOf, stateAfter, heldOf}
+use Rattle.live.specs.Call.{StepTold, StartTold, startOf, startAfter, stepOf, stateAfter, heldOf, Behind}
 use Rattle.live.specs.laws.Step.{start-by}
-use Rattle.live.specs.laws.InHalf.{step-in-half, step-numbered, start-in-half, held-in-half, held-numbered}
-use Rattle.refinement.specs.Represents.{Represents, Follows, Taken}
+use Rattle.live.specs.laws.InHalf.{step-in-half, step-numbered, start-in-half, start-numbered, held-in-half, held-numbered}
+use Rattle.live.specs.laws.Behind.{step-behind}
+use Rattle.refinement.specs.laws.Represents.{Represents, Follows, Taken}
 use Rattle.refinement.specs.laws.Run.{kept-flat, kept-sixteen}
 use Rattle.refinement.specs.laws.State.{the-marks, the-held}
-use Rattle.refinement.specs.laws.Follow.{step-followed, read-followed, start-followed, same-marks, some-bytes}
+use Rattle.refinement.specs.laws.Follow.{step-followed, read-followed, start-followed, short-none, other-none, none-answers, none-read-out, same-marks, some-bytes}
 use Rattle.boundary.specs.Boundary.{Writes}
 use Rattle.mill.specs.Calls.{ThinCall, LiveStartCall, LiveKeptCall}
 use Rattle.mill.specs.laws.Calls.{thin-in-half}
-use Rattle.promises.specs.LiveRuns.{LiveCall, step, read, LiveReturned, StepMade, LiveMade, liveNext, LiveCallsMade, historyNext, historyAfter, StepAnswered, ReadAnswered, Answered, RunHeld, AsTheHistory, HeldLikeRun, LiveRuns}
-use Rattle.promises.specs.laws.Demand1.{wrote}
+use Rattle.promises.specs.LiveRuns.{LiveCall, step, read, LiveReturned, StepMade, LiveMade, liveNext, LiveCallsMade, historyNext, historyAfter, StepAnswered, ReadAnswered, Answered, RunHeld, AsTheHistory, HeldLikeRun, OneLiveAnswer, OneStartAnswer, LiveDemand1, LiveRuns}
+use Rattle.promises.specs.laws.Demand1.{kept-output, wrote}
 use Rattle.promises.specs.laws.Selected.{selected-place}
 
 -- ---- one call
@@ -47,18 +48,21 @@ step-told live (add x) y m = m
 step-told live (save name) y m = m
 step-told live (restore name) y m = m
 
+-- a refused step leaves every byte
+refused-stays : (live : List ℕ) (s : Step) (y : LiveReturned) → StepTold (stepOf live s) live (y .returned) (y .left) → ¬ (numberIn (y .returned) ≡ 0) → y .left ≡ live
+refused-stays live s y t k = by (stepOf live s) refl
+  where
+    by : (o : Outcome (List ℕ)) → stepOf live s ≡ o → y .left ≡ live
+    by (refused n p) e = t .state ∙ ap (λ (o : Outcome (List ℕ)). stateAfter o live) e
+    by (result b) e = absurd (k (ap numberIn (t .returned ∙ ap (λ (o : Outcome (List ℕ)). packed (told o)) e) ∙ number-result 0 (omega arith)))
+
 step-answered : (h : History) (live : List ℕ) → Follows h live → (s : Step) (y : LiveReturned) → StepMade live s y → StepAnswered h live s y
 step-answered h live f s y m =
     let t = step-told live s y m in
     record {
       answers = ap unpacked (t .returned) ∙ unpacked-packed (told (stepOf live s)) (step-in-half live s) (step-numbered live s) ∙ step-followed h live f s .answers;
-      refused-stays = λ k. stays (stepOf live s) refl k (t .returned) (t .state) (step-in-half live s);
+      refused-stays = refused-stays live s y t;
     }
-  where
-    stays : (o : Outcome (List ℕ)) → stepOf live s ≡ o → ¬ (numberIn (y .returned) ≡ 0) → y .returned ≡ packed (told (stepOf live s)) → y .left ≡ stateAfter (stepOf live s) live
-        → InHalf (told (stepOf live s)) → y .left ≡ live
-    stays (refused n p) e k r l i = l ∙ ap (λ (o : Outcome (List ℕ)). stateAfter o live) e
-    stays (result b) e k r l i = absurd (k (ap numberIn (r ∙ ap (λ (o : Outcome (List ℕ)). packed (told o)) e) ∙ number-result 0 (omega arith)))
 
 read-answered : (h : History) (live : List ℕ) → Follows h live → (out : List ℕ) (y : LiveReturned) → LiveKeptCall live out (y .returned) (y .left) → ReadAnswered h out y
 read-answered h live f out y w =
@@ -160,10 +164,83 @@ held-like h fine a =
         let f : k ≡ q .0 = cc in
         (z, q .3 ∙ sym f)
 
+-- ---- DEMAND 1
+
+-- what is read off, and that a refused call leaves what was there
+step-once : (live : List ℕ) (s : Step) (y : LiveReturned) → StepMade live s y → OneLiveAnswer (told (stepOf live s)) (y .returned) live (y .left)
+step-once live s y m =
+    let t = step-told live s y m in
+    record {
+      answer = ap unpacked (t .returned) ∙ unpacked-packed (told (stepOf live s)) (step-in-half live s) (step-numbered live s);
+      refusal-writes-nothing = λ k. refused-stays live s y t k;
+    }
+
+kept-once : (live out : List ℕ) (r : ℕ) (written : List ℕ) → LiveKeptCall live out r written → OneLiveAnswer (counted (heldOf live (length out))) r out written
+kept-once live out r written w =
+    record {
+      answer = ap unpacked (w .returned) ∙ unpacked-packed (counted (heldOf live (length out))) (held-in-half live (length out)) (held-numbered live (length out));
+      refusal-writes-nothing = λ k. kept-output (heldOf live (length out)) out r written (held-in-half live (length out)) w k;
+    }
+
+start-once : (marks buffer live : List ℕ) (r : ℕ) → LiveStartCall marks buffer r live → OneStartAnswer marks buffer r live
+start-once marks buffer live r w =
+    record {
+      answer = ap unpacked (w .returned) ∙ unpacked-packed (told (startOf marks buffer)) (start-in-half marks buffer) (start-numbered marks buffer);
+      other-refusal-writes-nothing = λ k e. other (marksLine marks .meets) (ltb (length buffer) liveBytes) refl refl k e;
+      short-buffer-stays = λ h. w .state ∙ start-by buffer marks (marksLine marks .meets) true refl (lt-ltb (length buffer) liveBytes h) .1;
+    }
+  where
+    returned-as : (a b : Bool) → marksLine marks .meets ≡ a → ltb (length buffer) liveBytes ≡ b
+        → r ≡ packed (told (cond a (refused 11 0) (cond b (refused 10 0) (result (started marks buffer)))))
+    returned-as a b ea eb = w .returned ∙ ap (λ (o : Outcome (List ℕ)). packed (told o)) (start-by buffer marks a b ea eb .0)
+
+    other : (a b : Bool) → marksLine marks .meets ≡ a → ltb (length buffer) liveBytes ≡ b → ¬ (numberIn r ≡ 0) → ¬ (numberIn r ≡ 11) → live ≡ buffer
+    other true b ea eb k e = absurd (e (ap numberIn (returned-as true b ea eb) ∙ number-refused 11 0 (omega arith)))
+    other false true ea eb k e = w .state ∙ start-by buffer marks false true ea eb .1
+    other false false ea eb k e = absurd (k (ap numberIn (returned-as false false ea eb) ∙ number-result 0 (omega arith)))
+
+eleven : (live : List ℕ) → noState live ≡ true → (c : LiveCall) (y : LiveReturned) → LiveMade live c y → unpacked (y .returned) ≡ refused 11 0
+eleven live none (step s) y m = step-once live s y m .answer ∙ ap told (none-answers live none s)
+eleven live none (read out) y m = kept-once live out (y .returned) (y .left) m .answer ∙ ap counted (none-read-out live none (length out))
+
+live-demand-1 : LiveDemand1
+live-demand-1 =
+    record {
+      of-start = λ {marks} {buffer} {live} {r} w. start-once marks buffer live r w;
+      of-step = λ live s y m. step-once live s y m;
+      of-kept = λ live {out} {r} {written} w. kept-once live out r written w;
+      behind = λ live s y m. subst (Behind live) (sym (step-told live s y m .state)) (step-behind live s);
+      no-states =
+          record {
+            eleven = λ live none c y m. eleven live none c y m;
+            short = λ live h. short-none live (lt-ltb (length live) liveBytes h);
+            otherwise = λ live k. other-none live k;
+          };
+    }
+
+-- ---- these calls can be made: each contract is met by what its definition gives
+
+pub calls-exist : (live : List ℕ) (cs : List LiveCall) → (ys : List LiveReturned) × LiveCallsMade live cs ys
+calls-exist live [] = ([], tt)
+calls-exist live (step s ∷ cs) =
+    let y : LiveReturned = record { returned = packed (told (stepOf live s)); left = stateAfter (stepOf live s) live } in
+    let r = calls-exist (stateAfter (stepOf live s) live) cs in
+    (y ∷ r .0, (made s, r .1))
+  where
+    made : (s : Step) → StepMade live s (record { returned = packed (told (stepOf live s)); left = stateAfter (stepOf live s) live })
+    made (add x) = record { returned = refl; state = refl }
+    made (save name) = record { returned = refl; state = refl }
+    made (restore name) = record { returned = refl; state = refl }
+calls-exist live (read out ∷ cs) =
+    let y : LiveReturned = record { returned = packed (counted (heldOf live (length out))); left = outputAfter (heldOf live (length out)) out } in
+    let r = calls-exist live cs in
+    (y ∷ r .0, (record { returned = refl; output = refl }, r .1))
+
 -- PAPER 11
 pub live-runs : LiveRuns
 live-runs =
     record {
+      one = live-demand-1;
       every-run = λ {marks} {buffer} {live} {r} w k cs ys m.
           from-state (begun marks) live (subst (Follows (begun marks)) (sym (w .state)) (start-followed marks buffer (not-ten marks buffer live r w k))) cs ys m;
       held-like-run = λ marks fine cs. reached marks fine cs;

@@ -20,7 +20,7 @@ use Rattle.live_state.specs.State.{runAt, headOf, marksIn, readCount, heldCount
 use Rattle.live.specs.History.{History, Step, add, outcome, taken, named, keptOf, readingLines}
 use Rattle.live.specs.Call.{keptWith, growLines, holding, addOf}
 use Rattle.live.specs.laws.Step.{add-by}
-use Rattle.refinement.specs.Represents.{Has, runOf, momentOf, Taken, TakenAt, Represents, Follows}
+use Rattle.refinement.specs.laws.Represents.{Has, runOf, momentOf, Taken, TakenAt, Represents, Follows}
 use Rattle.refinement.specs.laws.Run.{kept-sixteen, records-behind, kept-behind, front-good, kept-good, lawful-kept, taken-more, run-behind, grown-sixteens}
 use Rattle.refinement.specs.laws.State.{the-run, the-marks, a-state}
 use Rattle.refinement.specs.laws.Placed.{placed-long, placed-signed, placed-marked, placed-run, placed-other, moment-fits}

@@ -7,7 +7,7 @@ use mathlib.Core.Logic.{_⊎_, inl, inr, ⊎-elim}
 use mathlib.Core.List.{List, [], _∷_, _++_}
 use lib.ListN.{length, replicate, length-replicate}
 use lib.Dec.{ltb, eqb}
-use borrow.Author.Tests.{eqb-true, ltb-false, ltb-true}
+use borrow.Author.Tests.{eqb-true, ltb-false, ltb-true, ne-eqb}
 use Rattle.number.specs.laws.Boolean.{clash}
 use Rattle.refusal.specs.Outcome.{Outcome, result, refused, Line, line, judged, NoneMeets}
 use Rattle.recording.specs.Recording.{flat, mostRecords}
@@ -21,7 +21,7 @@ use Rattle.live_state.specs.laws.State.{no-state-by}
 use Rattle.live.specs.History.{History, begun, Step, add, save, restore, outcome, taken, goesOn, after, told, answer, stepLines, badName, keptRun, readOut}
 use Rattle.live.specs.Call.{holding, keptWith, heldOf, stepOf, stateAfter, startAfter}
 use Rattle.live.specs.laws.Step.{add-by, save-by, restore-by, start-by, held-by}
-use Rattle.refinement.specs.Represents.{Represents, Follows}
+use Rattle.refinement.specs.laws.Represents.{Represents, Follows}
 use Rattle.refinement.specs.laws.Alike.{BothTaken, BothRefused, Alike, judged-alike}
 use Rattle.refinement.specs.laws.State.{a-state, the-held}
 use Rattle.refinement.specs.laws.Add.{grownLines, partial-state, partial-history, state-lines, history-lines, grown-represents}
@@ -68,14 +68,32 @@ module _ (h : History) (s : List ℕ) (r : Represents h s) where
       alike-followed (restore name) (backLines h s r name) (taken h (restore name)) (put (runAt 0) (runBytes s name) s) (restore-lines h s r name)
       (restore-history h s r name) (restored-represents h s r name)
 
+-- ---- bytes that are no state
+
+-- a buffer that is too short is no state
+pub short-none : (s : List ℕ) → ltb (length s) liveBytes ≡ true → noState s ≡ true
+short-none s e = no-state-by s true (eqb (word s 0) signature) (badMarksIn s) (runStands s 0) e refl refl refl
+
+-- bytes that begin otherwise, as all zero or all 255 do, are no state
+pub other-none : (s : List ℕ) → ¬ (word s 0 ≡ signature) → noState s ≡ true
+other-none s k = by (ltb (length s) liveBytes) refl
+  where
+    by : (b : Bool) → ltb (length s) liveBytes ≡ b → noState s ≡ true
+    by true e = short-none s e
+    by false e = no-state-by s false false (badMarksIn s) (runStands s 0) e (ne-eqb (word s 0) signature k) refl refl
+
+-- no state answers 11 to every step and to the read-out
+pub none-answers : (s : List ℕ) → noState s ≡ true → (t : Step) → stepOf s t ≡ refused 11 0
+none-answers s none (add x) = add-by s x true (eqb (length x) 16) (ltb mostRecords (readCount s 0 + 1)) none refl refl
+none-answers s none (save name) = save-by s name true (badName name) none refl
+none-answers s none (restore name) = restore-by s name true (badName name) (runStands s name) none refl refl
+
+pub none-read-out : (s : List ℕ) → noState s ≡ true → (room : ℕ) → heldOf s room ≡ refused 11 0
+none-read-out s none room = held-by s room true (ltb room (length (heldIn s 0))) none refl
+
 -- ---- marks that 11 refused: every step answers 11
 
 module _ (h : History) (s : List ℕ) (bad : marksLine (h .marks) .meets ≡ true) (none : noState s ≡ true) where
-  none-step : (t : Step) → stepOf s t ≡ refused 11 0
-  none-step (add x) = add-by s x true (eqb (length x) 16) (ltb mostRecords (readCount s 0 + 1)) none refl refl
-  none-step (save name) = save-by s name true (badName name) none refl
-  none-step (restore name) = restore-by s name true (badName name) (runStands s name) none refl refl
-
   bad-outcome : (t : Step) → outcome h t ≡ refused 11 0
   unfolding outcome
   bad-outcome (add x) = judged-first (marksLine (h .marks)) _ (taken h (add x)) bad
@@ -85,10 +103,10 @@ module _ (h : History) (s : List ℕ) (bad : marksLine (h .marks) .meets ≡ tru
   step-refused : (t : Step) → Followed h s t
   step-refused t =
       record {
-        answers = ap told (none-step t) ∙ sym (ap told (bad-outcome t));
+        answers = ap told (none-answers s none t) ∙ sym (ap told (bad-outcome t));
         follows =
             subst (λ (p : History). Follows p (stateAfter (stepOf s t) s)) (sym (ap (goesOn h) (bad-outcome t)))
-            (subst (Follows h) (sym (ap (λ (o : Outcome (List ℕ)). stateAfter o s) (none-step t))) (inr (bad, none)));
+            (subst (Follows h) (sym (ap (λ (o : Outcome (List ℕ)). stateAfter o s) (none-answers s none t))) (inr (bad, none)));
       }
 
 -- EVERY STEP
@@ -105,10 +123,6 @@ read-followed h s f room =
     ∙ sym (ap (λ (a : Bool). cond a (refused 11 0) (cond (ltb room (length (keptRun h))) (refused 10 0) (result (keptRun h)))) (r .fine .0)))
     (λ b. held-by s room true (ltb room (length (heldIn s 0))) (b .1) refl
     ∙ sym (ap (λ (a : Bool). cond a (refused 11 0) (cond (ltb room (length (keptRun h))) (refused 10 0) (result (keptRun h)))) (b .0))) f
-
--- a buffer that is too short is no state
-pub short-none : (s : List ℕ) → ltb (length s) liveBytes ≡ true → noState s ≡ true
-short-none s e = no-state-by s true (eqb (word s 0) signature) (badMarksIn s) (runStands s 0) e refl refl refl
 
 -- EVERY START that is not refused for a buffer that is too short: a long one, or any with marks that 11 refuses
 pub start-followed : (marks s : List ℕ) → (liveBytes ≤ length s) ⊎ (marksLine marks .meets ≡ true) → Follows (begun marks) (startAfter marks s)

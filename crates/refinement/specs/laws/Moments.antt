@@ -18,7 +18,7 @@ use Rattle.live_state.specs.State.{runAt, runBytes, runStands}
 use Rattle.live.specs.History.{History, Moment, unset, set, isSet, backTo, Step, save, restore, outcome, taken, named, badName}
 use Rattle.live.specs.Call.{saveOf, restoreOf}
 use Rattle.live.specs.laws.Step.{save-by, restore-by, good-name}
-use Rattle.refinement.specs.Represents.{Has, runOf, momentOf, Taken, TakenAt, Represents}
+use Rattle.refinement.specs.laws.Represents.{Has, runOf, momentOf, Taken, TakenAt, Represents}
 use Rattle.refinement.specs.laws.State.{run-read, moment-read, the-run, a-state}
 use Rattle.refinement.specs.laws.Placed.{placed-long, placed-signed, placed-marked, placed-run, placed-other, run-fits, moment-fits}
 

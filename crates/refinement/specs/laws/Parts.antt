@@ -11,7 +11,7 @@ use Rattle.number.specs.laws.Words.{word-front}
 use Rattle.copying.specs.Put.{part, put}
 use Rattle.copying.specs.laws.Put.{part-part, part-put, part-before, part-behind, word-part}
 use Rattle.live_state.specs.State.{headOf}
-use Rattle.refinement.specs.Represents.{Has}
+use Rattle.refinement.specs.laws.Represents.{Has}
 
 -- what was put stands there
 pub has-put : (at : ℕ) (v s : List ℕ) → at + length v ≤ length s → Has (put at v s) at v

@@ -15,7 +15,7 @@ use Rattle.live_state.specs.Limits.{mostMoments}
 use Rattle.live_state.specs.State.{signature, liveBytes, runAt, headOf, noRun}
 use Rattle.live_state.specs.laws.State.{fine-length}
 use Rattle.live.specs.History.{History, Moment, unset, set, named, keptOf}
-use Rattle.refinement.specs.Represents.{Has, runOf, momentOf, Taken, TakenAt, Represents}
+use Rattle.refinement.specs.laws.Represents.{Has, runOf, momentOf, Taken, TakenAt, Represents}
 use Rattle.refinement.specs.laws.Parts.{has-put, has-apart}
 use Rattle.refinement.specs.laws.Run.{run-length}
 

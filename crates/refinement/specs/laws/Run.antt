@@ -29,7 +29,7 @@ use Rattle.thin.specs.laws.Selection.{good-select}
 use Rattle.live_state.specs.Limits.{mostHeld}
 use Rattle.live_state.specs.State.{headOf}
 use Rattle.live.specs.History.{keptOf}
-use Rattle.refinement.specs.Represents.{runOf, Taken}
+use Rattle.refinement.specs.laws.Represents.{runOf, Taken}
 
 -- ---- the rules of one reading more
 

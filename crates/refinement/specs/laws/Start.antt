@@ -17,7 +17,7 @@ use Rattle.live_state.specs.Limits.{mostMoments}
 use Rattle.live_state.specs.State.{signature, liveBytes, runAt, headOf, noRun, noState, runStands, badMarksIn, cleared, started, ended}
 use Rattle.live_state.specs.laws.State.{fine-length, no-state-by}
 use Rattle.live.specs.History.{begun}
-use Rattle.refinement.specs.Represents.{Has, Represents}
+use Rattle.refinement.specs.laws.Represents.{Has, Represents}
 use Rattle.refinement.specs.laws.Parts.{has-put, has-apart}
 
 length-cleared : (k : ℕ) (s : List ℕ) → k ≤ mostMoments → liveBytes ≤ length s → length (cleared k s) ≡ length s

@@ -17,7 +17,7 @@ use Rattle.live_state.specs.Limits.{mostHeld, mostMoments}
 use Rattle.live_state.specs.State.{signature, liveBytes, runAt, headOf, noRun, marksIn, readCount, heldCount, heldIn, runBytes, runStands, badMarksIn, noState}
 use Rattle.live_state.specs.laws.State.{IsState, is-state, fine-length, bad-marks-by, no-state-by}
 use Rattle.live.specs.History.{History, Moment, unset, set, isSet, named, keptOf}
-use Rattle.refinement.specs.Represents.{Has, runOf, momentOf, Taken, TakenAt, Represents}
+use Rattle.refinement.specs.laws.Represents.{Has, runOf, momentOf, Taken, TakenAt, Represents}
 use Rattle.refinement.specs.laws.Parts.{TwoWords, two-words, head-words, behind-head}
 use Rattle.refinement.specs.laws.Run.{kept-sixteen, kept-flat, run-length}
 
