@@ -1,19 +1,14 @@
 -- `copying::copy_blocks` meets its contract. The invariant: i blocks are copied.
-use mathlib.Core.Path.{_≡_, refl, sym, ap, _∙_}
+use mathlib.Core.Path.{_≡_, refl, ap, _∙_}
 use mathlib.Core.List.{List, _++_}
 use Prim.Native.Nat.{ℕ, _+_, _-_, _*_, _≤_}
 use native.Mathlib.Omega.{arith}
-use lib.ListN.{length, getD, take, drop, set, length-set, length-drop}
-use lib.Seq.{paste, paste-zero, paste-suc, length-paste, getD-drop}
-use Rattle.copying.specs.Put.{part}
-use Rattle.copying.specs.laws.Put.{paste-put, block-more, still-stands}
+use lib.ListN.{length, take, drop, length-drop}
+use lib.Seq.{paste, paste-zero, length-paste}
+use Rattle.copying.specs.laws.Put.{paste-put, block-more}
 use borrow.Author.Needs.{needs}
 use Rattle.copying.proofs.copy_blocks.Statement.{statement}
 use Rattle.copying.proofs.copy_blocks.Tie as tie
-use Rattle.copying.proofs.copy_blocks.Reads as reads
-use Rattle.copying.proofs.copy_blocks.Lts as lts
-use Rattle.recording.proofs.put16.Reads as put16-reads
-use Rattle.recording.proofs.take16.Reads as take16-reads
 
 abbrev Inv-loop : tie.InvT-loop
 Inv-loop s from n out₀ to i₀ out i = (i ≤ n) × (length out ≡ length out₀) × (out ≡ paste out₀ to (drop from s) (16 * i))

@@ -1,18 +1,15 @@
 -- `copying::copy_bytes` meets its contract. The invariant: i bytes are copied.
 use mathlib.Core.Path.{_≡_, refl, sym, ap, _∙_}
-use mathlib.Core.List.{List, _++_}
-use Prim.Native.Nat.{ℕ, _+_, _-_, _*_, _≤_}
+use mathlib.Core.List.{List}
+use Prim.Native.Nat.{ℕ, _+_, _-_, _≤_}
 use native.Mathlib.Omega.{arith}
 use native.Mathlib.Numerals.{add-one}
-use lib.ListN.{length, getD, take, drop, set, length-set, length-drop}
-use lib.Seq.{paste, paste-zero, paste-suc, length-paste, getD-drop}
-use Rattle.copying.specs.Put.{part}
-use Rattle.copying.specs.laws.Put.{paste-put, block-more, still-stands}
+use lib.ListN.{length, getD, drop, set, length-set, length-drop}
+use lib.Seq.{paste, paste-zero, paste-suc, getD-drop}
+use Rattle.copying.specs.laws.Put.{paste-put}
 use borrow.Author.Needs.{needs}
 use Rattle.copying.proofs.copy_bytes.Statement.{statement}
 use Rattle.copying.proofs.copy_bytes.Tie as tie
-use Rattle.copying.proofs.copy_bytes.Reads as reads
-use Rattle.copying.proofs.copy_bytes.Lts as lts
 
 abbrev Inv-loop : tie.InvT-loop
 Inv-loop s from n out₀ to i₀ out i = (i ≤ n) × (length out ≡ length out₀) × (out ≡ paste out₀ to (drop from s) i)

@@ -3,16 +3,16 @@ use Prim.Native.Nat.{ℕ, _+_, _*_, _/_, _≤_}
 use native.Mathlib.Omega.{arith}
 use mathlib.Core.Path.{_≡_, refl, subst}
 use mathlib.Core.Bool.{not}
-use mathlib.Core.List.{List, [], _∷_, _++_}
+use mathlib.Core.List.{List, _++_}
 use lib.ListN.{length, length-append}
 use borrow.Author.Tests.{ltb-false, not-false}
 use Rattle.number.specs.laws.Boolean.{none-left, none-right}
 use Rattle.refusal.specs.Outcome.{Outcome, result, refused}
 use Rattle.recording.specs.laws.Outcome.{result-none}
-use Rattle.copying.specs.Put.{part, put}
+use Rattle.copying.specs.Put.{put}
 use Rattle.copying.specs.laws.Put.{length-part, length-put, part-behind}
 use Rattle.live_state.specs.State.{liveBytes, runAt, headOf, readCount, heldCount, runBytes, runStands}
-use Rattle.live_state.specs.laws.State.{IsState, is-state, stands-few}
+use Rattle.live_state.specs.laws.State.{is-state, stands-few}
 use Rattle.live.specs.History.{Step, add, save, restore, badName}
 use Rattle.live.specs.Call.{keptWith, addLines, holding, addOf, saveOf, restoreOf, stepOf, stateAfter, Behind}
 use Rattle.live.specs.laws.Step.{good-name}

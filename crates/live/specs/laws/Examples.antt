@@ -1,11 +1,10 @@
 -- A worked example: moments on an empty run and later, set again, gone back to; times that a discarded reading had; refusals that change nothing.
-use Prim.Native.Nat.{ℕ}
 use mathlib.Core.Path.{_≡_, refl}
-use mathlib.Core.List.{List, [], _∷_, _++_}
+use mathlib.Core.List.{List, [], _∷_}
 use Rattle.number.specs.Words.{turned, signed}
-use Rattle.refusal.specs.Outcome.{Outcome, result, refused, judged}
+use Rattle.refusal.specs.Outcome.{result, refused, judged}
 use Rattle.recording.specs.R2.{r2}
-use Rattle.recording.specs.Recording.{Raw, reading, fieldsOf, fields, lawful}
+use Rattle.recording.specs.Recording.{reading, fieldsOf, fields, lawful}
 use Rattle.marks.specs.Marks.{marksOf}
 use Rattle.live.specs.History.{begun, Step, add, save, restore, outcome, answers, afterAll}
 

@@ -1,7 +1,7 @@
 -- PAPER 11 at the C boundary, proved: by the state that follows the history (crate `refinement`), call by call.
-use Prim.Native.Nat.{ℕ, _+_, _*_, _%_, _≤_}
+use Prim.Native.Nat.{ℕ, _+_, _%_, _≤_}
 use native.Mathlib.Omega.{arith}
-use mathlib.Core.Path.{_≡_, refl, sym, ap, ap₂, subst, _∙_}
+use mathlib.Core.Path.{_≡_, refl, sym, ap, subst, _∙_}
 use mathlib.Core.Bool.{Bool, true, false, cond}
 use mathlib.Core.Logic.{_⊎_, inl, inr, ⊎-elim}
 use mathlib.Core.List.{List, [], _∷_, _++_}
@@ -9,11 +9,11 @@ use lib.Dec.{ltb}
 use lib.ListN.{length, take}
 use borrow.Author.Tests.{ltb-false, le-ltb, lt-ltb}
 use Rattle.number.specs.laws.Boolean.{clash}
-use Rattle.refusal.specs.Outcome.{Outcome, result, refused, Line, judged}
-use Rattle.recording.specs.Recording.{Raw, flat, records, recordingLines, Accepted}
+use Rattle.refusal.specs.Outcome.{Outcome, result, refused}
+use Rattle.recording.specs.Recording.{Raw, flat, recordingLines, Accepted}
 use Rattle.recording.specs.Output.{counted, outputAfter, outputLine}
 use Rattle.recording.specs.laws.Record.{length-flat, records-flat}
-use Rattle.recording.specs.laws.Acceptance.{Good, Sound, accepted-sound, sound-accepted}
+use Rattle.recording.specs.laws.Acceptance.{Good, accepted-sound, sound-accepted}
 use Rattle.recording.specs.laws.Outcome.{judged-none, append-none}
 use Rattle.marks.specs.Marks.{marksOf, marksLine, AcceptedMarks}
 use Rattle.thin.specs.Thin.{keptBytes, thinOf}
@@ -21,11 +21,10 @@ use Rattle.thin.specs.laws.Model.{kept-join}
 use Rattle.thin.specs.laws.Cut.{sound-thinned}
 use Rattle.thin.specs.laws.Selection.{kept-selection}
 use Rattle.reply.specs.Reply.{packed, numberIn, lowIn, unpacked, InHalf}
-use Rattle.reply.specs.laws.Unpacked.{Numbered, number-result, number-refused, unpacked-packed}
-use Rattle.live_state.specs.Limits.{mostHeld}
+use Rattle.reply.specs.laws.Unpacked.{number-result, number-refused, unpacked-packed}
 use Rattle.live_state.specs.State.{liveBytes, noState, started}
-use Rattle.live.specs.History.{History, begun, Step, add, save, restore, after, told, answer, keptRun, readOut, keptOf}
-use Rattle.live.specs.Call.{StepTold, StartTold, startOf, startAfter, stepOf, stateAfter, heldOf, Behind}
+use Rattle.live.specs.History.{History, begun, Step, add, save, restore, after, told, answer, keptRun, keptOf}
+use Rattle.live.specs.Call.{StepTold, startOf, startAfter, stepOf, stateAfter, heldOf, Behind}
 use Rattle.live.specs.laws.Step.{start-by}
 use Rattle.live.specs.laws.InHalf.{step-in-half, step-numbered, start-in-half, start-numbered, held-in-half, held-numbered}
 use Rattle.live.specs.laws.Behind.{step-behind}

@@ -1,26 +1,25 @@
 -- A reading: the state answers as the history does, and follows it.
-use Prim.Native.Nat.{ℕ, _+_, _*_, _/_, _≤_}
+use Prim.Native.Nat.{ℕ, _+_, _*_, _/_}
 use native.Mathlib.Omega.{arith}
 use mathlib.Core.Path.{_≡_, refl, sym, ap, ap₂, _∙_, subst}
 use mathlib.Core.Bool.{Bool, true, false, cond, not}
-use mathlib.Core.Logic.{_⊎_, inl, inr, ⊎-elim}
 use mathlib.Core.List.{List, [], _∷_, _++_}
 use lib.ListN.{length, length-append}
 use lib.Dec.{ltb, eqb}
-use borrow.Author.Tests.{ltb-false, eq-eqb, eqb-true, not-false}
+use borrow.Author.Tests.{ltb-false, eq-eqb, not-false}
 use Rattle.number.specs.laws.Order.{ltb-same}
-use Rattle.refusal.specs.Outcome.{Outcome, result, refused, Line, line, judged, NoneMeets}
+use Rattle.refusal.specs.Outcome.{result, refused, Line, line, judged, NoneMeets}
 use Rattle.recording.specs.Recording.{Raw, records, flat, lawful, firstBad, mostRecords}
 use Rattle.recording.specs.laws.Record.{length-flat}
-use Rattle.marks.specs.Marks.{marksOf, marksLine}
+use Rattle.marks.specs.Marks.{marksOf}
 use Rattle.thin.specs.Thin.{keptBytes}
 use Rattle.copying.specs.Put.{put}
 use Rattle.live_state.specs.Limits.{mostHeld}
-use Rattle.live_state.specs.State.{runAt, headOf, marksIn, readCount, heldCount, heldIn}
-use Rattle.live.specs.History.{History, Step, add, outcome, taken, named, keptOf, readingLines}
-use Rattle.live.specs.Call.{keptWith, growLines, holding, addOf}
+use Rattle.live_state.specs.State.{runAt, headOf, readCount, heldCount, heldIn}
+use Rattle.live.specs.History.{History, add, outcome, taken, named, keptOf}
+use Rattle.live.specs.Call.{keptWith, holding, addOf}
 use Rattle.live.specs.laws.Step.{add-by}
-use Rattle.refinement.specs.laws.Represents.{Has, runOf, momentOf, Taken, TakenAt, Represents, Follows}
+use Rattle.refinement.specs.laws.Represents.{runOf, momentOf, Taken, Represents}
 use Rattle.refinement.specs.laws.Run.{kept-sixteen, records-behind, kept-behind, front-good, kept-good, lawful-kept, taken-more, run-behind, grown-sixteens}
 use Rattle.refinement.specs.laws.State.{the-run, the-marks, a-state}
 use Rattle.refinement.specs.laws.Placed.{placed-long, placed-signed, placed-marked, placed-run, placed-other, moment-fits}

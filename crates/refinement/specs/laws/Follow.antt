@@ -1,28 +1,27 @@
 -- THE STATE FOLLOWS THE HISTORY: at a start, at every step, refused ones included, and at the read-out.
 use Prim.Native.Nat.{ℕ, _+_, _≤_}
 use native.Mathlib.Omega.{arith}
-use mathlib.Core.Path.{_≡_, refl, sym, ap, ap₂, _∙_, subst}
-use mathlib.Core.Bool.{Bool, true, false, cond, not}
+use mathlib.Core.Path.{_≡_, refl, sym, ap, _∙_, subst}
+use mathlib.Core.Bool.{Bool, true, false, cond}
 use mathlib.Core.Logic.{_⊎_, inl, inr, ⊎-elim}
-use mathlib.Core.List.{List, [], _∷_, _++_}
+use mathlib.Core.List.{List, [], _∷_}
 use lib.ListN.{length, replicate, length-replicate}
 use lib.Dec.{ltb, eqb}
 use borrow.Author.Tests.{eqb-true, ltb-false, ltb-true, ne-eqb}
 use Rattle.number.specs.laws.Boolean.{clash}
 use Rattle.refusal.specs.Outcome.{Outcome, result, refused, Line, line, judged, NoneMeets}
-use Rattle.recording.specs.Recording.{flat, mostRecords}
-use Rattle.recording.specs.Output.{outputLine}
+use Rattle.recording.specs.Recording.{mostRecords}
 use Rattle.recording.specs.laws.Outcome.{judged-first, result-none}
 use Rattle.copying.specs.Put.{put}
 use Rattle.number.specs.Words.{word}
-use Rattle.marks.specs.Marks.{marksOf, marksLine}
+use Rattle.marks.specs.Marks.{marksLine}
 use Rattle.live_state.specs.State.{signature, liveBytes, runAt, runBytes, readCount, heldIn, badMarksIn, noState, runStands}
 use Rattle.live_state.specs.laws.State.{no-state-by}
 use Rattle.live.specs.History.{History, begun, Step, add, save, restore, outcome, taken, goesOn, after, told, answer, stepLines, badName, keptRun, readOut}
 use Rattle.live.specs.Call.{holding, keptWith, heldOf, stepOf, stateAfter, startAfter}
 use Rattle.live.specs.laws.Step.{add-by, save-by, restore-by, start-by, held-by}
 use Rattle.refinement.specs.laws.Represents.{Represents, Follows}
-use Rattle.refinement.specs.laws.Alike.{BothTaken, BothRefused, Alike, judged-alike}
+use Rattle.refinement.specs.laws.Alike.{judged-alike}
 use Rattle.refinement.specs.laws.State.{a-state, the-held}
 use Rattle.refinement.specs.laws.Add.{grownLines, partial-state, partial-history, state-lines, history-lines, grown-represents}
 use Rattle.refinement.specs.laws.Moments.{nameLines, backLines, save-lines, save-history, saved-represents, restore-lines, restore-history, restored-represents}

@@ -1,24 +1,21 @@
 -- Moments: the state answers as the history does when one is set and when the run goes back to it, and follows it.
-use Prim.Native.Nat.{ℕ, _+_, _*_, _≤_}
+use Prim.Native.Nat.{ℕ, _≤_}
 use native.Mathlib.Omega.{arith}
-use mathlib.Core.Path.{_≡_, refl, sym, ap, ap₂, _∙_, subst}
+use mathlib.Core.Path.{_≡_, refl, sym, ap, _∙_, subst}
 use mathlib.Core.Bool.{Bool, true, false, cond, not, _||_}
-use mathlib.Core.Logic.{_⊎_, inl, inr, ⊎-elim}
-use mathlib.Core.List.{List, [], _∷_, _++_}
-use lib.ListN.{length}
-use lib.Dec.{ltb, eqb}
+use mathlib.Core.List.{List, [], _∷_}
+use lib.Dec.{eqb}
 use borrow.Author.Tests.{eqb-true, eqb-false, not-false}
 use Rattle.number.specs.laws.Boolean.{none-left, none-right, clash}
-use Rattle.refusal.specs.Outcome.{Outcome, result, refused, Line, line, judged, NoneMeets}
-use Rattle.recording.specs.Recording.{Raw}
-use Rattle.marks.specs.Marks.{marksOf, marksLine}
+use Rattle.refusal.specs.Outcome.{result, refused, Line, line, judged, NoneMeets}
+use Rattle.marks.specs.Marks.{marksOf}
 use Rattle.copying.specs.Put.{put}
 use Rattle.live_state.specs.Limits.{mostMoments}
 use Rattle.live_state.specs.State.{runAt, runBytes, runStands}
-use Rattle.live.specs.History.{History, Moment, unset, set, isSet, backTo, Step, save, restore, outcome, taken, named, badName}
+use Rattle.live.specs.History.{History, Moment, unset, set, isSet, backTo, save, restore, outcome, taken, named, badName}
 use Rattle.live.specs.Call.{saveOf, restoreOf}
 use Rattle.live.specs.laws.Step.{save-by, restore-by, good-name}
-use Rattle.refinement.specs.laws.Represents.{Has, runOf, momentOf, Taken, TakenAt, Represents}
+use Rattle.refinement.specs.laws.Represents.{Has, runOf, momentOf, TakenAt, Represents}
 use Rattle.refinement.specs.laws.State.{run-read, moment-read, the-run, a-state}
 use Rattle.refinement.specs.laws.Placed.{placed-long, placed-signed, placed-marked, placed-run, placed-other, run-fits, moment-fits}
 

@@ -1,9 +1,9 @@
 -- A run put into its place of a state leaves all else.
-use Prim.Native.Nat.{ℕ, zero, suc, _+_, _*_, _≤_, _<_}
+use Prim.Native.Nat.{ℕ, _+_, _≤_}
 use native.Mathlib.Omega.{arith}
-use mathlib.Core.Path.{_≡_, refl, sym, ap, _∙_, subst}
+use mathlib.Core.Path.{_≡_}
 use mathlib.Core.Logic.{_⊎_, inl, inr, ⊎-elim}
-use mathlib.Core.List.{List, [], _∷_, _++_}
+use mathlib.Core.List.{List, _++_}
 use lib.ListN.{length}
 use Rattle.number.specs.Words.{wordBytes}
 use Rattle.number.specs.laws.Order.{less-or-not}
@@ -12,9 +12,9 @@ use Rattle.marks.specs.Marks.{marksOf}
 use Rattle.copying.specs.Put.{put}
 use Rattle.copying.specs.laws.Put.{length-put}
 use Rattle.live_state.specs.Limits.{mostMoments}
-use Rattle.live_state.specs.State.{signature, liveBytes, runAt, headOf, noRun}
+use Rattle.live_state.specs.State.{signature, liveBytes, runAt}
 use Rattle.live_state.specs.laws.State.{fine-length}
-use Rattle.live.specs.History.{History, Moment, unset, set, named, keptOf}
+use Rattle.live.specs.History.{History, Moment, unset, set}
 use Rattle.refinement.specs.laws.Represents.{Has, runOf, momentOf, Taken, TakenAt, Represents}
 use Rattle.refinement.specs.laws.Parts.{has-put, has-apart}
 use Rattle.refinement.specs.laws.Run.{run-length}

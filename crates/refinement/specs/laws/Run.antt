@@ -1,24 +1,23 @@
 -- A run with one reading more, judged by the kept readings of the run alone.
-use Prim.Native.Nat.{ℕ, zero, suc, _+_, _*_, _/_, _%_, _≤_, _<_}
+use Prim.Native.Nat.{ℕ, zero, suc, _+_, _*_, _/_, _≤_, _<_}
 use native.Mathlib.Omega.{arith}
-use native.Mathlib.Nat.{not-suc-le-zero}
 use mathlib.Core.Path.{_≡_, refl, sym, ap, ap₂, _∙_, subst}
 use mathlib.Core.Bool.{Bool, true, false, _&&_}
 use mathlib.Core.Logic.{⊎-elim}
-use mathlib.Core.List.{List, [], _∷_, _++_, append-nil, append-assoc}
+use mathlib.Core.List.{List, [], _∷_, _++_, append-nil}
 use lib.ListN.{length, getD, length-append, List·getD-append}
-use lib.Seq.{getD-append-seam, take-all}
+use lib.Seq.{getD-append-seam}
 use lib.Dec.{leb, ltb, leb·zero}
 use borrow.Author.Tests.{le-ltb, leb-true}
 use Rattle.number.specs.Words.{word}
 use Rattle.number.specs.laws.Boolean.{and-left, and-right, clash}
 use Rattle.number.specs.laws.Order.{less-or-not}
 use Rattle.recording.specs.Condition.{Condition, pick, on}
-use Rattle.recording.specs.Recording.{Raw, records, flat, reading, fields, later, lawful, firstBad, mostRecords}
+use Rattle.recording.specs.Recording.{Raw, records, flat, reading, fields, lawful, firstBad, mostRecords}
 use Rattle.recording.specs.laws.Record.{Sixteens, sixteens-pick, length-flat, flat-append, records-flat, records-append}
-use Rattle.recording.specs.laws.Acceptance.{Good, AllLawful, good-lawful, good-join, next, first-bad}
+use Rattle.recording.specs.laws.Acceptance.{Good, good-lawful, good-join, next, first-bad}
 use Rattle.kept.specs.Kept.{keptFor}
-use Rattle.kept.specs.Selection.{flags, select}
+use Rattle.kept.specs.Selection.{flags}
 use Rattle.kept.specs.laws.Stability.{pick-flags}
 use Rattle.kept.specs.laws.On.{on-last-below}
 use Rattle.kept.specs.laws.Kept.{last-kept}

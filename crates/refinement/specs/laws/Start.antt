@@ -1,16 +1,16 @@
 -- A start: the state of an empty run, or no state.
-use Prim.Native.Nat.{ℕ, zero, suc, _+_, _*_, _≤_, _<_}
+use Prim.Native.Nat.{ℕ, zero, suc, _+_, _≤_}
 use native.Mathlib.Omega.{arith}
 use native.Mathlib.Nat.{not-suc-le-zero}
 use mathlib.Core.Path.{_≡_, refl, sym, ap, _∙_, subst}
 use mathlib.Core.Bool.{true, false}
-use mathlib.Core.Logic.{_⊎_, inl, inr, ⊎-elim}
-use mathlib.Core.List.{List, [], _∷_, _++_}
+use mathlib.Core.Logic.{_⊎_, inl, ⊎-elim}
+use mathlib.Core.List.{List, _++_}
 use lib.ListN.{length}
 use borrow.Author.Tests.{ne-eqb, le-ltb}
 use Rattle.number.specs.Words.{word, wordBytes}
 use Rattle.number.specs.laws.Order.{less-or-not}
-use Rattle.marks.specs.Marks.{marksOf, marksLine, AcceptedMarks}
+use Rattle.marks.specs.Marks.{AcceptedMarks}
 use Rattle.copying.specs.Put.{put}
 use Rattle.copying.specs.laws.Put.{length-put, put-put, word-part}
 use Rattle.live_state.specs.Limits.{mostMoments}

@@ -1,22 +1,22 @@
 -- The state of a history is a state, and says what the history does.
-use Prim.Native.Nat.{ℕ, _+_, _*_, _≤_, _<_}
+use Prim.Native.Nat.{ℕ, _+_, _*_}
 use native.Mathlib.Omega.{arith}
-use mathlib.Core.Path.{_≡_, refl, sym, ap, ap₂, _∙_, subst}
-use mathlib.Core.Bool.{Bool, true, false, _&&_, _||_, not}
-use mathlib.Core.List.{List, [], _∷_, _++_}
+use mathlib.Core.Path.{_≡_, sym, ap, ap₂, _∙_}
+use mathlib.Core.Bool.{Bool, true, false, _&&_}
+use mathlib.Core.List.{List, []}
 use lib.ListN.{length}
 use lib.Dec.{leb}
 use borrow.Author.Tests.{le-leb, lt-leb, le-ltb, eq-eqb}
-use Rattle.number.specs.Words.{word, wordBytes}
+use Rattle.number.specs.Words.{word}
 use Rattle.recording.specs.Recording.{Raw, flat, mostRecords}
 use Rattle.recording.specs.laws.Record.{length-flat}
 use Rattle.marks.specs.Marks.{marksOf, marksLine}
 use Rattle.thin.specs.Thin.{keptBytes}
 use Rattle.copying.specs.Put.{part}
-use Rattle.live_state.specs.Limits.{mostHeld, mostMoments}
-use Rattle.live_state.specs.State.{signature, liveBytes, runAt, headOf, noRun, marksIn, readCount, heldCount, heldIn, runBytes, runStands, badMarksIn, noState}
-use Rattle.live_state.specs.laws.State.{IsState, is-state, fine-length, bad-marks-by, no-state-by}
-use Rattle.live.specs.History.{History, Moment, unset, set, isSet, named, keptOf}
+use Rattle.live_state.specs.Limits.{mostHeld}
+use Rattle.live_state.specs.State.{signature, liveBytes, runAt, noRun, marksIn, readCount, heldCount, heldIn, runBytes, runStands, noState}
+use Rattle.live_state.specs.laws.State.{fine-length, bad-marks-by, no-state-by}
+use Rattle.live.specs.History.{History, Moment, unset, set, isSet, keptOf}
 use Rattle.refinement.specs.laws.Represents.{Has, runOf, momentOf, Taken, TakenAt, Represents}
 use Rattle.refinement.specs.laws.Parts.{TwoWords, two-words, head-words, behind-head}
 use Rattle.refinement.specs.laws.Run.{kept-sixteen, kept-flat, run-length}
