@@ -3,13 +3,13 @@
 use Prim.Native.Nat.{ℕ, _*_, _≤_, _<_}
 use mathlib.Core.Path.{_≡_}
 use mathlib.Core.Bool.{true}
-use mathlib.Core.List.{List, [], _∷_, _++_}
+use mathlib.Core.List.{List, [], _∷_, _++_, List·Memᴰ}
 use lib.ListN.{length, take}
 use Rattle.number.specs.Words.{word}
 use Rattle.refusal.specs.Outcome.{Outcome, refused}
 use Rattle.recording.specs.Recording.{flat, Accepted}
 use Rattle.recording.specs.Output.{counted, outputAfter}
-use Rattle.marks.specs.Marks.{marksOf, AcceptedMarks}
+use Rattle.marks.specs.Marks.{marksOf, marksLine, AcceptedMarks}
 use Rattle.thin.specs.Thin.{keptBytes}
 use Rattle.reply.specs.Reply.{numberIn, lowIn, unpacked}
 use Rattle.live_state.specs.Limits.{mostHeld}
@@ -129,9 +129,12 @@ pub record LiveDemand1 : Type 0 where
   pub behind : (live : List ℕ) (s : Step) (y : LiveReturned) → StepMade live s y → Behind live (y .left)
   pub no-states : NoStates
 
--- PAPER 11: of every start, whatever the marks, that is not refused for a buffer that is too short, and every list of calls after it
+-- PAPER 11: of every start, whatever the marks, that is not refused for a buffer that is too short, and every list of calls after it. "a run so refused answers 11
+-- to every step"
 pub record LiveRuns : Type 0 where
   pub one : LiveDemand1
   pub every-run : {marks buffer live : List ℕ} {r : ℕ} → LiveStartCall marks buffer r live → ¬ (numberIn r ≡ 10) → (cs : List LiveCall) (ys : List LiveReturned)
       → LiveCallsMade live cs ys → AsTheHistory (begun marks) live cs ys
   pub held-like-run : (marks : List ℕ) → AcceptedMarks marks → (cs : List LiveCall) → HeldLikeRun (historyAfter (begun marks) cs)
+  pub bad-marks : {marks buffer live : List ℕ} {r : ℕ} → LiveStartCall marks buffer r live → marksLine marks .meets ≡ true
+      → (unpacked r ≡ refused 11 0) × ((cs : List LiveCall) (ys : List LiveReturned) → LiveCallsMade live cs ys → (y : LiveReturned) → List·Memᴰ y ys → unpacked (y .returned) ≡ refused 11 0)

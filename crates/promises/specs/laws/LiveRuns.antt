@@ -4,7 +4,7 @@ use native.Mathlib.Omega.{arith}
 use mathlib.Core.Path.{_≡_, refl, sym, ap, subst, _∙_}
 use mathlib.Core.Bool.{Bool, true, false, cond}
 use mathlib.Core.Logic.{_⊎_, inl, inr, ⊎-elim}
-use mathlib.Core.List.{List, [], _∷_, _++_}
+use mathlib.Core.List.{List, [], _∷_, _++_, List·Memᴰ, List·Memᴰ·not-nil, List·Memᴰ·cases-cons}
 use lib.Dec.{ltb}
 use lib.ListN.{length, take}
 use borrow.Author.Tests.{ltb-false, le-ltb, lt-ltb}
@@ -235,6 +235,28 @@ calls-exist live (read out ∷ cs) =
     let r = calls-exist live cs in
     (y ∷ r .0, (record { returned = refl; output = refl }, r .1))
 
+-- ---- no state
+
+-- bytes that are no state stay, and every call answers 11
+none-from : (live : List ℕ) → noState live ≡ true → (cs : List LiveCall) (ys : List LiveReturned) → LiveCallsMade live cs ys
+    → (y : LiveReturned) → List·Memᴰ y ys → unpacked (y .returned) ≡ refused 11 0
+none-from live none [] [] m y i = absurd (List·Memᴰ·not-nil i)
+none-from live none [] (x ∷ ys) m y i = absurd m
+none-from live none (c ∷ cs) [] m y i = absurd m
+none-from live none (c ∷ cs) (x ∷ ys) m y i =
+    ⊎-elim (λ (e : y ≡ x). ap (λ (w : LiveReturned). unpacked (w .returned)) e ∙ eleven live none c x (m .0))
+    (λ j. none-from live none cs ys (subst (λ (l : List ℕ). LiveCallsMade l cs ys) (stays c x (m .0)) (m .1)) y j) (List·Memᴰ·cases-cons i)
+  where
+    stays : (c : LiveCall) (x : LiveReturned) → LiveMade live c x → liveNext live c x ≡ live
+    stays (step s) x m = step-told live s x m .state ∙ ap (λ (o : Outcome (List ℕ)). stateAfter o live) (none-answers live none s)
+    stays (read out) x m = refl
+
+bad-start : (marks buffer live : List ℕ) (r : ℕ) → LiveStartCall marks buffer r live → marksLine marks .meets ≡ true → (unpacked r ≡ refused 11 0) × (noState live ≡ true)
+bad-start marks buffer live r w bad = (
+  start-once marks buffer live r w .answer ∙ ap told (start-by buffer marks true (ltb (length buffer) liveBytes) bad refl .0),
+  ⊎-elim (λ p. absurd (clash bad (p .fine .0))) (λ b. b .1) (subst (Follows (begun marks)) (sym (w .state)) (start-followed marks buffer (inr bad))),
+)
+
 -- PAPER 11
 pub live-runs : LiveRuns
 live-runs =
@@ -243,6 +265,9 @@ live-runs =
       every-run = λ {marks} {buffer} {live} {r} w k cs ys m.
           from-state (begun marks) live (subst (Follows (begun marks)) (sym (w .state)) (start-followed marks buffer (not-ten marks buffer live r w k))) cs ys m;
       held-like-run = λ marks fine cs. reached marks fine cs;
+      bad-marks = λ {marks} {buffer} {live} {r} w bad.
+          let b = bad-start marks buffer live r w bad in
+          (b .0, none-from live (b .1));
     }
   where
     reached : (marks : List ℕ) → AcceptedMarks marks → (cs : List LiveCall) → HeldLikeRun (historyAfter (begun marks) cs)
