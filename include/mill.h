@@ -1,7 +1,7 @@
 /*
 ** mill.h: questions about recordings of bead mills, and their thinning.
 **
-** Eleven calls on plain bytes. Each answers with its result or with one numbered
+** Sixteen calls on plain bytes. Each answers with its result or with one numbered
 ** refusal, for every input that can be handed in; a caller needs to test
 ** nothing first. A call reads only the bytes that it is given, keeps nothing
 ** from one call to the next (what must last lies in the caller's memory: CARRIED,
@@ -76,15 +76,16 @@
 ** promised. While a call runs, no other thread may write an input or touch an
 ** output.
 **
-** CARRIED. A report under way is MILL_REPORT_BYTES bytes of the caller's, which each
-** call takes as the last call left them. They are no output: where a refusal must be
-** remembered, they change with it, and with nothing else of the caller's memory.
-** Which refusals do is said at the calls; all others leave every byte. Bytes behind
-** MILL_REPORT_BYTES stay as they were. A copy of the bytes, at whatever place, goes on
-** as the original would. They need no setting up before mill_report_start, and no
-** freeing. Bytes that are too few, all zero or all 255 hold no report. Other bytes that
-** no call left there do no harm: a call answers with a result or a refusal of its
-** list, and touches nothing else. They must not overlap an input or an output.
+** CARRIED. A report under way is MILL_REPORT_BYTES bytes of the caller's, a growing
+** run MILL_LIVE_BYTES, which each call takes as the last call left them. They are no
+** output: where a refusal must be remembered, they change with it, and with nothing
+** else of the caller's memory. Which refusals do is said at the calls; all others
+** leave every byte. Bytes behind as many stay as they were. A copy of the bytes, at
+** whatever place, goes on as the original would. They need no setting up before
+** mill_report_start and mill_live_start, and no freeing. Bytes that are too few, all
+** zero or all 255 hold no report and no run. Other bytes that no call left there do
+** no harm: a call answers with a result or a refusal of its list, and touches nothing
+** else. They must not overlap an input or an output.
 **
 ** A null pointer with length 0 serves as an empty input or an empty output.
 ** This is tested, and it is not part of what is proved. distance, degree,
@@ -119,6 +120,8 @@ extern "C" {
 #define MILL_LINE_BYTES 2
 #define MILL_SET_BYTES 2048 /* MILL_MAX_RUNS runs: always room enough */
 #define MILL_REPORT_BYTES 320 /* a report under way */
+#define MILL_LIVE_BYTES 18624 /* a growing run with its moments */
+#define MILL_HELD_BYTES 2048 /* MILL_MAX_HELD readings: always room enough for what a run holds */
 
 /* Limits. */
 #define MILL_MAX_RECORDS 4096        /* records of a recording */
@@ -136,6 +139,8 @@ extern "C" {
 #define MILL_MAX_BAND 1000000        /* e of mill_band */
 #define MILL_MAX_LINES 32            /* lines of an order sheet */
 #define MILL_MAX_BATCHES 1000        /* recordings of a report */
+#define MILL_MAX_HELD 128            /* kept readings of a growing run */
+#define MILL_MAX_MOMENTS 8           /* moments of a growing run, named 1 to this */
 
 /*
 ** Bytes of stack with which each call does. Measured on x86-64 with the deepest
@@ -155,6 +160,11 @@ extern "C" {
 #define MILL_STACK_LAB_PAIR 4096
 #define MILL_STACK_REPORT_START 131072
 #define MILL_STACK_REPORT_ADD 196608
+#define MILL_STACK_LIVE_START 4096
+#define MILL_STACK_LIVE_ADD 16384
+#define MILL_STACK_LIVE_SAVE 4096
+#define MILL_STACK_LIVE_RESTORE 4096
+#define MILL_STACK_LIVE_KEPT 4096
 
 /* Slopes of a record. */
 #define MILL_FALLING 0
@@ -183,13 +193,15 @@ extern "C" {
 #define MILL_TOO_MANY_RUNS 8    /* some node's set at some record has over MILL_MAX_RUNS runs; without F, G, X, U, W: at the first */
 #define MILL_TOO_MANY_TOPS 9    /* gaps, steps, lag or a pair of a curve with over MILL_MAX_TOPS tops */
 #define MILL_SHORT_OUTPUT 10    /* the output is shorter than the result */
-#define MILL_BAD_MARKS 11       /* the marks are not 4 bytes each, over MILL_MAX_MARKS, or over MILL_MAX_MARK */
+#define MILL_BAD_MARKS 11       /* the marks are not 4 bytes each, over MILL_MAX_MARKS, or over MILL_MAX_MARK; or there is no run */
 #define MILL_BAD_TARGET 12      /* the target is off the axis, or the curve number is not 0 or 1 */
 #define MILL_BAD_SHEET 13       /* the order sheet has an odd length, over MILL_MAX_LINES lines, or a number not 1 to MILL_MAX_PIGMENT */
 #define MILL_NOT_FOR_LABORATORY 14 /* the laboratory may not ask it: see mill_lab_question */
 #define MILL_NO_REPORT 15       /* the named count is not 1 to MILL_MAX_BATCHES; or no report is under way */
 #define MILL_BAD_BAND 16        /* e is not 0 to MILL_MAX_BAND */
 #define MILL_NOT_BAND_QUESTION 17 /* the text is not one of high, low, lowafter, capafter and ampl alone */
+#define MILL_NO_MOMENT 18       /* the name of a moment is not 1 to MILL_MAX_MOMENTS, or it is not set and is gone back to */
+#define MILL_RUN_FULL 19        /* the run with this reading would hold over MILL_MAX_HELD kept readings */
 
 /*
 ** The set of all numbers that make the text true of the recording.
@@ -541,6 +553,85 @@ uint64_t mill_report_start(uint32_t count, const uint8_t *text, size_t text_len,
 #define MILL_REPORT_NO_MEAN 2 /* the report of batches that all had an empty set: the first three are written */
 uint64_t mill_report_add(uint8_t *report, size_t report_len, const uint8_t *recording, size_t recording_len, uint32_t *met,
                          uint32_t *empty, uint64_t *distances, double *mean);
+
+/*
+** Begins a growing run under these marks, which are as for mill_thin.
+**
+** A run has no reading at first. Readings come to it one by one; after each it holds
+** the kept readings of the run so far, at most MILL_MAX_HELD. Up to MILL_MAX_MOMENTS
+** moments can be set, and the run can go back to each.
+**
+** live is what is carried from call to call (CARRIED, above). Whatever it held is
+** ended. Marks that are refused leave a run that answers MILL_BAD_MARKS to every step,
+** as does a buffer that holds no run; MILL_SHORT_OUTPUT is given where live_len is under
+** MILL_LIVE_BYTES, and so short a buffer is never written. Returns 0.
+**
+** Refusals, in order: 11, 10.
+*/
+uint64_t mill_live_start(const uint8_t *marks, size_t marks_len, uint8_t *live, size_t live_len);
+
+/*
+** Adds a reading, MILL_RECORD_BYTES bytes, to a run of up to MILL_MAX_RECORDS. Returns 0.
+**
+** MILL_PARTIAL_RECORD is given where reading_len is another, MILL_TOO_MANY_RECORDS for
+** one reading too many, and MILL_BAD_RECORD where the reading breaks its rules or its
+** time is not after that of the run's last; its place is then the index of the reading
+** in the run, not among the kept. MILL_RUN_FULL is judged of the run with the reading, in
+** which the former last reading may be kept no more. A refused reading changes nothing.
+** How long a step takes does not depend on how long the run is.
+**
+** Refusals, in order: 11, 1, 2, 3, 19.
+*/
+uint64_t mill_live_add(uint8_t *live, size_t live_len, const uint8_t *reading, size_t reading_len);
+
+/*
+** Sets the moment of this name, 1 to MILL_MAX_MOMENTS, or sets it again: the run as it
+** now is, without readings too. Returns 0. A refused step changes nothing.
+**
+** Refusals, in order: 11, 18.
+*/
+uint64_t mill_live_save(uint8_t *live, size_t live_len, uint32_t name);
+
+/*
+** Goes back to the moment of this name: the run is again what it was then, with its
+** count of readings, and goes on from there. Readings that came since are no part of it:
+** a later one may have a time that one of them had. All moments stay set as they were,
+** this one and those that were set later too. Returns 0. A refused step changes nothing.
+**
+** Refusals, in order: 11, 18.
+*/
+uint64_t mill_live_restore(uint8_t *live, size_t live_len, uint32_t name);
+
+/*
+** Reads out the kept readings of a run so far: writes them into out and returns how many
+** bytes they are, at most MILL_HELD_BYTES. The run is only read.
+**
+** They are what mill_thin gives of all the readings of the run under its marks. So they
+** answer as those do, and go on being thinned with further readings behind them.
+**
+** A moment is set after the fourth reading; in the end the run goes back to it:
+**
+**     static uint8_t live[MILL_LIVE_BYTES];
+**     uint8_t kept[MILL_HELD_BYTES];
+**     size_t at, left;
+**     uint64_t r = mill_live_start(marks, marks_len, live, sizeof live);
+**     for (at = 0; at < recording_len && MILL_NUMBER(r) == 0; at += MILL_RECORD_BYTES) {
+**         left = recording_len - at;
+**         r = mill_live_add(live, sizeof live, recording + at, left < MILL_RECORD_BYTES ? left : MILL_RECORD_BYTES);
+**         if (at == 3 * MILL_RECORD_BYTES && MILL_NUMBER(r) == 0)
+**             r = mill_live_save(live, sizeof live, 1);
+**     }
+**     if (MILL_NUMBER(r) == 0)
+**         r = mill_live_restore(live, sizeof live, 1);
+**     if (MILL_NUMBER(r) == 0)
+**         r = mill_live_kept(live, sizeof live, kept, sizeof kept);
+**     if (MILL_NUMBER(r) != 0)
+**         return report(MILL_NUMBER(r), MILL_PLACE(r));
+**     printf("%lu readings held\n", (unsigned long)(r / MILL_RECORD_BYTES));
+**
+** Refusals, in order: 11, 10.
+*/
+uint64_t mill_live_kept(const uint8_t *live, size_t live_len, uint8_t *out, size_t out_len);
 
 #ifdef __cplusplus
 }

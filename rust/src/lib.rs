@@ -3,6 +3,8 @@
 //! A recording goes in as bytes, 16 to a reading ([`Reading::to_bytes`] makes them). Every call answers with a result or with
 //! one numbered [`Refusal`], for any bytes.
 
+#[cfg(feature = "library")]
+mod live;
 #[doc(hidden)]
 pub mod plain;
 #[doc(hidden)]
@@ -146,6 +148,10 @@ pub enum Refusal {
     BadBand,
     /// 17: the text is not one of `high`, `low`, `lowafter`, `capafter` and `ampl` alone.
     NotBandQuestion,
+    /// 18: the name of a moment is not 1 to 8, or no such moment is set to go back to.
+    NoMoment,
+    /// 19: the run with this reading would hold over 128 kept readings.
+    RunFull,
 }
 
 impl Refusal {
@@ -169,6 +175,8 @@ impl Refusal {
             Refusal::NoReport => sys::MILL_NO_REPORT,
             Refusal::BadBand => sys::MILL_BAD_BAND,
             Refusal::NotBandQuestion => sys::MILL_NOT_BAND_QUESTION,
+            Refusal::NoMoment => sys::MILL_NO_MOMENT,
+            Refusal::RunFull => sys::MILL_RUN_FULL,
         }
     }
 
@@ -201,6 +209,8 @@ impl Refusal {
             sys::MILL_NO_REPORT => Refusal::NoReport,
             sys::MILL_BAD_BAND => Refusal::BadBand,
             sys::MILL_NOT_BAND_QUESTION => Refusal::NotBandQuestion,
+            sys::MILL_NO_MOMENT => Refusal::NoMoment,
+            sys::MILL_RUN_FULL => Refusal::RunFull,
             number => unreachable!("the library gives no refusal {number}"),
         };
         Some(refusal)
@@ -398,5 +408,7 @@ mod calls {
 pub use calls::{
     band, degree, lab_degree, lab_pair, lab_question, lab_question_into, order, pair, question, question_into, thin, thin_into,
 };
+#[cfg(feature = "library")]
+pub use live::Live;
 #[cfg(feature = "library")]
 pub use report::{Added, Figures, Report};

@@ -13,6 +13,10 @@ pub const MILL_LINE_BYTES: usize = 2;
 pub const MILL_SET_BYTES: usize = 2048;
 /// A report under way, as its calls carry it.
 pub const MILL_REPORT_BYTES: usize = 320;
+/// A growing run with its moments, as its calls carry it.
+pub const MILL_LIVE_BYTES: usize = 18_624;
+/// Room for every list of readings that a growing run holds.
+pub const MILL_HELD_BYTES: usize = 2048;
 
 pub const MILL_MAX_RECORDS: usize = 4096;
 pub const MILL_MAX_TIME: u32 = 2_000_000_000;
@@ -30,6 +34,8 @@ pub const MILL_MAX_MARK: u32 = 2_000_000_000;
 pub const MILL_MAX_BAND: i64 = 1_000_000;
 pub const MILL_MAX_LINES: usize = 32;
 pub const MILL_MAX_BATCHES: u32 = 1_000;
+pub const MILL_MAX_HELD: usize = 128;
+pub const MILL_MAX_MOMENTS: u32 = 8;
 
 /// Bytes of stack with which each call does.
 pub const MILL_STACK_QUESTION: usize = 196_608;
@@ -43,6 +49,11 @@ pub const MILL_STACK_LAB_DEGREE: usize = 196_608;
 pub const MILL_STACK_LAB_PAIR: usize = 4_096;
 pub const MILL_STACK_REPORT_START: usize = 131_072;
 pub const MILL_STACK_REPORT_ADD: usize = 196_608;
+pub const MILL_STACK_LIVE_START: usize = 4_096;
+pub const MILL_STACK_LIVE_ADD: usize = 16_384;
+pub const MILL_STACK_LIVE_SAVE: usize = 4_096;
+pub const MILL_STACK_LIVE_RESTORE: usize = 4_096;
+pub const MILL_STACK_LIVE_KEPT: usize = 4_096;
 
 pub const MILL_FALLING: u8 = 0;
 pub const MILL_FLAT: u8 = 1;
@@ -85,6 +96,8 @@ pub const MILL_NOT_FOR_LABORATORY: u32 = 14;
 pub const MILL_NO_REPORT: u32 = 15;
 pub const MILL_BAD_BAND: u32 = 16;
 pub const MILL_NOT_BAND_QUESTION: u32 = 17;
+pub const MILL_NO_MOMENT: u32 = 18;
+pub const MILL_RUN_FULL: u32 = 19;
 
 /// The number of the refusal in a return value, 0 for a result.
 pub const fn mill_number(returned: u64) -> u32 {
@@ -207,4 +220,14 @@ extern "C" {
         distances: *mut u64,
         mean: *mut f64,
     ) -> u64;
+
+    pub fn mill_live_start(marks: *const u8, marks_len: usize, live: *mut u8, live_len: usize) -> u64;
+
+    pub fn mill_live_add(live: *mut u8, live_len: usize, reading: *const u8, reading_len: usize) -> u64;
+
+    pub fn mill_live_save(live: *mut u8, live_len: usize, name: u32) -> u64;
+
+    pub fn mill_live_restore(live: *mut u8, live_len: usize, name: u32) -> u64;
+
+    pub fn mill_live_kept(live: *const u8, live_len: usize, out: *mut u8, out_len: usize) -> u64;
 }

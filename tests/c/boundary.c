@@ -698,6 +698,88 @@ static void pins_on_r2(void)
     EXPECT(times(out, (size_t)mill_thin(held, sizeof held, NULL, 0, out, sizeof out), plain, 6));
 }
 
+static uint8_t live[MILL_LIVE_BYTES + 3], live_before[sizeof live];
+
+/* What a step returned that must be refused, and must leave the run as it was. */
+static int refused_step(uint64_t returned, uint32_t number, uint32_t place)
+{
+    return returned == ((uint64_t)number << 32 | place) && memcmp(live, live_before, sizeof live) == 0;
+}
+
+#define REFUSED_STEP(call, number, place) (memcpy(live_before, live, sizeof live), refused_step((call), (number), (place)))
+
+/* The times of the readings that the run holds. */
+static int holds(const uint32_t *expected, size_t count)
+{
+    uint8_t out[MILL_HELD_BYTES];
+    return times(out, (size_t)mill_live_kept(live, sizeof live, out, sizeof out), expected, count);
+}
+
+static void growing_runs(void)
+{
+    static const uint32_t early[] = {0, 10, 30, 40}, all[] = {0, 10, 30, 40, 60, 80}, other[] = {0, 10, 30, 40, 80};
+    uint8_t bad[MILL_RECORD_BYTES], out[MILL_RECORD_BYTES], mark[MILL_MARK_BYTES];
+    size_t i, length;
+    memset(bad, 0xFF, sizeof bad);
+    memset(out, 0x5A, sizeof out);
+    put32(mark, MILL_MAX_MARK + 1u);
+    memset(live, 0, sizeof live);
+    EXPECT(REFUSED_STEP(mill_live_add(live, sizeof live, r2, 16), MILL_BAD_MARKS, 0));
+    memset(live, 0xFF, sizeof live);
+    EXPECT(REFUSED_STEP(mill_live_save(live, sizeof live, 1), MILL_BAD_MARKS, 0));
+    for (length = 0; length < MILL_LIVE_BYTES; length += length < 64 || length >= MILL_LIVE_BYTES - 65 ? 1 : 61) {
+        EXPECT(REFUSED_STEP(mill_live_start(NULL, 0, live, length), MILL_SHORT_OUTPUT, 0));
+        EXPECT(REFUSED_STEP(mill_live_start(mark, 4, live, length), MILL_BAD_MARKS, 0));
+        EXPECT(REFUSED_STEP(mill_live_restore(live, length, 1), MILL_BAD_MARKS, 0));
+    }
+    EXPECT(mill_live_start(NULL, 0, live, sizeof live) == 0);
+    EXPECT(live[MILL_LIVE_BYTES] == 0xFF && live[MILL_LIVE_BYTES + 2] == 0xFF);
+    EXPECT(holds(NULL, 0) && mill_live_save(live, sizeof live, MILL_MAX_MOMENTS) == 0);
+    for (i = 0; i < R2_RECORDS; i++) {
+        EXPECT(REFUSED_STEP(mill_live_add(live, sizeof live, bad, sizeof bad), MILL_BAD_RECORD, (uint32_t)i));
+        EXPECT(REFUSED_STEP(mill_live_add(live, sizeof live, r2 + MILL_RECORD_BYTES * i, 15), MILL_PARTIAL_RECORD, 0));
+        EXPECT(mill_live_add(live, sizeof live, r2 + MILL_RECORD_BYTES * i, MILL_RECORD_BYTES) == 0);
+        if (i == 4)
+            EXPECT(holds(early, 4) && mill_live_save(live, sizeof live, 1) == 0);
+    }
+    EXPECT(holds(all, 6) && mill_live_save(live, sizeof live, 2) == 0);
+    EXPECT(mill_live_restore(live, sizeof live, 1) == 0 && holds(early, 4));
+    EXPECT(mill_live_add(live, sizeof live, r2 + 8 * MILL_RECORD_BYTES, MILL_RECORD_BYTES) == 0 && holds(other, 5));
+    EXPECT(REFUSED_STEP(mill_live_add(live, sizeof live, r2 + 8 * MILL_RECORD_BYTES, MILL_RECORD_BYTES), MILL_BAD_RECORD, 6));
+    EXPECT(mill_live_restore(live, sizeof live, 2) == 0 && holds(all, 6));
+    EXPECT(mill_live_restore(live, sizeof live, 1) == 0 && holds(early, 4));
+    EXPECT(REFUSED_STEP(mill_live_restore(live, sizeof live, 3), MILL_NO_MOMENT, 0));
+    EXPECT(REFUSED_STEP(mill_live_restore(live, sizeof live, 0), MILL_NO_MOMENT, 0));
+    EXPECT(REFUSED_STEP(mill_live_save(live, sizeof live, MILL_MAX_MOMENTS + 1), MILL_NO_MOMENT, 0));
+    EXPECT(REFUSED_STEP(mill_live_kept(live, sizeof live, out, sizeof out), MILL_SHORT_OUTPUT, 0) && out[0] == 0x5A);
+    EXPECT(mill_live_restore(live, sizeof live, MILL_MAX_MOMENTS) == 0 && holds(NULL, 0));
+    EXPECT(mill_live_kept(live, sizeof live, NULL, 0) == 0);
+    EXPECT(mill_live_start(mark, 4, live, sizeof live) == (uint64_t)MILL_BAD_MARKS << 32);
+    EXPECT(REFUSED_STEP(mill_live_add(live, sizeof live, r2, 15), MILL_BAD_MARKS, 0));
+    EXPECT(REFUSED_STEP(mill_live_restore(live, sizeof live, 1), MILL_BAD_MARKS, 0));
+    EXPECT(REFUSED_STEP(mill_live_kept(live, sizeof live, out, 0), MILL_BAD_MARKS, 0));
+}
+
+/* MILL_MAX_HELD additions and MILL_MAX_RECORDS calm readings, and one more of each. */
+static void full_runs(void)
+{
+    size_t i;
+    make_additions(MILL_MAX_HELD, 1);
+    EXPECT(mill_live_start(NULL, 0, live, sizeof live) == 0);
+    for (i = 0; i < MILL_MAX_HELD; i++)
+        EXPECT(mill_live_add(live, sizeof live, large + MILL_RECORD_BYTES * i, MILL_RECORD_BYTES) == 0);
+    EXPECT(REFUSED_STEP(mill_live_add(live, sizeof live, large + MILL_RECORD_BYTES * i, MILL_RECORD_BYTES), MILL_RUN_FULL, 0));
+    EXPECT(mill_live_kept(live, sizeof live, thinned, sizeof thinned) == MILL_HELD_BYTES);
+    EXPECT(memcmp(thinned, large, MILL_HELD_BYTES) == 0);
+    make_tops(0);
+    EXPECT(mill_live_start(NULL, 0, live, sizeof live) == 0);
+    for (i = 0; i < MILL_MAX_RECORDS; i++)
+        EXPECT(mill_live_add(live, sizeof live, large + MILL_RECORD_BYTES * i, MILL_RECORD_BYTES) == 0);
+    EXPECT(REFUSED_STEP(mill_live_add(live, sizeof live, large, MILL_RECORD_BYTES), MILL_TOO_MANY_RECORDS, 0));
+    EXPECT(REFUSED_STEP(mill_live_add(live, sizeof live, large, 0), MILL_PARTIAL_RECORD, 0));
+    EXPECT(mill_live_kept(live, sizeof live, thinned, sizeof thinned) == mill_thin(large, sizeof thinned, NULL, 0, thinned, 48));
+}
+
 /* Each addition is kept, without the record before it, and what is kept answers as the whole. */
 static void thinning_of_r3(void)
 {
@@ -764,6 +846,8 @@ int main(void)
     thinning_of_r1();
     thinning_of_r2();
     pins_on_r2();
+    growing_runs();
+    full_runs();
     thinning_of_r3();
     thinning_of_a_plateau();
     printf("boundary.c: %d failures\n", failures);

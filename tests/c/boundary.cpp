@@ -172,6 +172,21 @@ void thinning()
     EXPECT(MILL_NUMBER(mill_thin(r1, length, mark, 3, out, sizeof out)) == MILL_BAD_MARKS);
 }
 
+void growing_runs()
+{
+    static uint8_t live[MILL_LIVE_BYTES], copy[MILL_LIVE_BYTES];
+    uint8_t out[MILL_HELD_BYTES];
+    EXPECT(mill_live_start(NULL, 0, live, sizeof live) == 0);
+    for (std::size_t i = 0; i < records; i++)
+        EXPECT(mill_live_add(live, sizeof live, r1 + MILL_RECORD_BYTES * i, MILL_RECORD_BYTES) == 0);
+    EXPECT(mill_live_save(live, sizeof live, 3) == 0);
+    std::memcpy(copy, live, sizeof live);
+    EXPECT(mill_live_restore(copy, sizeof copy, 3) == 0);
+    EXPECT(mill_live_kept(copy, sizeof copy, out, sizeof out) == length && std::memcmp(out, r1, length) == 0);
+    EXPECT(MILL_NUMBER(mill_live_restore(live, sizeof live, 4)) == MILL_NO_MOMENT);
+    EXPECT(mill_live_add(live, sizeof live, r1, MILL_RECORD_BYTES) == (static_cast<uint64_t>(MILL_BAD_RECORD) << 32 | records));
+}
+
 }  // namespace
 
 int main()
@@ -185,6 +200,7 @@ int main()
     laboratories();
     reports();
     thinning();
+    growing_runs();
     std::printf("boundary.cpp: %d failures\n", failures);
     return failures == 0 ? 0 : 1;
 }

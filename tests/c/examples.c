@@ -61,6 +61,7 @@ void held_are(const uint8_t *held, size_t held_len)
 
 /* What is looked at where an example prints nothing itself. */
 #define AFTER_mill_thin held_are(held, held_len);
+#define AFTER_mill_live_kept held_are(kept, (size_t)r);
 
 #include "examples.h"
 

@@ -22,6 +22,7 @@ fn main() {
     bands();
     orders();
     reports();
+    live_steps();
 }
 
 fn thinning() {
@@ -216,6 +217,37 @@ fn reports() {
         let records = recording.len() / 16;
         let name = format!("a batch against its degree, {text}, {records}");
         row(&name, "taken", best(library, degree), (records == RECORDS).then_some(1.05));
+    }
+}
+
+/// A reading added to a run of so many, against one added to a run of ten, which stands in the column of plain Rust: so many kept, and as
+/// many as there is room for. Eight readings are added to a copy of the run each time, and the copy is taken off.
+fn live_steps() {
+    const ADDED: usize = 8;
+    for (kind, events, lengths) in [("calm", 0, [10, 1_000, RECORDS]), ("120 kept", 110, [130, 1_000, RECORDS])] {
+        let step = |length: usize| {
+            // Of one value, so that no longer run keeps more.
+            let mut readings = with_plateaus(RECORDS);
+            readings.iter_mut().for_each(|reading| (reading.a, reading.b) = (0, 0));
+            (0..events).for_each(|index| readings[index].pigment = 1);
+            let recording = bytes(&readings);
+            let (before, added) = recording[..16 * length].split_at(16 * (length - ADDED));
+            let mut run = mill::Live::start(&[]).expect("no marks");
+            before.chunks(16).for_each(|reading| run.add(reading).expect("a reading"));
+            let mut with = run.clone();
+            let step = || {
+                with.clone_from(&run);
+                added.chunks(16).map(|reading| with.add(black_box(reading))).all(|added| added.is_ok())
+            };
+            let mut without = run.clone();
+            let copy = || without.clone_from(black_box(&run));
+            let (with_steps, copy_alone) = best(step, copy);
+            (with_steps - copy_alone) / ADDED as f64
+        };
+        let first = step(lengths[0]);
+        for length in lengths {
+            row(&format!("a reading to a run, {kind}, {length} readings"), "added", (step(length), first), Some(1.5));
+        }
     }
 }
 

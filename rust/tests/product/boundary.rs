@@ -6,8 +6,9 @@ use crate::support::r2::r2_bytes;
 use crate::support::recordings::flat;
 use mill::reference::recording::bytes;
 use mill::sys::{
-    mill_band, mill_degree, mill_lab_degree, mill_lab_pair, mill_lab_question, mill_order, mill_pair, mill_question,
-    mill_report_add, mill_report_start, mill_thin, MILL_REPORT_BYTES,
+    mill_band, mill_degree, mill_lab_degree, mill_lab_pair, mill_lab_question, mill_live_add, mill_live_kept, mill_live_restore,
+    mill_live_save, mill_live_start, mill_order, mill_pair, mill_question, mill_report_add, mill_report_start, mill_thin,
+    MILL_LIVE_BYTES, MILL_REPORT_BYTES,
 };
 use std::ptr::{null, null_mut};
 
@@ -74,6 +75,25 @@ fn null_with_length_0_in_reports() {
         assert_eq!(mill_report_add(at, length, r1.as_ptr(), 128, &mut met, &mut empty, &mut distances, &mut mean), refusal(15));
     }
     assert_eq!((met, empty, distances, mean), (77, 78, 79, 7.5));
+}
+
+#[test]
+fn null_with_length_0_in_growing_runs() {
+    let mut live = vec![9u8; MILL_LIVE_BYTES];
+    let (at, length) = (live.as_mut_ptr(), live.len());
+    // SAFETY: each pointer lies before as many bytes as its length says; null goes with 0.
+    unsafe {
+        assert_eq!(mill_live_start(null(), 0, null_mut(), 0), refusal(10));
+        assert_eq!(mill_live_add(null_mut(), 0, null(), 0), refusal(11));
+        assert_eq!(mill_live_save(null_mut(), 0, 1), refusal(11));
+        assert_eq!(mill_live_restore(null_mut(), 0, 1), refusal(11));
+        assert_eq!(mill_live_kept(null(), 0, null_mut(), 0), refusal(11));
+        assert_eq!(mill_live_start(null(), 0, at, length), 0);
+        assert_eq!(mill_live_add(at, length, null(), 0), refusal(1));
+        assert_eq!(mill_live_kept(at, length, null_mut(), 0), 0);
+        assert_eq!(mill_live_add(at, length, r1_bytes().as_ptr(), 16), 0);
+        assert_eq!(mill_live_kept(at, length, null_mut(), 0), refusal(10));
+    }
 }
 
 #[test]
@@ -172,6 +192,18 @@ fn lengths_past_32_bits() {
             assert_eq!(mill_thin(r1.as_ptr(), 128, at, length, out.as_mut_ptr(), 64), refusal(11));
         }
         assert_eq!((earlier, later, out), (77, 78, [9; 64]));
+        // What is carried may be longer than 4 GiB, and a reading may not.
+        let mut live = vec![0; MILL_LIVE_BYTES];
+        assert_eq!(mill_live_start(at, WRAPPED + 4, live.as_mut_ptr(), live.len()), refusal(11));
+        assert_eq!(mill_live_start(null(), 0, live.as_mut_ptr(), live.len()), 0);
+        assert_eq!(mill_live_add(live.as_mut_ptr(), live.len(), at, WRAPPED + 16), refusal(1));
+        let long = Guarded::output(WRAPPED + 4096);
+        let long_at = long.place(WRAPPED + 4096, Against::Front);
+        assert_eq!(mill_live_start(null(), 0, long_at, WRAPPED + 16), 0);
+        assert_eq!(mill_live_add(long_at, WRAPPED + 16, r1.as_ptr(), 16), 0);
+        assert_eq!(mill_live_save(long_at, WRAPPED + 16, 1), 0);
+        assert_eq!(mill_live_restore(long_at, WRAPPED + 16, 1), 0);
+        assert_eq!(mill_live_kept(long_at, WRAPPED + 16, out.as_mut_ptr(), 64), 16);
         // An output of over 4 GiB is room enough.
         assert_eq!(mill_thin(r1.as_ptr(), 128, null(), 0, at, WRAPPED + 3), 128);
         assert_eq!(std::slice::from_raw_parts(at, 128), mill::thin(&r1, &[]).unwrap());

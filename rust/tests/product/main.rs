@@ -16,6 +16,7 @@ mod header;
 mod lab;
 mod laws;
 mod limits;
+mod live;
 mod order;
 mod page;
 mod pair;

@@ -9,6 +9,8 @@
 //! `distance d, degree g` or `no value`. ```` ```mill band 5 ```` asks within this band: `certain` and a set, `; possible` and a
 //! set. ```` ```mill order ```` checks order sheets, lines `a b` parted by `, `: `met`, or `line k broken at t`.
 //! ```` ```mill report 31 R1 R2 ```` puts texts and this target to these recordings: `met m, empty n, distances d, mean g`, or `no mean`.
+//! ```` ```mill live 40 ```` makes steps of a growing run with these marks, parted by `; `: times of readings, `save n` and `back n`; the
+//! answer are the times of the readings then held, `none`, or what refused a step.
 //! ```` ```mill R2 ```` to ```` ```mill R5 ````, with any of these behind it, ask R2 to R5, and
 //! ```` ```mill R4 old ```` the readings that document 01's own rule kept of R4.
 //! Blank lines, and lines that begin with `#`, say nothing. A block ```` ```ask ```` holds lines `$ echo 'text' | ask`, each with
@@ -21,7 +23,7 @@ use crate::support::r3::{self, r3_bytes};
 use crate::support::r4::{self, r4_bytes};
 use crate::support::r5::r5_bytes;
 use mill::reference::recording::{bytes, in_rules};
-use mill::{Added, Degree, Order, Refusal, Report, Run};
+use mill::{Added, Degree, Live, Order, Refusal, Report, Run};
 
 /// Of which recording.
 #[derive(Clone, Copy, PartialEq)]
@@ -48,6 +50,8 @@ enum Asked {
     Order,
     /// A target, put to these recordings.
     Report(i64, Vec<Recording>),
+    /// Steps of a growing run with these marks.
+    Live(Vec<u32>),
     AtThePrompt,
 }
 
@@ -129,6 +133,10 @@ fn block_of(name: &str) -> Result<Block, String> {
         ["degree", target] => Asked::Degree(target.parse().map_err(unread)?),
         ["band", e] => Asked::Band(e.parse().map_err(unread)?),
         ["order"] => Asked::Order,
+        ["live", marks @ ..] => {
+            let marks: Result<Vec<u32>, _> = marks.iter().map(|word| word.parse()).collect();
+            Asked::Live(marks.map_err(unread)?)
+        }
         ["report", target, of @ ..] => {
             let of: Option<Vec<Recording>> = of.iter().map(|word| recording_of(word)).collect();
             Asked::Report(target.parse().map_err(unread)?, of.ok_or(format!("recordings of '{name}'"))?)
@@ -205,9 +213,31 @@ fn answer(example: &Example) -> String {
             Order::Broken { time, line } => format!("line {line} broken at {time}"),
         }),
         Asked::Report(target, recordings) => report(text, *target, recordings),
+        Asked::Live(marks) => steps(&recording, marks, &example.text),
         Asked::AtThePrompt => return at_the_prompt(mill::question(&recording, text)),
     };
     written.unwrap_or_else(|refusal| refusal.to_string())
+}
+
+/// The times that a run holds after the steps, which the page writes.
+fn steps(recording: &[u8], marks: &[u32], steps: &str) -> Result<String, Refusal> {
+    let mut run = Live::start(marks)?;
+    for step in steps.split(';') {
+        let words: Vec<&str> = step.split_whitespace().collect();
+        let number = |word: &str| word.parse::<u32>().expect("a number");
+        match words[..] {
+            ["save", name] => run.save(number(name))?,
+            ["back", name] => run.restore(number(name))?,
+            _ => {
+                for time in words {
+                    let there = |reading: &&[u8]| reading[..4] == number(time).to_le_bytes();
+                    run.add(recording.chunks(16).find(there).expect("a reading of the recording"))?;
+                }
+            }
+        }
+    }
+    let times: Vec<String> = run.kept()?.chunks(16).map(|reading| reading[0].to_string()).collect();
+    Ok(if times.is_empty() { "none".into() } else { times.join(", ") })
 }
 
 /// The lines of a sheet as the page writes them; none of the empty text.
@@ -322,6 +352,7 @@ fn the_page_answers_as_the_library() {
         assert!(examples.iter().any(of_it), "{path} has no example of the laboratory");
     }
     assert!(examples.iter().any(|example| matches!(example.asked, Asked::Report(..))), "{path} has no example of a report");
+    assert!(examples.iter().any(|example| matches!(example.asked, Asked::Live(_))), "{path} has no example of a growing run");
     for name in names {
         assert!(examples.iter().any(|example| example.text.contains(name)), "{path} has no example with {name}");
     }
@@ -401,6 +432,10 @@ high(A) => certain Lo..85; possible Lo..94
 peaks(A) => met 0, empty 0, distances 10, mean 0.3
 lag => met 0, empty 2, distances 0, mean 1
 ```
+```mill R2 live 10
+0 10; save 1; 20; back 1 => 0, 10
+0 10; save 1; 20; back 1; 0 => refused 3 1
+```
 ```ask
 $ echo 'peaks(A)' | ask
 runs 2
@@ -415,9 +450,9 @@ refused 6 0
 ```
 ";
     let found = examples(page).unwrap();
-    assert_eq!(found.len(), 35);
+    assert_eq!(found.len(), 37);
     let wrong = wrong(&found);
-    assert_eq!(wrong.len(), 12, "{wrong:?}");
+    assert_eq!(wrong.len(), 13, "{wrong:?}");
     assert_eq!(wrong[0], "line 7: A=v|A>90 => 40, and not refused 9 9");
     assert_eq!(wrong[1], "line 22: F(T=v&A=55) => 50, and not empty");
     assert_eq!(wrong[2], "line 26: peaks(A) => distance 19, degree 0.05, and not distance 19, degree 0.06");
@@ -429,7 +464,8 @@ refused 6 0
     assert_eq!(wrong[8], "line 61: high(A) => certain Lo..85; possible Lo..95, and not certain Lo..85; possible Lo..94");
     assert_eq!(wrong[9], "line 65: 7 16, 16 7 => line 1 broken at 20, and not line 0 broken at 20");
     assert_eq!(wrong[10], "line 69: lag => met 0, empty 2, distances 0, no mean, and not met 0, empty 2, distances 0, mean 1");
-    assert_eq!(wrong[11], "line 78: lag => runs 0\n, and not runs 1\n");
+    assert_eq!(wrong[11], "line 73: 0 10; save 1; 20; back 1; 0 => refused 3 2, and not refused 3 1");
+    assert_eq!(wrong[12], "line 82: lag => runs 0\n, and not runs 1\n");
     assert!(examples("```mill\nlag\n```\n").is_err());
     assert!(examples("```mill\nlag => empty\n").is_err());
     assert!(examples("```mill keep\n```\n").is_err());
@@ -440,6 +476,7 @@ refused 6 0
     assert!(examples("```mill kept 10 lab x\n```\n").is_err());
     assert!(examples("```mill degree\n```\n").is_err());
     assert!(examples("```mill band x\n```\n").is_err());
+    assert!(examples("```mill live x\n```\n").is_err());
     assert!(examples("```mill report x R1\n```\n").is_err());
     assert!(examples("```mill report 3 R9\n```\n").is_err());
     assert!(examples("```mill order 3\n```\n").is_err());

@@ -7,8 +7,9 @@ use crate::support::small_stack::on_stack_of;
 use crate::support::{header, painted};
 use mill::reference::recording::bytes;
 use mill::sys::{
-    mill_band, mill_degree, mill_lab_degree, mill_lab_pair, mill_lab_question, mill_order, mill_pair, mill_question,
-    mill_report_add, mill_report_start, mill_thin, MILL_REPORT_BYTES,
+    mill_band, mill_degree, mill_lab_degree, mill_lab_pair, mill_lab_question, mill_live_add, mill_live_kept, mill_live_restore,
+    mill_live_save, mill_live_start, mill_order, mill_pair, mill_question, mill_report_add, mill_report_start, mill_thin,
+    MILL_REPORT_BYTES,
 };
 use std::collections::BTreeMap;
 
@@ -109,6 +110,12 @@ enum Job {
     ReportStart(String),
     /// With a report that was begun with the text; none where the text is refused.
     ReportAdd(Vec<u8>, Vec<u8>),
+    LiveStart,
+    /// With a run.
+    LiveAdd(Vec<u8>, Vec<u8>),
+    LiveSave(Vec<u8>),
+    LiveRestore(Vec<u8>),
+    LiveKept(Vec<u8>),
 }
 
 impl Job {
@@ -126,6 +133,11 @@ impl Job {
             Job::LabPair(..) => ("mill_lab_pair", header::stack("LAB_PAIR")),
             Job::ReportStart(_) => ("mill_report_start", header::stack("REPORT_START")),
             Job::ReportAdd(..) => ("mill_report_add", header::stack("REPORT_ADD")),
+            Job::LiveStart => ("mill_live_start", header::stack("LIVE_START")),
+            Job::LiveAdd(..) => ("mill_live_add", header::stack("LIVE_ADD")),
+            Job::LiveSave(_) => ("mill_live_save", header::stack("LIVE_SAVE")),
+            Job::LiveRestore(_) => ("mill_live_restore", header::stack("LIVE_RESTORE")),
+            Job::LiveKept(_) => ("mill_live_kept", header::stack("LIVE_KEPT")),
         }
     }
 }
@@ -152,6 +164,25 @@ fn jobs() -> Vec<Job> {
             jobs.push(Job::LabQuestion(recording.clone(), text.clone()));
             jobs.push(Job::LabDegree(recording.clone(), text));
         }
+        // A run of the readings so far, the next one behind it; the run is full, or has all readings.
+        let mut run = mill::Live::start(&[1, 256, 512, 768, 1_024, 1_280, 1_536, 3_840]).unwrap();
+        run.save(8).unwrap();
+        let next = recording.chunks(16).find(|reading| run.add(reading).is_err()).unwrap_or(&recording[..15]);
+        let without = Job::LiveAdd(mill::Live::start(&[]).unwrap().as_bytes().to_vec(), recording[..16].to_vec());
+        let run = run.as_bytes().to_vec();
+        let full = Job::LiveAdd(run.clone(), next.to_vec());
+        jobs.extend([
+            Job::LiveStart,
+            without,
+            full,
+            Job::LiveSave(run.clone()),
+            Job::LiveRestore(run.clone()),
+            Job::LiveKept(run),
+        ]);
+        let mut run = mill::Live::start(&[]).unwrap();
+        recording.chunks(16).take(100).for_each(|reading| run.add(reading).unwrap_or(()));
+        let next = recording.chunks(16).nth(100).unwrap_or(&recording[..16]);
+        jobs.push(Job::LiveAdd(run.as_bytes().to_vec(), next.to_vec()));
         jobs.push(Job::LabPair(recording.clone(), 16));
         jobs.push(Job::LabPair(recording.clone(), 5));
         for question in ["high(A)", "low(B)", "lowafter(A,100)", "capafter(B,100)", "ampl(A)"] {
@@ -187,6 +218,20 @@ fn run(job: &Job, out: &mut [u8]) -> u64 {
                 let (at, length) = (recording.as_ptr(), recording.len());
                 mill_band(at, length, text.as_ptr(), text.len(), 9, &mut low, &mut high, &mut lowest, &mut highest)
             }
+            Job::LiveStart => mill_live_start(MARKS.as_ptr(), MARKS.len(), out.as_mut_ptr(), out.len()),
+            Job::LiveAdd(live, reading) => {
+                out[..live.len()].copy_from_slice(live);
+                mill_live_add(out.as_mut_ptr(), out.len(), reading.as_ptr(), reading.len())
+            }
+            Job::LiveSave(live) => {
+                out[..live.len()].copy_from_slice(live);
+                mill_live_save(out.as_mut_ptr(), out.len(), 1)
+            }
+            Job::LiveRestore(live) => {
+                out[..live.len()].copy_from_slice(live);
+                mill_live_restore(out.as_mut_ptr(), out.len(), 8)
+            }
+            Job::LiveKept(live) => mill_live_kept(live.as_ptr(), live.len(), out.as_mut_ptr(), out.len()),
             Job::ReportStart(text) => mill_report_start(3, text.as_ptr(), text.len(), 7, out.as_mut_ptr(), out.len()),
             Job::ReportAdd(report, recording) => {
                 let (mut distances, mut mean) = (0, 0.0);
@@ -255,6 +300,7 @@ fn peak_of_every_call() {
 fn a_stack_that_is_too_small_is_seen() {
     const LESS: &str = "MILL_LESS_STACK";
     let (recording, lag) = (bytes(&flat(1)), "!".repeat(31) + "lag");
+    let live = mill::Live::start(&[]).unwrap().as_bytes().to_vec();
     let jobs = [
         (Job::Question(recording.clone(), "(".repeat(256)), 65_536),
         (Job::Degree(recording.clone(), "(".repeat(256)), 65_536),
@@ -267,14 +313,20 @@ fn a_stack_that_is_too_small_is_seen() {
         (Job::LabPair(recording.clone(), 16), 512),
         (Job::ReportStart("(".repeat(256)), 65_536),
         (Job::ReportAdd(mill::Report::start(2, lag.as_bytes(), 7).unwrap().as_bytes().to_vec(), recording), 65_536),
+        (Job::LiveStart, 32),
+        (Job::LiveAdd(live.clone(), flat(1)[0].bytes().to_vec()), 32),
+        (Job::LiveSave(live.clone()), 32),
+        (Job::LiveRestore(live.clone()), 32),
+        (Job::LiveKept(live), 32),
     ];
     if let Ok(which) = std::env::var(LESS) {
         let which: usize = which.parse().unwrap();
         crate::guarded::say_the_case_on_faults();
         begin("too small a stack", which as u64);
         let (job, bytes) = &jobs[which];
+        let mut room = vec![0; 65_536];
         on_stack_of(*bytes, &mut || {
-            run(job, &mut [0; 1_024]);
+            run(job, &mut room);
         });
         return;
     }

@@ -84,6 +84,9 @@ fn every_refusal() {
     let mut bad = recording.clone();
     bad[5 * 16 + 13] = 3;
     let tops = bytes(&with_tops(4096, [257, 0]));
+    let addition = Reading { time: 0, a: 0, b: 0, slope_a: Slope::Flat, slope_b: Slope::Flat, pigment: 1 };
+    let mut full = mill::Live::start(&[]).unwrap();
+    (0..128).for_each(|time| full.add(&Reading { time, ..addition }.to_bytes()).unwrap());
     let found = [
         (1, mill::thin(&recording[1..], &[]).unwrap_err()),
         (1, mill::pair(&recording[1..], Curve::A, 40).unwrap_err()),
@@ -102,6 +105,8 @@ fn every_refusal() {
         (15, mill::Report::start(1_001, b"lag", 40).unwrap_err()),
         (16, mill::band(&recording, b"high(A)", 1_000_001).unwrap_err()),
         (17, mill::band(&recording, b"peaks(A)", 0).unwrap_err()),
+        (18, mill::Live::start(&[]).unwrap().restore(1).unwrap_err()),
+        (19, full.add(&Reading { time: 128, ..addition }.to_bytes()).unwrap_err()),
     ];
     for (number, refusal) in found {
         assert_eq!(refusal.number(), number);
