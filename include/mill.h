@@ -144,10 +144,11 @@ extern "C" {
 
 /*
 ** Bytes of stack with which each call does. Measured on x86-64 with the deepest
-** inputs known, and rounded up: 170,471 for questions and degrees (31 times !
-** before lag), 1,191 for pairs, 8,311 for thinning, 103,039 for bands (256 times
-** an open bracket), 471 for order sheets. The laboratory's calls need little more
-** than those that they stand for. No proof bounds the stack.
+** inputs known, and rounded up: 170,615 for questions and degrees, a laboratory's
+** and a report's among them (31 times ! before lag), 103,119 for bands and for
+** naming a report (256 times an open bracket), 10,551 for a reading of a growing
+** run, 8,391 for thinning, 1,302 for pairs, 503 for order sheets, 103 for the other
+** calls of a growing run. No proof bounds the stack.
 */
 #define MILL_STACK_QUESTION 196608
 #define MILL_STACK_DEGREE 196608
