@@ -263,11 +263,11 @@ fn plain_is_the_same() {
 /// How a run lies to another.
 fn lie(how: usize, (l, h): Run) -> Run {
     match how {
-        0 => (h + 1, h + 4),         // touching
-        1 => (h - 1, h + 3),         // overlapping
-        2 => (l + 1, h - 1),         // nested
-        3 => (l, h),                 // equal
-        _ => (h + 2, h + 3),         // disjoint
+        0 => (h + 1, h + 4), // touching
+        1 => (h - 1, h + 3), // overlapping
+        2 => (l + 1, h - 1), // nested
+        3 => (l, h),         // equal
+        _ => (h + 2, h + 3), // disjoint
     }
 }
 
@@ -280,8 +280,10 @@ fn joining_stores_each_run_once() {
     while pairs < 1000 {
         let how = pairs % 6;
         let n = 1 + r.below(120) as i64;
-        let a: Vec<Run> = joined((0..n).map(|k| (LOW + 40 * k + r.below(9) as i64, LOW + 40 * k + 12 + r.below(9) as i64)).collect());
-        let b: Vec<Run> = if how == 5 { vec![] } else { joined(a.iter().filter(|_| r.below(4) > 0).map(|&q| lie(how, q)).collect()) };
+        let a: Vec<Run> =
+            joined((0..n).map(|k| (LOW + 40 * k + r.below(9) as i64, LOW + 40 * k + 12 + r.below(9) as i64)).collect());
+        let b: Vec<Run> =
+            if how == 5 { vec![] } else { joined(a.iter().filter(|_| r.below(4) > 0).map(|&q| lie(how, q)).collect()) };
         let (a, b) = if r.below(2) == 0 { (a, b) } else { (b, a) };
         let want = expected(Op::Or, &a, &b, &[]);
         if want.len() > MOST_RUNS || (how < 5 && (a.is_empty() || b.is_empty())) {

@@ -8,11 +8,11 @@ use crate::support::r1::r1_bytes;
 use crate::support::random::Random;
 use crate::support::recordings::{self, flat};
 use crate::support::texts;
-use mill::reference::band::{curves, told, WIDEST};
-use mill::reference::recording::{bytes, Record, MOST_VALUE};
-use mill::reference::set::{HIGH, LOW};
-use mill::reference::text::reading;
 use mill::{Band, Refusal, Run};
+use reference::band::{curves, told, WIDEST};
+use reference::recording::{bytes, Record, MOST_VALUE};
+use reference::set::{HIGH, LOW};
+use reference::text::reading;
 
 /// A question on extremes of a curve, its after-time near the recording's times, with brackets now and then.
 fn extreme(random: &mut Random, records: &[Record]) -> String {

@@ -4,12 +4,12 @@ use crate::guarded::{Against, Guarded};
 use crate::support::r1::r1_bytes;
 use crate::support::r2::r2_bytes;
 use crate::support::recordings::flat;
-use mill::reference::recording::bytes;
 use mill::sys::{
     mill_band, mill_degree, mill_lab_degree, mill_lab_pair, mill_lab_question, mill_live_add, mill_live_kept, mill_live_restore,
     mill_live_save, mill_live_start, mill_order, mill_pair, mill_question, mill_report_add, mill_report_start, mill_thin,
     MILL_LIVE_BYTES, MILL_REPORT_BYTES,
 };
+use reference::recording::bytes;
 use std::ptr::{null, null_mut};
 
 fn refusal(number: u64) -> u64 {

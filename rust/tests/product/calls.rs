@@ -3,8 +3,8 @@
 
 use crate::guarded::{Against, Guarded};
 use crate::support::{cases, compared};
-use mill::reference::{self, Degree, Refused};
 use mill::sys;
+use reference::{self, Degree, Refused};
 use std::cell::RefCell;
 use std::collections::BTreeMap;
 use std::panic::Location;

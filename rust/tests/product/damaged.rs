@@ -8,8 +8,8 @@ use crate::support::r1::r1_bytes;
 use crate::support::r2::r2_bytes;
 use crate::support::r3::r3_bytes;
 use crate::support::recordings::{self, damaged, with_tops_at};
-use mill::reference::recording::{bytes, Record};
 use mill::sys::MILL_SET_BYTES;
+use reference::recording::{bytes, Record};
 
 /// All calls; the number of the pair call's outcome.
 fn all_calls(recording: &[u8]) -> u32 {

@@ -3,7 +3,7 @@
 
 use crate::support::header;
 
-const RUST: &str = include_str!("../../src/sys.rs");
+const RUST: &str = include_str!("../../mill/src/sys.rs");
 const RATTLE: &str = include_str!("../../../crates/mill/src/lib.rt");
 
 /// A call: its name, its parameters as names and types, what it returns.

@@ -5,9 +5,9 @@ use crate::calls::{degree, Tally};
 use crate::support::cases::{begin, cases};
 use crate::support::recordings::{self, with_many_events};
 use crate::support::texts::{self, target, Kind};
-use mill::reference::recording::{bytes, Record, MOST_TIME, MOST_VALUE};
-use mill::reference::set::{HIGH, LOW};
 use mill::Degree;
+use reference::recording::{bytes, Record, MOST_TIME, MOST_VALUE};
+use reference::set::{HIGH, LOW};
 
 #[test]
 fn random_degrees() {

@@ -11,9 +11,9 @@ use crate::support::recordings::{flat, plateau, upside_down, with_additions, wit
 use crate::support::recordings::{with_slopes, with_tops, with_tops_at, with_values};
 use crate::support::slopes::{every, written, TURNS};
 use crate::support::texts::turns;
-use mill::reference::recording::{bytes, Record, FALLING, FLAT, RISING};
-use mill::reference::set::{HIGH, LOW};
 use mill::Run;
+use reference::recording::{bytes, Record, FALLING, FLAT, RISING};
+use reference::set::{HIGH, LOW};
 
 const ROOM: usize = 2048;
 

@@ -5,7 +5,7 @@ use crate::calls::{degree, pair, question, thin};
 use crate::support::cases::begin;
 use crate::support::recordings::with_slopes;
 use crate::support::slopes::every;
-use mill::reference::recording::{bytes, Record};
+use reference::recording::{bytes, Record};
 
 /// Every record with A and B out of these, and all slopes.
 fn every_record(values: &[[i64; 2]]) -> Vec<Record> {

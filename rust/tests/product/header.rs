@@ -1,8 +1,8 @@
 //! Covers: that `include/mill.h` and the declarations in Rust name the same numbers, the numbers of the scope.
 
 use crate::support::header::numbers;
-use mill::reference;
 use mill::sys::*;
+use reference;
 use std::collections::BTreeMap;
 
 #[test]

@@ -12,12 +12,12 @@ use crate::support::r5::{self, r5_bytes};
 use crate::support::random::Random;
 use crate::support::recordings::{self, flat, odd_marks, with_many_events, with_tops};
 use crate::support::texts::{self, Kind, GOOD};
-use mill::reference::kept::mark_bytes;
-use mill::reference::recording::{bytes, Record};
-use mill::reference::text::accepted;
-use mill::reference::{self};
 use mill::sys::{self, MILL_SET_BYTES};
 use mill::{Curve, Refusal, Run};
+use reference::kept::mark_bytes;
+use reference::recording::{bytes, Record};
+use reference::text::accepted;
+use reference::{self};
 
 /// What a laboratory call returned, and what it wrote.
 type Outcome = (u64, Vec<u8>);

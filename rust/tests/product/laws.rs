@@ -8,11 +8,11 @@ use crate::support::cases::{begin, cases, one_alone};
 use crate::support::random::Random;
 use crate::support::recordings::{self, with_many_events, with_many_plateaus};
 use crate::support::{sheets, texts};
-use mill::reference::kept::mark_bytes;
-use mill::reference::recording::{bytes, Record};
-use mill::reference::text::{accepted, Node};
 use mill::sys::{mill_number, mill_question, mill_thin, MILL_SET_BYTES};
 use mill::{Curve, Degree, Refusal};
+use reference::kept::mark_bytes;
+use reference::recording::{bytes, Record};
+use reference::text::{accepted, Node};
 
 /// A text without F, G, X, U and W whose after-times are among the marks.
 fn plain_text(random: &mut Random, records: &[Record], marks: &[i64], size: usize) -> String {

@@ -9,8 +9,8 @@ use crate::support::r4::{self, r4, r4_bytes};
 use crate::support::recordings::{flat, kept_of_plateau, plateau, upside_down, with_additions, with_crossings, with_dips};
 use crate::support::recordings::{with_most_tops, with_slopes, with_tops, with_tops_at, with_values};
 use crate::support::slopes::{written, KEPT_SLOPES};
-use mill::reference::recording::{bytes, FALLING, FLAT, RISING};
 use mill::{Curve, Pair, Run};
+use reference::recording::{bytes, FALLING, FLAT, RISING};
 
 #[test]
 fn two_hundred_and_fifty_six_tops_and_one_more() {

@@ -8,12 +8,12 @@ use crate::support::cases::{begin, cases, one_alone};
 use crate::support::r2::r2_bytes;
 use crate::support::random::Random;
 use crate::support::recordings::{self, damaged, flat, odd_marks, with_additions};
-use mill::reference::kept::mark_bytes;
-use mill::reference::live::{self, MOST_HELD};
-use mill::reference::recording::{bytes, in_rules, Record, FALLING, MOST_TIME, RISING};
-use mill::reference::Refused;
 use mill::sys::{self, MILL_HELD_BYTES, MILL_LIVE_BYTES};
 use mill::{Live, Refusal};
+use reference::kept::mark_bytes;
+use reference::live::{self, MOST_HELD};
+use reference::recording::{bytes, in_rules, Record, FALLING, MOST_TIME, RISING};
+use reference::Refused;
 
 /// A run as a caller holds it: the carried bytes, and the history that they stand for; none where every step is refused 11.
 #[derive(Clone)]

@@ -8,10 +8,10 @@ use crate::support::r3::r3_bytes;
 use crate::support::random::Random;
 use crate::support::recordings::{self, flat};
 use crate::support::sheets;
-use mill::reference::kept::chosen;
-use mill::reference::recording::{bytes, Record, MOST_PIGMENT};
-use mill::reference::sheet::{LINE_BYTES, MOST_LINES};
 use mill::{Order, Refusal};
+use reference::kept::chosen;
+use reference::recording::{bytes, Record, MOST_PIGMENT};
+use reference::sheet::{LINE_BYTES, MOST_LINES};
 
 /// A recording with these pigments, ten tenths of a second apart.
 fn with(pigments: &[u8]) -> Vec<Record> {

@@ -22,8 +22,8 @@ use crate::support::r2::{self, r2_bytes};
 use crate::support::r3::{self, r3_bytes};
 use crate::support::r4::{self, r4_bytes};
 use crate::support::r5::r5_bytes;
-use mill::reference::recording::{bytes, in_rules};
 use mill::{Added, Degree, Live, Order, Refusal, Report, Run};
+use reference::recording::{bytes, in_rules};
 
 /// Of which recording.
 #[derive(Clone, Copy, PartialEq)]
@@ -292,7 +292,7 @@ fn wrong(examples: &[Example]) -> Vec<String> {
 
 #[test]
 fn the_page_answers_as_the_library() {
-    let path = concat!(env!("CARGO_MANIFEST_DIR"), "/../docs/QUESTIONS.md");
+    let path = concat!(env!("CARGO_MANIFEST_DIR"), "/../../docs/QUESTIONS.md");
     let page = std::fs::read_to_string(path).unwrap_or_else(|why| panic!("{path}: {why}"));
     let examples = examples(&page).unwrap_or_else(|why| panic!("{path}: {why}"));
     let names = [

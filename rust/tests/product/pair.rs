@@ -6,10 +6,10 @@ use crate::support::cases::{begin, cases, one_alone};
 use crate::support::r1::r1_bytes;
 use crate::support::recordings::{self, gap, with_many_tops, with_tops_at, with_tops_on_a_grid};
 use crate::support::texts::target;
-use mill::reference::fitting_pairs;
-use mill::reference::recording::{bytes, top_times, Record, MOST_TIME};
-use mill::reference::set::{HIGH, LOW};
 use mill::{Curve, Pair};
+use reference::fitting_pairs;
+use reference::recording::{bytes, top_times, Record, MOST_TIME};
+use reference::set::{HIGH, LOW};
 
 #[test]
 fn random_pairs() {

@@ -8,11 +8,11 @@ use crate::support::r2::{self, r2, r2_bytes};
 use crate::support::r3::{self, r3};
 use crate::support::random::Random;
 use crate::support::recordings::{self, with_many_events};
-use mill::reference::book::kept_readings;
-use mill::reference::kept::{chosen, mark_bytes, selected_bytes};
-use mill::reference::recording::{bytes, Record};
 use mill::sys::{mill_number, mill_thin};
 use mill::{Curve, Refusal, Run};
+use reference::book::kept_readings;
+use reference::kept::{chosen, mark_bytes, selected_bytes};
+use reference::recording::{bytes, Record};
 
 /// The readings of a recording at these times, in order.
 fn at(recording: &[u8], times: &[i64]) -> Vec<u8> {

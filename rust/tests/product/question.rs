@@ -6,8 +6,8 @@ use crate::support::cases::cases;
 use crate::support::random::Random;
 use crate::support::recordings::{self, put_top, with_additions, with_many_additions, with_many_events, with_many_tops};
 use crate::support::texts::{self, Kind};
-use mill::reference::recording::{bytes, Record, FLAT};
 use mill::sys::MILL_SET_BYTES;
+use reference::recording::{bytes, Record, FLAT};
 
 /// An output's length: room for all, or some few bytes.
 pub fn room(random: &mut Random) -> usize {

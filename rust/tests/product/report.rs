@@ -9,11 +9,11 @@ use crate::support::r2::r2_bytes;
 use crate::support::random::Random;
 use crate::support::recordings::{self, damaged, flat, with_many_events, with_tops};
 use crate::support::texts::{self, Kind};
-use mill::reference::recording::{bytes, Record};
-use mill::reference::report::{self, Added, MOST_BATCHES};
-use mill::reference::set::{HIGH, LOW};
 use mill::sys::{self, MILL_REPORT_BYTES};
 use mill::{Figures, Refusal};
+use reference::recording::{bytes, Record};
+use reference::report::{self, Added, MOST_BATCHES};
+use reference::set::{HIGH, LOW};
 
 /// A report as a caller holds it: the carried bytes, and by the plain fold what they stand for; none where no report is under way.
 #[derive(Clone)]
@@ -36,7 +36,7 @@ impl Held {
         let room = self.bytes.len() >= MILL_REPORT_BYTES;
         let mut expected = report::start(named, text, target);
         if expected.is_ok() && !room {
-            expected = Err(mill::reference::Refused::plain(10));
+            expected = Err(reference::Refused::plain(10));
         }
         let returned = at_the_desk(|desk| {
             let [first, _, output, _] = desk.turn();
@@ -63,7 +63,7 @@ impl Held {
         let before = self.bytes.clone();
         let expected = match &mut self.report {
             Some(report) => report.add(recording),
-            None => Err(mill::reference::Refused::plain(15)),
+            None => Err(reference::Refused::plain(15)),
         };
         let (returned, numbers, filler) = add(&mut self.bytes, recording);
         let (expected_return, figures) = match &expected {

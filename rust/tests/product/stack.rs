@@ -5,12 +5,12 @@ use crate::support::cases::begin;
 use crate::support::recordings::{flat, put_top, with_tops};
 use crate::support::small_stack::on_stack_of;
 use crate::support::{header, painted};
-use mill::reference::recording::bytes;
 use mill::sys::{
     mill_band, mill_degree, mill_lab_degree, mill_lab_pair, mill_lab_question, mill_live_add, mill_live_kept, mill_live_restore,
     mill_live_save, mill_live_start, mill_order, mill_pair, mill_question, mill_report_add, mill_report_start, mill_thin,
     MILL_REPORT_BYTES,
 };
+use reference::recording::bytes;
 use std::collections::BTreeMap;
 
 /// A recording of 4,096 readings under which sets grow to 250 runs, with additions.

@@ -8,11 +8,11 @@ use crate::support::random::Random;
 use crate::support::recordings::{self, damaged, flat, kept_of_plateau, odd_marks, plateau, put_top, upside_down};
 use crate::support::recordings::{with_many_events, with_slopes};
 use crate::support::slopes::every;
-use mill::reference::book::Book;
-use mill::reference::kept::mark_bytes;
-use mill::reference::recording::{bytes, Record, MOST_TIME};
-use mill::reference::{self, Refused};
 use mill::sys::{mill_number, mill_thin};
+use reference::book::Book;
+use reference::kept::mark_bytes;
+use reference::recording::{bytes, Record, MOST_TIME};
+use reference::{self, Refused};
 
 #[test]
 fn random_thinning() {

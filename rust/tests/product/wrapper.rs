@@ -4,8 +4,8 @@ use crate::support::r1::{self, r1_bytes};
 use crate::support::r2::{self, r2_bytes};
 use crate::support::r3::{self, r3_bytes};
 use crate::support::recordings::{flat, with_tops};
-use mill::reference::recording::bytes;
 use mill::{Curve, Degree, Pair, Reading, Refusal, Run, Slope};
+use reference::recording::bytes;
 
 fn r1() -> Vec<u8> {
     use Slope::{Falling, Flat, Rising};

@@ -1,8 +1,8 @@
 //! The kept readings by the rules before Paper 5, for what lists of that time still answer. A top was a falling record after one that
 //! does not fall, and its rise was not kept; a dip, from Paper 1 on, its mirror.
 
-use mill::reference::kept::is_extreme_after;
-use mill::reference::recording::{is_addition, is_crossing, is_upward_crossing, Record, FALLING, RISING};
+use reference::kept::is_extreme_after;
+use reference::recording::{is_addition, is_crossing, is_upward_crossing, Record, FALLING, RISING};
 
 #[derive(Clone, Copy, PartialEq, Eq, Debug)]
 pub enum Rule {

@@ -1,7 +1,7 @@
 //! Recording R1 and its lines, as the scope prints them, with those of Papers 1 and 5: its tops need their rise, and have it.
 
-use mill::reference::recording::{bytes, Record, FLAT};
-use mill::reference::set::{HIGH, LOW};
+use reference::recording::{bytes, Record, FLAT};
+use reference::set::{HIGH, LOW};
 
 pub fn r1() -> Vec<Record> {
     let a = [40, 60, 80, 70, 30, 55, 90, 45];

@@ -1,8 +1,8 @@
 //! Recording R2, of which not all is kept, and its lines. R1 keeps all its readings, so it can't tell thinning from copying. The
 //! fall at 60 stands on a shoulder and is no top; that at 40 has its rise at 10, beyond two flat readings.
 
-use mill::reference::recording::{bytes, Record, FLAT};
-use mill::reference::set::{HIGH, LOW};
+use reference::recording::{bytes, Record, FLAT};
+use reference::set::{HIGH, LOW};
 
 pub fn r2() -> Vec<Record> {
     let slopes = [2, 2, 1, 1, 0, 1, 0, 1, 1];

@@ -1,8 +1,8 @@
 //! Recording R3, our own: R2 with pigments, 7 added at 20 and 16 at 40, and its lines.
 
 use super::r2::r2;
-use mill::reference::recording::{bytes, Record};
-use mill::reference::set::{HIGH, LOW};
+use reference::recording::{bytes, Record};
+use reference::set::{HIGH, LOW};
 
 pub fn r3() -> Vec<Record> {
     let pigments = [0, 0, 7, 0, 16, 0, 0, 0, 0];
@@ -31,4 +31,5 @@ pub const KEPT: [(&[u32], &[i64]); 3] =
     [(&[], &[0, 10, 20, 30, 40, 60, 80]), (&[40], &[0, 10, 20, 30, 40, 50, 60, 80]), (&[10], &[0, 10, 20, 30, 40, 60, 80])];
 
 /// Texts, their runs on R3, and their runs on its kept readings without marks.
-pub const LOST: [(&str, &[(i64, i64)], &[(i64, i64)]); 2] = [("F(P=16&X(T=v))", &[(50, 50)], &[(60, 60)]), ("F(P=16&X(A=v))", &[(5, 5)], &[(4, 4)])];
+pub const LOST: [(&str, &[(i64, i64)], &[(i64, i64)]); 2] =
+    [("F(P=16&X(T=v))", &[(50, 50)], &[(60, 60)]), ("F(P=16&X(A=v))", &[(5, 5)], &[(4, 4)])];

@@ -1,8 +1,8 @@
 //! Recording R4, our own: one plateau, and its lines. The rise at 10 of the top at 40 is kept, and lists of before Paper 5 may lack it.
 
 use super::recordings::with_slopes;
-use mill::reference::recording::{bytes, Record, FALLING, FLAT, RISING};
-use mill::reference::set::{HIGH, LOW};
+use reference::recording::{bytes, Record, FALLING, FLAT, RISING};
+use reference::set::{HIGH, LOW};
 
 pub fn r4() -> Vec<Record> {
     let mut records = with_slopes(0, &[FLAT, RISING, FLAT, FLAT, FALLING]);

@@ -1,7 +1,7 @@
 //! Recording R5, our own: R2 with another master, which reads 5 at 20. For the batch's sake nothing differs, yet it keeps the reading at 20.
 
 use super::r2::r2;
-use mill::reference::recording::{bytes, Record};
+use reference::recording::{bytes, Record};
 
 pub fn r5() -> Vec<Record> {
     let mut records = r2();

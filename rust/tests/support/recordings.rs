@@ -1,7 +1,7 @@
 //! Recordings of many shapes, with and without pigments, marks, and damage.
 
 use super::random::Random;
-use mill::reference::recording::{self, Record, FALLING, FLAT, MOST_PIGMENT, MOST_TIME, MOST_VALUE, RISING};
+use reference::recording::{self, Record, FALLING, FLAT, MOST_PIGMENT, MOST_TIME, MOST_VALUE, RISING};
 use std::cmp::Ordering;
 
 /// `count` flat records at times 0, 1, .., all values 0.

@@ -1,7 +1,7 @@
 //! Order sheets: accepted ones, and ones that 13 may refuse.
 
 use super::random::Random;
-use mill::reference::recording::{Record, MOST_PIGMENT};
+use reference::recording::{Record, MOST_PIGMENT};
 
 /// An accepted sheet of so many lines, of a few pigments or of all.
 pub fn accepted(random: &mut Random, lines: usize) -> Vec<u8> {

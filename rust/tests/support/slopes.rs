@@ -1,6 +1,6 @@
 //! Slopes written as lines, and all lists of them.
 
-use mill::reference::recording::{FALLING, FLAT, RISING};
+use reference::recording::{FALLING, FLAT, RISING};
 
 /// The slopes that the signs stand for: `-` flat, `/` rising, `\` falling.
 pub fn written(signs: &str) -> Vec<u8> {

@@ -1,8 +1,8 @@
 //! Question texts of many shapes: made from the grammar, or changed byte by byte.
 
 use super::random::Random;
-use mill::reference::recording::{Record, MOST_PIGMENT};
-use mill::reference::set::{HIGH, LOW};
+use reference::recording::{Record, MOST_PIGMENT};
+use reference::set::{HIGH, LOW};
 
 /// Texts with a reading, each kind of piece among them.
 pub const GOOD: [&str; 37] = [

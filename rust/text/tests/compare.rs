@@ -4,8 +4,8 @@
 #[path = "../../tests/support/mod.rs"]
 mod support;
 
-use mill::reference::splits::readings;
-use mill::reference::text::{accepted, most_open_brackets, Node, MOST_BRACKETS, MOST_NODES};
+use reference::splits::readings;
+use reference::text::{accepted, most_open_brackets, Node, MOST_BRACKETS, MOST_NODES};
 use support::cases::{begin, cases, one_alone};
 use support::small_stack::on_stack_of;
 use support::{compared, header, painted, r1, texts};

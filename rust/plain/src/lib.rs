@@ -1,5 +1,5 @@
 //! The product as plain fast Rust, for the benchmarks: it decodes once, scans once, and goes from the last record to the first
-//! with one set for each node. The tests hold it to [`crate::reference`].
+//! with one set for each node. The tests hold it to the package `reference`.
 
 /// A refusal's number, and its place.
 pub type Refused = (u32, u32);

@@ -5,12 +5,12 @@ use crate::support::cases::cases;
 use crate::support::random::Random;
 use crate::support::recordings::{self, kept_of_plateau, plateau, upside_down, with_slopes};
 use crate::support::slopes::every;
-use mill::reference::book::Book;
-use mill::reference::evaluate::answer;
-use mill::reference::kept::{chosen, mark_bytes};
-use mill::reference::recording::{bytes, dip_times, top_times, Record};
-use mill::reference::text::reading;
-use mill::reference::thin;
+use reference::book::Book;
+use reference::evaluate::answer;
+use reference::kept::{chosen, mark_bytes};
+use reference::recording::{bytes, dip_times, top_times, Record};
+use reference::text::reading;
+use reference::thin;
 
 fn kept(records: &[Record], marks: &[i64]) -> Vec<Record> {
     records.iter().zip(chosen(records, marks)).filter(|(_, kept)| *kept).map(|(record, _)| *record).collect()

@@ -4,9 +4,9 @@
 use crate::support::cases::cases;
 use crate::support::random::Random;
 use crate::support::{recordings, texts};
-use mill::reference::splits::readings;
-use mill::reference::text::{accepted, most_open_brackets, reading, Node};
-use mill::reference::Refused;
+use reference::splits::readings;
+use reference::text::{accepted, most_open_brackets, reading, Node};
+use reference::Refused;
 
 /// The reader gives the one reading that the splits find; whether there is one.
 fn agree(text: &str) -> bool {

@@ -6,10 +6,10 @@ use crate::support::r1::r1_bytes;
 use crate::support::r2::r2_bytes;
 use crate::support::recordings::{self, with_slopes};
 use crate::support::slopes::{every, written, KEPT_SLOPES};
-use mill::reference::book::Book;
-use mill::reference::kept::{accepted_marks, chosen, chosen_by_rule, mark_bytes, most_kept};
-use mill::reference::recording::{Record, FALLING, FLAT, RISING};
-use mill::reference::Refused;
+use reference::book::Book;
+use reference::kept::{accepted_marks, chosen, chosen_by_rule, mark_bytes, most_kept};
+use reference::recording::{Record, FALLING, FLAT, RISING};
+use reference::Refused;
 
 #[test]
 fn the_faster_way_is_the_rule() {

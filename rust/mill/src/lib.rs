@@ -3,13 +3,7 @@
 //! A recording goes in as bytes, 16 to a reading ([`Reading::to_bytes`] makes them). Every call answers with a result or with
 //! one numbered [`Refusal`], for any bytes.
 
-#[cfg(feature = "library")]
 mod live;
-#[doc(hidden)]
-pub mod plain;
-#[doc(hidden)]
-pub mod reference;
-#[cfg(feature = "library")]
 mod report;
 pub mod sys;
 
@@ -225,7 +219,6 @@ impl std::fmt::Display for Refusal {
 
 impl std::error::Error for Refusal {}
 
-#[cfg(feature = "library")]
 mod calls {
     use super::{sys, Band, Curve, Degree, Order, Pair, Refusal, Run};
 
@@ -404,11 +397,8 @@ mod calls {
     }
 }
 
-#[cfg(feature = "library")]
 pub use calls::{
     band, degree, lab_degree, lab_pair, lab_question, lab_question_into, order, pair, question, question_into, thin, thin_into,
 };
-#[cfg(feature = "library")]
 pub use live::Live;
-#[cfg(feature = "library")]
 pub use report::{Added, Figures, Report};

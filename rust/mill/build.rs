@@ -4,16 +4,12 @@ use std::path::Path;
 
 fn main() {
     println!("cargo:rerun-if-changed=build.rs");
-    if std::env::var_os("CARGO_FEATURE_LIBRARY").is_none() {
-        return;
-    }
-    let root = Path::new(env!("CARGO_MANIFEST_DIR")).parent().expect("the package lies in the repository");
+    let root = Path::new(env!("CARGO_MANIFEST_DIR")).ancestors().nth(2).expect("the package lies in the repository");
     let folder = root.join("target/staticlib");
     let archive = folder.join("libmill.a");
     println!("cargo:rerun-if-changed={}", archive.display());
     if !archive.is_file() {
         eprintln!("{} is missing: run `rt staticlib mill` in {} first", archive.display(), root.display());
-        eprintln!("(`--no-default-features` builds the independent implementation alone)");
         std::process::exit(1);
     }
     println!("cargo:rustc-link-search=native={}", folder.display());

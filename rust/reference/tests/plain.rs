@@ -2,8 +2,8 @@
 
 use crate::support::cases::cases;
 use crate::support::{recordings, sheets, texts};
-use mill::reference::recording::bytes;
-use mill::reference::{self, Degree};
+use reference::recording::bytes;
+use reference::{self, Degree};
 
 #[test]
 fn plain_rust_answers_alike() {
@@ -21,11 +21,11 @@ fn plain_rust_answers_alike() {
         let pair = |refused: reference::Refused| (refused.number, refused.place);
         let room = random.pick(&[2048, 2048, 16, 7]);
         let mut out = vec![0; room];
-        let plain = mill::plain::question(&recording, &text, &mut out).map(|length| out[..length].to_vec());
+        let plain = plain::question(&recording, &text, &mut out).map(|length| out[..length].to_vec());
         assert_eq!(plain, reference::question(&recording, &text, room).map_err(pair));
 
         let target = texts::number(random, &records) * random.pick(&[1, 1, 1, 3]);
-        let plain = mill::plain::degree(&recording, &text, target);
+        let plain = plain::degree(&recording, &text, target);
         let degree = reference::degree(&recording, &text, target).map(|degree| match degree {
             Degree::Met => Some((0.0, 1.0)),
             Degree::Short { distance, degree } => Some((distance, degree)),
@@ -35,18 +35,18 @@ fn plain_rust_answers_alike() {
 
         let marks = reference::kept::mark_bytes(&recordings::marks(random, &records));
         let mut out = vec![0; recording.len()];
-        let plain = mill::plain::thin(&recording, &marks, &mut out).map(|length| out[..length].to_vec());
+        let plain = plain::thin(&recording, &marks, &mut out).map(|length| out[..length].to_vec());
         assert_eq!(plain, reference::thin(&recording, &marks, recording.len()).map_err(pair));
 
         let e = random.pick(&[0, 1, 7, 1_000_000, 1_000_001, -1]);
         let ends = |sets: [Option<(i64, i64)>; 2]| sets.map(|set| set.map(|(low, high)| (low as i32, high as i32)));
-        assert_eq!(mill::plain::band(&recording, &text, e), reference::band(&recording, &text, e).map(ends).map_err(pair));
+        assert_eq!(plain::band(&recording, &text, e), reference::band(&recording, &text, e).map(ends).map_err(pair));
 
         let sheet = sheets::any(random);
-        assert_eq!(mill::plain::order(&recording, &sheet), reference::order(&recording, &sheet).map_err(pair));
+        assert_eq!(plain::order(&recording, &sheet), reference::order(&recording, &sheet).map_err(pair));
 
         let curve = random.below(3) as u32;
         let gap = random.between(0, 30);
-        assert_eq!(mill::plain::pair(&recording, curve, gap), reference::pair(&recording, curve, gap).map_err(pair));
+        assert_eq!(plain::pair(&recording, curve, gap), reference::pair(&recording, curve, gap).map_err(pair));
     });
 }

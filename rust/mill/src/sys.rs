@@ -109,7 +109,6 @@ pub const fn mill_place(returned: u64) -> u32 {
     returned as u32
 }
 
-#[cfg(feature = "library")]
 extern "C" {
     pub fn mill_question(
         recording: *const u8,

@@ -3,11 +3,11 @@
 
 use crate::support::cases::cases;
 use crate::support::{recordings, texts};
-use mill::reference::evaluate::{answer, answer_by, over_numbers, over_sets};
-use mill::reference::meaning::holds;
-use mill::reference::recording::{top_times, Record};
-use mill::reference::set::{HIGH, LOW};
-use mill::reference::text::reading;
+use reference::evaluate::{answer, answer_by, over_numbers, over_sets};
+use reference::meaning::holds;
+use reference::recording::{top_times, Record};
+use reference::set::{HIGH, LOW};
+use reference::text::reading;
 use std::collections::BTreeSet;
 
 /// Numbers where truth can change: those of the recording and of the text, differences of tops, and their neighbours.

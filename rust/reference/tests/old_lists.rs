@@ -5,11 +5,11 @@ use crate::support::r2::{self, r2};
 use crate::support::r4::{self, r4};
 use crate::support::recordings::with_slopes;
 use crate::support::slopes::every;
-use mill::reference::evaluate::answer;
-use mill::reference::kept::chosen_by_rule;
-use mill::reference::recording::{dip_times, top_times, Record};
-use mill::reference::set::Set;
-use mill::reference::text::reading;
+use reference::evaluate::answer;
+use reference::kept::chosen_by_rule;
+use reference::recording::{dip_times, top_times, Record};
+use reference::set::Set;
+use reference::text::reading;
 
 fn times(records: &[Record]) -> Vec<i64> {
     records.iter().map(|record| record.time).collect()

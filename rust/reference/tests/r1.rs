@@ -6,8 +6,8 @@ use crate::support::r3::{self, r3_bytes};
 use crate::support::r4::{self, r4_bytes};
 use crate::support::recordings::{flat, upside_down, with_additions, with_crossings, with_dips, with_most_tops};
 use crate::support::recordings::{with_slopes, with_tops, with_tops_at};
-use mill::reference::set::{HIGH, LOW};
-use mill::reference::{degree, kept, order, pair, question, recording, thin, Degree, Refused};
+use reference::set::{HIGH, LOW};
+use reference::{degree, kept, order, pair, question, recording, thin, Degree, Refused};
 
 const ROOM: usize = 1 << 20;
 

@@ -4,10 +4,10 @@
 use crate::support::recordings::{plateau, upside_down, with_most_tops, with_slopes};
 use crate::support::slopes::{every, written, TURNS};
 use crate::support::texts;
-use mill::reference::evaluate::{answer, answer_by, over_numbers, over_sets};
-use mill::reference::recording::{dip_times, last_not_flat_before, top_times, Record, FALLING, RISING};
-use mill::reference::set::Set;
-use mill::reference::text::reading;
+use reference::evaluate::{answer, answer_by, over_numbers, over_sets};
+use reference::recording::{dip_times, last_not_flat_before, top_times, Record, FALLING, RISING};
+use reference::set::Set;
+use reference::text::reading;
 
 #[test]
 fn tops_and_dips_by_the_recorded_slopes() {

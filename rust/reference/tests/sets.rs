@@ -2,7 +2,7 @@
 
 use crate::support::cases::cases;
 use crate::support::random::Random;
-use mill::reference::set::{Set, HIGH, LOW};
+use reference::set::{Set, HIGH, LOW};
 
 fn some_set(random: &mut Random) -> Set {
     let base = random.pick(&[LOW, -10, 0, HIGH - 20]);

@@ -1,6 +1,6 @@
 //! The independent implementation, held to the scope's own words: these tests need no library.
 
-#[path = "../support/mod.rs"]
+#[path = "../../tests/support/mod.rs"]
 mod support;
 
 mod grammar;

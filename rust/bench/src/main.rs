@@ -1,7 +1,7 @@
 //! Times of the library beside plain Rust, their ratio, and the most that it is to be, on 4,096 records. Both must give the
 //! same bytes, else it stops. Each time is the best of many, warm, the two sides in turn: `cargo run --release --bin bench`.
 
-use mill::{plain, reference, sys, Curve, Degree, Reading, Slope};
+use mill::{sys, Curve, Degree, Reading, Slope};
 use std::hint::black_box;
 use std::time::{Duration, Instant};
 
