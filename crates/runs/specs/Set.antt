@@ -1,4 +1,4 @@
--- Sets of numbers of the axis as this crate holds them in words that are lent, and what its operations promise, by membership alone.
+-- Sets of numbers of the axis as `RunSet` holds them in words that are lent, and what its operations promise, by membership alone.
 use Prim.Native.Nat.{ℕ, _+_, _*_, _≤_, _<_}
 use mathlib.Core.Path.{_≡_}
 use mathlib.Core.Bool.{Bool, true, false, not, cond}
@@ -46,7 +46,7 @@ pub record Canonical (cuts : List ℕ) : Type 0 where
   pub ascending : Ascending 0 axis cuts
   pub ended : inside cuts axis ≡ false
 
--- words that hold a set, as every function of the crate leaves them and every operation wants them
+-- words that hold a set, as every function of `RunSet` leaves them and every operation wants them
 pub record Valid (words : List ℕ) : Type 0 where
   pub size : length words ≡ slotWords
   pub few : getD words (2 * mostRuns) 0 ≤ 2 * mostRuns
