@@ -8,7 +8,7 @@ use lib.Ieee.{Float}
 use Rattle.number.specs.Axis.{axis}
 use Rattle.refusal.specs.Outcome.{Outcome, result, refused, Line, line, judged}
 use Rattle.refusal.specs.Numbers.{numberOf, placeOf}
-use Rattle.runset.specs.Distance.{distance}
+use Rattle.runs.specs.Distance.{distance}
 use Rattle.meaning.specs.inner.Coded.{index}
 use Rattle.question.specs.Question.{read, answer, askingLines, setLines}
 use Rattle.ratio.specs.Degree.{distanceOf, degreeOf}

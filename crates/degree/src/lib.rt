@@ -4,7 +4,7 @@ ghost use mathlib.Core.List.{_∷_};
 ghost use Prim.Native.Nat.{ℕ, _<_};
 ghost use Rattle.number.specs.Axis.{axis};
 ghost use Rattle.refusal.specs.Outcome.{result, judged};
-ghost use Rattle.runset.specs.Set.{member, Valid};
+ghost use Rattle.runs.specs.Set.{member, Valid};
 ghost use Rattle.meaning.specs.inner.Coded.{coded};
 ghost use Rattle.meaning.specs.inner.Coded.{index as indexOf};
 ghost use Rattle.meaning.specs.inner.Truth.{val};
@@ -16,7 +16,7 @@ ghost use Rattle.degree.specs.inner.Reach.{reachAt, mapped};
 use question::answered::Verdict;
 use question::prepare::Prepared;
 use refusal::Refusal;
-use runset::Nearest;
+use runs::Nearest;
 use runset::RunSet;
 use targets::OnAxis;
 

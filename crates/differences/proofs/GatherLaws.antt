@@ -9,10 +9,10 @@ use lib.Dec.{leb, ltb}
 use borrow.Author.Tests.{le-leb, lt-leb, lt-ltb, le-ltb, ltb-true}
 use Rattle.number.specs.Axis.{axis}
 use Rattle.number.specs.laws.Boolean.{clash, and-left, and-make}
-use Rattle.runset.specs.Runs.{runCount, mostRuns}
-use Rattle.runset.specs.Set.{member, Holds, Makes}
-use Rattle.runset.specs.laws.Runs.{runCount-ext, fewer-below}
-use Rattle.runset.specs.laws.Set.{holds-ext, holds-makes}
+use Rattle.runs.specs.Runs.{runCount, mostRuns}
+use Rattle.runs.specs.Set.{member, Holds, Makes}
+use Rattle.runs.specs.laws.Runs.{runCount-ext, fewer-below}
+use Rattle.runs.specs.laws.Set.{holds-ext, holds-makes}
 use Rattle.differences.specs.inner.Search.{Least, Past, from}
 
 -- the words hold the part of f below x

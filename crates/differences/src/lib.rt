@@ -7,7 +7,7 @@ ghost use lib.ListN.{getD, length};
 ghost use Rattle.number.specs.Axis.{origin, axis};
 ghost use Rattle.differences.specs.inner.Times.{Times, lagsOf, gapsOf, stepsOf, momentsOf};
 ghost use Rattle.differences.specs.inner.Search.{Least, Past, Follows, chosen, from, Better, Marked, Lead};
-ghost use Rattle.runset.specs.Set.{slotWords, Makes};
+ghost use Rattle.runs.specs.Set.{slotWords, Makes};
 use runset::RunSet;
 
 // How many numbers are looked at in one sweep over the times.

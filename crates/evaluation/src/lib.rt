@@ -9,7 +9,7 @@ ghost use mathlib.Core.Path.{_≡_};
 ghost use mathlib.Core.Bool.{Bool, true, false};
 ghost use Prim.Native.Nat.{ℕ, _+_, _*_, _/_, _≤_, _<_};
 ghost use lib.ListN.{length};
-ghost use Rattle.runset.specs.Set.{slotWords, sharedWords};
+ghost use Rattle.runs.specs.Set.{slotWords, sharedWords};
 ghost use Rattle.meaning.specs.inner.Coded.{coded};
 ghost use Rattle.evaluation.specs.inner.Askable.{Askable};
 ghost use Rattle.grammar.specs.Size.{temporal};

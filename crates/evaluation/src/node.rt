@@ -3,7 +3,7 @@ ghost use mathlib.Core.Path.{_≡_};
 ghost use mathlib.Core.Bool.{Bool, false};
 ghost use Prim.Native.Nat.{ℕ, _≤_, _<_};
 ghost use lib.ListN.{length};
-ghost use Rattle.runset.specs.Set.{slotWords, sharedWords, member, Valid};
+ghost use Rattle.runs.specs.Set.{slotWords, sharedWords, member, Valid};
 ghost use Rattle.grammar.specs.Size.{mostNodes};
 ghost use Rattle.grammar.specs.inner.Kinds.{NOT, AND};
 ghost use Rattle.grammar.specs.inner.Table.{unaryFrom, binaryFrom, kinds};

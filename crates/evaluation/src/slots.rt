@@ -2,7 +2,7 @@
 ghost use mathlib.Core.Path.{_≡_};
 ghost use mathlib.Core.Bool.{Bool, false};
 ghost use Prim.Native.Nat.{ℕ, _<_};
-ghost use Rattle.runset.specs.Set.{Valid, Makes};
+ghost use Rattle.runs.specs.Set.{Valid, Makes};
 ghost use Rattle.grammar.specs.Size.{mostNodes};
 ghost use Rattle.evaluation.specs.inner.Slots.{slot, Sized, Puts};
 use runset::RunSet;

@@ -3,7 +3,7 @@ ghost use mathlib.Core.Path.{_≡_};
 ghost use mathlib.Core.Bool.{Bool, true, false};
 ghost use Prim.Native.Nat.{ℕ, _≤_, _<_};
 ghost use lib.ListN.{length};
-ghost use Rattle.runset.specs.Set.{slotWords, sharedWords, member, Valid, Makes};
+ghost use Rattle.runs.specs.Set.{slotWords, sharedWords, member, Valid, Makes};
 ghost use Rattle.grammar.specs.inner.Kinds.{NOT, AND};
 ghost use Rattle.grammar.specs.inner.Table.{unaryFrom, binaryFrom, kinds};
 ghost use Rattle.evaluation.specs.inner.Step.{unaryOf, binaryOf};

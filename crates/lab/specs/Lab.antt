@@ -7,7 +7,7 @@ use Rattle.refusal.specs.Outcome.{Outcome, Line, line, judged}
 use Rattle.recording.specs.Reading.{B, curveOf}
 use Rattle.recording.specs.Recording.{readings, recordingLines, noRecord}
 use Rattle.recording.specs.Output.{outputLine}
-use Rattle.runset.specs.Runs.{setBytes}
+use Rattle.runs.specs.Runs.{setBytes}
 use Rattle.grammar.specs.Syntax.{Text}
 use Rattle.meaning.specs.Alike.{Plain}
 use Rattle.meaning.specs.Named.{curve, Names}

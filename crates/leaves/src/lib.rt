@@ -8,7 +8,7 @@ mod times;
 ghost use mathlib.Core.Path.{_≡_};
 ghost use Prim.Native.Nat.{_≤_, _<_};
 ghost use lib.ListN.{length};
-ghost use Rattle.runset.specs.Set.{slotWords, Makes};
+ghost use Rattle.runs.specs.Set.{slotWords, Makes};
 ghost use Rattle.meaning.specs.inner.Truth.{val};
 ghost use Rattle.grammar.specs.inner.Kinds.{HIGH, PEAKS, DOSE, AMPL, GAPS};
 ghost use Rattle.meaning.specs.inner.Coded.{coded};

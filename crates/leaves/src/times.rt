@@ -7,7 +7,7 @@ ghost use Rattle.grammar.specs.Syntax as asks;
 ghost use Rattle.meaning.specs.inner.Coded.{codedTimes, codedAdditions};
 ghost use Rattle.tops.specs.Tops.{mostTops};
 ghost use Rattle.meaning.specs.inner.Truth.{truth};
-ghost use Rattle.runset.specs.Set.{slotWords, Makes};
+ghost use Rattle.runs.specs.Set.{slotWords, Makes};
 ghost use Rattle.meaning.specs.inner.Coded.{coded};
 ghost use Rattle.leaves.specs.inner.Leaf.{timesOf};
 ghost use Rattle.leaves.specs.inner.Stamps.{Early, Shifted, Stamped};

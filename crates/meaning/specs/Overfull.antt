@@ -6,7 +6,7 @@ use mathlib.Core.Logic.{_↔_}
 use mathlib.Core.List.{List, [], _∷_, List·Memᴰ}
 use lib.ListN.{length}
 use Rattle.number.specs.Axis.{axis, whole}
-use Rattle.runset.specs.Runs.{runCount, mostRuns}
+use Rattle.runs.specs.Runs.{runCount, mostRuns}
 use Rattle.recording.specs.Condition.{pick}
 use Rattle.recording.specs.Reading.{Reading, Curve, top}
 use Rattle.tops.specs.Tops.{mostTops}

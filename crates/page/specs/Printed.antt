@@ -3,7 +3,7 @@ use Prim.Native.Nat.{ℕ, _+_, _*_}
 use mathlib.Core.Path.{_≡_}
 use mathlib.Core.List.{List, _++_}
 use lib.ListN.{length, drop}
-use Rattle.runset.specs.Runs.{mostRuns}
+use Rattle.runs.specs.Runs.{mostRuns}
 use Rattle.question.specs.Question.{questionOf}
 use Rattle.page.specs.Page.{page}
 use Rattle.page.specs.Typed.{withoutNewline}

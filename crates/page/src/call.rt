@@ -7,11 +7,11 @@ ghost use Rattle.page.specs.Printed.{printed, Prints};
 use recording::Written;
 
 // The output that the question call is given: 8 bytes for each run that a set may have.
-pub const SET_ROOM: usize = 8 * runset::MOST_RUNS;
+pub const SET_ROOM: usize = 8 * runs::MOST_RUNS;
 
 // Room for the longest page: `runs `, a number of at most 10 digits and a newline, and for each run two numbers of at most
 // 11 bytes, a blank and a newline.
-pub const PAGE_SIZE: usize = 16 + 24 * runset::MOST_RUNS;
+pub const PAGE_SIZE: usize = 16 + 24 * runs::MOST_RUNS;
 
 const NEWLINE: u8 = 10;
 

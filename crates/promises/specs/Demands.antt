@@ -16,8 +16,8 @@ use Rattle.refusal.specs.Numbers.{numberOf, placeOf}
 use Rattle.refusal.specs.declared.Refusal.{Refusal}
 use Rattle.recording.specs.Reading.{curveOf}
 use Rattle.recording.specs.Recording.{readings, Accepted}
-use Rattle.runset.specs.Runs.{setBytes}
-use Rattle.runset.specs.Written.{inBytes}
+use Rattle.runs.specs.Runs.{setBytes}
+use Rattle.runs.specs.Written.{inBytes}
 use Rattle.grammar.specs.Bytes.{bytes}
 use Rattle.grammar.specs.Syntax.{Listed, Text, listed}
 use Rattle.grammar.specs.Grammar.{ReadsWhole}

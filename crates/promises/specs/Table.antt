@@ -14,7 +14,7 @@ use Rattle.refusal.specs.declared.Refusal.the-variants.{PartialRecord, TooManyR
 use Rattle.recording.specs.Condition.{pick}
 use Rattle.recording.specs.Reading.{top, curveOf}
 use Rattle.recording.specs.Recording.{Raw, records, readings, lawful, mostRecords, mostPigments}
-use Rattle.runset.specs.Runs.{runCount}
+use Rattle.runs.specs.Runs.{runCount}
 use Rattle.tops.specs.Tops.{mostTops}
 use Rattle.grammar.specs.Syntax.{Text, Listed, listed}
 use Rattle.grammar.specs.Grammar.{ReadsWhole}

@@ -5,7 +5,7 @@ use mathlib.Core.List.{List, [], _∷_, _++_}
 use Rattle.refusal.specs.Outcome.{Outcome, Line, line, judged}
 use Rattle.recording.specs.Recording.{recordingLines, noRecord}
 use Rattle.recording.specs.Output.{outputLine}
-use Rattle.runset.specs.Runs.{setBytes}
+use Rattle.runs.specs.Runs.{setBytes}
 use Rattle.grammar.specs.Syntax.{Text, listed, lag}
 use Rattle.grammar.specs.inner.Parse.{Parsed, one, none, parsed}
 use Rattle.text.specs.Told.{textLines}

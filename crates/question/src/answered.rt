@@ -1,7 +1,7 @@
 // The answered set of a text that was read: the refusals 9 and 8.
 ghost use mathlib.Core.Path.{_≡_};
 ghost use lib.ListN.{length};
-ghost use Rattle.runset.specs.Set.{slotWords};
+ghost use Rattle.runs.specs.Set.{slotWords};
 ghost use Rattle.evaluation.specs.inner.Evaluation.{textOf};
 ghost use Rattle.question.specs.inner.Answered.{Ready, Gives};
 use refusal::Refusal;

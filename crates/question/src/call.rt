@@ -5,7 +5,7 @@ ghost use Rattle.recording.specs.Output.{Answers};
 ghost use Rattle.evaluation.specs.inner.Evaluation.{textOf};
 ghost use Rattle.question.specs.Question.{questionOf, answerOf, writtenOf};
 ghost use Rattle.question.specs.inner.Answered.{Ready};
-ghost use Rattle.runset.specs.Set.{member, Valid};
+ghost use Rattle.runs.specs.Set.{member, Valid};
 use crate::answered::Verdict;
 use crate::prepare::Prepared;
 use recording::Written;

@@ -1,20 +1,19 @@
 -- The runs of a set, read off its cuts.
-use Prim.Native.Nat.{ℕ, zero, suc, _+_, _-_, _*_, _/_, _≤_, _<_}
+use Prim.Native.Nat.{ℕ, zero, suc, _+_, _*_, _≤_, _<_}
 use mathlib.Core.Path.{_≡_, refl, sym, ap, ap₂, subst, _∙_}
-use mathlib.Core.Bool.{Bool, true, false}
-use mathlib.Core.List.{List, [], _∷_, _++_, append-assoc, append-nil}
+use mathlib.Core.Bool.{Bool, false}
+use mathlib.Core.List.{List, [], _∷_, _++_, append-assoc}
 use native.Mathlib.Omega.{arith}
 use native.Mathlib.Numerals.{add-one}
-use lib.ListN.{length, take, drop, getD, length-append}
+use lib.ListN.{length, take, drop, getD}
 use lib.Seq.{length-take-le, getD-take, take-suc, take-all}
-use Rattle.number.specs.Axis.{axis, whole}
-use Rattle.number.specs.Words.{bits, wordBytes}
+use Rattle.number.specs.Axis.{axis}
 use Rattle.number.specs.laws.Words.{put-behind}
-use Rattle.runset.specs.Runs.{mostRuns, lows, highs, runCount, numberBytes, runBytes, setBytes}
-use Rattle.runset.specs.Set.{cutsOf, inside, member, Ascending, Canonical, Valid}
-use Rattle.runset.specs.laws.Cuts.{lowCuts, highCuts, lone, rest-ended}
-use Rattle.runset.specs.laws.Runs.{lows-are, highs-are, lows-highs, runBytes-length, setBytes-length}
-use Rattle.runset.specs.laws.Set.{valid-cuts, cuts-length}
+use Rattle.runs.specs.Runs.{mostRuns, lows, highs, runCount, numberBytes, runBytes, setBytes}
+use Rattle.runs.specs.Set.{cutsOf, inside, member, Ascending, Valid}
+use Rattle.runs.specs.laws.Cuts.{lowCuts, highCuts, lone, rest-ended}
+use Rattle.runs.specs.laws.Runs.{lows-are, highs-are, lows-highs, runBytes-length, setBytes-length}
+use Rattle.runs.specs.laws.Set.{valid-cuts, cuts-length}
 
 -- run i of a list of cuts
 pub record RunAt (hi : ℕ) (l lows highs : List ℕ) (i : ℕ) : Type 0 where
@@ -77,28 +76,22 @@ module _ (f : ℕ → Bool) where
       let u : length (take i (highs f)) ≡ i = length-take-le i (highs f) (omega arith) in
       runBytes-length (take i (lows f)) (take i (highs f)) (l ∙ sym u) ∙ ap (λ (k : ℕ). 8 * k) l
 
-  front-next : (i : ℕ) → i < runCount f → front f (i + 1) ≡ front f i ++ numberBytes (getD (lows f) i 0) ++ numberBytes (getD (highs f) i 0)
+  front-next : (i : ℕ) → i < runCount f → front f (i + 1) ≡ front f i ++ (numberBytes (getD (lows f) i 0) ++ numberBytes (getD (highs f) i 0))
   front-next i h =
       let n = lows-highs f in
       let l : length (take i (lows f)) ≡ i = length-take-le i (lows f) (omega arith) in
       let u : length (take i (highs f)) ≡ i = length-take-le i (highs f) (omega arith) in
       ap (front f) (add-one i) ∙ ap₂ runBytes (take-suc (lows f) i 0 h) (take-suc (highs f) i 0 (omega arith))
       ∙ runBytes-append (take i (lows f)) (take i (highs f)) (getD (lows f) i 0 ∷ []) (getD (highs f) i 0 ∷ []) (l ∙ sym u)
-      ∙ sym (append-assoc (front f i) (numberBytes (getD (lows f) i 0)) (numberBytes (getD (highs f) i 0)))
 
-  -- two words behind the first i runs are run i
-  pub next-run : (i : ℕ) (before out once twice : List ℕ) (l h : ℕ) → i < runCount f → out ≡ front f i ++ drop (8 * i) before
-      → l ≡ bits (whole (getD (lows f) i 0)) → h ≡ bits (whole (getD (highs f) i 0))
-      → once ≡ take (8 * i) out ++ wordBytes l ++ drop (8 * i + 4) out → twice ≡ take (8 * i + 4) once ++ wordBytes h ++ drop (8 * i + 4 + 4) once
-      → twice ≡ front f (i + 1) ++ drop (8 * (i + 1)) before
-  next-run i before out once twice l h k e el eh e1 e2 =
-      let a = front f i in
-      let n : length a ≡ 8 * i = front-length i (omega arith) in
-      let o1 : once ≡ a ++ wordBytes l ++ drop (8 * i + 4) before = e1 ∙ put-behind a (wordBytes l) before out (8 * i) 4 n e in
-      let n1 : length (a ++ wordBytes l) ≡ 8 * i + 4 = simp length-append (omega arith) in
-      let q : 8 * i + 4 + 4 ≡ 8 * (i + 1) = omega arith in
-      e2 ∙ put-behind (a ++ wordBytes l) (wordBytes h) before once (8 * i + 4) 4 n1 o1
-      ∙ ap₂ (λ (x : List ℕ) (j : ℕ). x ++ drop j before) (ap₂ (λ (x y : ℕ). a ++ wordBytes x ++ wordBytes y) el eh ∙ sym (front-next i k)) q
+  -- the bytes of run i behind those of the first i
+  pub next-run : (i : ℕ) (before out after : List ℕ) (l h : ℕ) → i < runCount f → out ≡ front f i ++ drop (8 * i) before
+      → l ≡ getD (lows f) i 0 → h ≡ getD (highs f) i 0 → after ≡ take (8 * i) out ++ (numberBytes l ++ numberBytes h) ++ drop (8 * i + 8) out
+      → after ≡ front f (i + 1) ++ drop (8 * (i + 1)) before
+  next-run i before out after l h k e el eh p =
+      let q : 8 * i + 8 ≡ 8 * (i + 1) = omega arith in
+      p ∙ put-behind (front f i) (numberBytes l ++ numberBytes h) before out (8 * i) 8 (front-length i (omega arith)) e
+      ∙ ap₂ (λ (x : List ℕ) (j : ℕ). x ++ drop j before) (ap₂ (λ (x y : ℕ). front f i ++ (numberBytes x ++ numberBytes y)) el eh ∙ sym (front-next i k)) q
 
   pub all-runs : (i : ℕ) (before out : List ℕ) → i ≡ runCount f → out ≡ front f i ++ drop (8 * i) before
       → out ≡ setBytes f ++ drop (length (setBytes f)) before

@@ -8,14 +8,14 @@ use lib.Dec.{leb, ltb, eqb}
 use lib.ListN.{length, drop}
 use borrow.Author.Tests.{lt-ltb, le-ltb, le-leb, lt-leb, eq-eqb, ne-eqb, ltb-false}
 use Rattle.number.specs.Axis.{axis}
-use Rattle.runset.specs.Runs.{mostRuns, runCount, setBytes}
-use Rattle.runset.specs.Distance.{distance}
-use Rattle.runset.specs.laws.Distance.{distance-ext}
-use Rattle.runset.specs.Set.{member, Valid, Makes}
-use Rattle.runset.specs.inner.Join.{Joins}
-use Rattle.runset.specs.declared.join.Joined.{Joined}
-use Rattle.runset.specs.laws.Runs.{runCount-ext, setBytes-ext}
-use Rattle.runset.specs.laws.Set.{makes-ext}
+use Rattle.runs.specs.Runs.{mostRuns, runCount, setBytes}
+use Rattle.runs.specs.Distance.{distance}
+use Rattle.runs.specs.laws.Distance.{distance-ext}
+use Rattle.runs.specs.Set.{member, Valid, Makes}
+use Rattle.join.specs.inner.Join.{Joins}
+use Rattle.join.specs.declared.Joined.{Joined}
+use Rattle.runs.specs.laws.Runs.{runCount-ext, setBytes-ext}
+use Rattle.runs.specs.laws.Set.{makes-ext}
 use Rattle.runset_c.specs.Bytes.{chosen, asked, setOf, unfit, unfitAny, replyOf, outputOf, memberReply, distanceReply, storesReply}
 use Rattle.runset_c.specs.Promises.{Loaded, Delivered}
 

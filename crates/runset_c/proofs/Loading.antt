@@ -10,10 +10,10 @@ use lib.ListN.{length}
 use borrow.Author.Tests.{lt-ltb, le-ltb, le-leb, lt-leb}
 use Rattle.number.specs.Axis.{axis}
 use Rattle.number.specs.Words.{word, turned}
-use Rattle.runset.specs.Runs.{mostRuns, runCount}
-use Rattle.runset.specs.Set.{member, Holds, Makes}
-use Rattle.runset.specs.laws.Runs.{runCount-ext}
-use Rattle.runset.specs.laws.Set.{holds-ext, makes-ext}
+use Rattle.runs.specs.Runs.{mostRuns, runCount}
+use Rattle.runs.specs.Set.{member, Holds, Makes}
+use Rattle.runs.specs.laws.Runs.{runCount-ext}
+use Rattle.runs.specs.laws.Set.{holds-ext, makes-ext}
 use Rattle.runset_c.specs.Bytes.{indexAt, inRuns, unfitRuns, unfit, setOf}
 use Rattle.runset_c.specs.Promises.{Extended, Loaded}
 

@@ -9,9 +9,9 @@ use lib.Dec.{ltb, eqb}
 use lib.ListN.{getD}
 use borrow.Author.Tests.{eq-eqb, ne-eqb}
 use Rattle.number.specs.Axis.{axis}
-use Rattle.runset.specs.Runs.{mostRuns, runCount, lows}
-use Rattle.runset.specs.Set.{member, Makes}
-use Rattle.runset.specs.laws.Runs.{runCount-ext, lows-ext}
+use Rattle.runs.specs.Runs.{mostRuns, runCount, lows}
+use Rattle.runs.specs.Set.{member, Makes}
+use Rattle.runs.specs.laws.Runs.{runCount-ext, lows-ext}
 use Rattle.runset_c.specs.Bytes.{sumOf, repeatReply}
 
 pub no-turn : (f : ℕ → Bool) → 0 ≡ repeatReply false f 0

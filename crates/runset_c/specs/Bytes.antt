@@ -7,8 +7,8 @@ use lib.Dec.{leb, ltb, eqb}
 use lib.ListN.{length, getD, drop}
 use Rattle.number.specs.Axis.{axis}
 use Rattle.number.specs.Words.{word, turned}
-use Rattle.runset.specs.Runs.{mostRuns, runCount, lows, setBytes}
-use Rattle.runset.specs.Distance.{distance}
+use Rattle.runs.specs.Runs.{mostRuns, runCount, lows, setBytes}
+use Rattle.runs.specs.Distance.{distance}
 
 -- the index of the number that stands at `at`; the size of the axis where it is off the axis
 unfoldable pub indexAt : List ℕ → ℕ → ℕ

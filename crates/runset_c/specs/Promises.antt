@@ -6,8 +6,8 @@ use mathlib.Core.List.{List}
 use lib.Dec.{leb, ltb}
 use lib.ListN.{length}
 use Rattle.number.specs.Axis.{axis}
-use Rattle.runset.specs.Runs.{mostRuns, runCount}
-use Rattle.runset.specs.Set.{member, Holds, Makes}
+use Rattle.runs.specs.Runs.{mostRuns, runCount}
+use Rattle.runs.specs.Set.{member, Holds, Makes}
 use Rattle.runset_c.specs.Bytes.{unfit, setOf, replyOf, outputOf}
 
 -- the set in s with the run from low to high

@@ -1,5 +1,5 @@
 // Sets on bytes, for tests and measurements from outside.
-use runset::Nearest;
+use runs::Nearest;
 use runset::RunSet;
 use runset::SHARED;
 use runset::SLOT;
@@ -7,7 +7,7 @@ ghost use mathlib.Core.Path.{_≡_};
 ghost use mathlib.Core.Bool.{false, _||_};
 ghost use Prim.Native.Nat.{_+_, _≤_};
 ghost use lib.ListN.{length};
-ghost use Rattle.runset.specs.Set.{slotWords, sharedWords, member, Valid, Makes};
+ghost use Rattle.runs.specs.Set.{slotWords, sharedWords, member, Valid, Makes};
 ghost use Rattle.runset_c.specs.Bytes.{indexAt, setOf, unfit, unfitAny, chosen, asked, replyOf, outputOf, memberReply, distanceReply, repeatReply, storesReply};
 ghost use Rattle.runset_c.specs.Promises.{Extended, Loaded, Delivered};
 

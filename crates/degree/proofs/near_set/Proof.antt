@@ -1,6 +1,6 @@
 -- By the nearest member.
 use mathlib.Core.Path.{sym, _∙_}
-use Rattle.runset.specs.Set.{member}
+use Rattle.runs.specs.Set.{member}
 use Rattle.degree.specs.laws.Call.{near-at, near-nothing}
 use borrow.Author.Needs.{needs}
 use Rattle.degree.proofs.near_set.Statement.{statement}

@@ -14,10 +14,10 @@ use Rattle.refusal.specs.Outcome.{Outcome, result, refused, Line, judged, NoneM
 use Rattle.refusal.specs.Numbers.{numberOf, placeOf}
 use Rattle.refusal.specs.declared.Refusal.{Refusal}
 use Rattle.recording.specs.laws.Outcome.{judged-pass, judged-skip, judged-first, judged-none, result-none, refusal-stands}
-use Rattle.runset.specs.Distance.{distance}
-use Rattle.runset.specs.laws.Distance.{distance-ext}
-use Rattle.runset.specs.Set.{member, nearestOf}
-use Rattle.runset.specs.declared.Nearest.the-variants.{At, Nothing}
+use Rattle.runs.specs.Distance.{distance}
+use Rattle.runs.specs.laws.Distance.{distance-ext}
+use Rattle.runs.specs.Set.{member, nearestOf}
+use Rattle.runs.specs.declared.Nearest.the-variants.{At, Nothing}
 use Rattle.grammar.specs.Syntax.{Text}
 use Rattle.grammar.specs.inner.Parse.{parsed}
 use Rattle.text.specs.Told.{nodesOf}

@@ -15,8 +15,8 @@ use Rattle.refusal.specs.Outcome.{result, NoneMeets}
 use Rattle.recording.specs.Reading.{Reading}
 use Rattle.recording.specs.Recording.{Accepted, readings, recordingLines, noRecord}
 use Rattle.recording.specs.laws.Outcome.{result-none, none-append}
-use Rattle.runset.specs.Distance.{distance}
-use Rattle.runset.specs.laws.Distance.{distance-least, distance-reached}
+use Rattle.runs.specs.Distance.{distance}
+use Rattle.runs.specs.laws.Distance.{distance-least, distance-reached}
 use Rattle.grammar.specs.Syntax.{Text}
 use Rattle.text.specs.Told.{textLines}
 use Rattle.meaning.specs.inner.Coded.{index}

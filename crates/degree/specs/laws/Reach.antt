@@ -10,7 +10,7 @@ use borrow.Author.Tests.{ltb-true}
 use Rattle.number.specs.Axis.{axis}
 use Rattle.refusal.specs.Outcome.{result}
 use Rattle.recording.specs.laws.Outcome.{judged-skip, result-none}
-use Rattle.runset.specs.Distance.{distance}
+use Rattle.runs.specs.Distance.{distance}
 use Rattle.meaning.specs.inner.Coded.{index}
 use Rattle.question.specs.Question.{read, answer, askingLines, setLines}
 use Rattle.targets.specs.Target.{offAxis}

@@ -7,7 +7,7 @@ use mathlib.Core.List.{List}
 use lib.Dec.{leb}
 use borrow.Author.Tests.{lt-leb}
 use Rattle.number.specs.Axis.{axis}
-use Rattle.runset.specs.Set.{member, Holds, Makes}
+use Rattle.runs.specs.Set.{member, Holds, Makes}
 use Rattle.differences.specs.inner.Search.{Least, Follows, from, chosen}
 use Rattle.differences.proofs.GatherLaws.{Gathered, gathered-none, gathered-end, gathered-behind, gathered-run, gathered-over, run-grows, least-from, past-from}
 use borrow.Author.Needs.{needs}

@@ -1,7 +1,7 @@
 -- `gaps` meets its contract. A later time minus an earlier one is a difference over 0.
 use Prim.Native.Nat.{suc}
 use Rattle.number.specs.Axis.{origin}
-use Rattle.runset.specs.laws.Set.{makes-ext}
+use Rattle.runs.specs.laws.Set.{makes-ext}
 use Rattle.differences.specs.inner.Search.{from}
 use Rattle.differences.specs.inner.Times.{lagsOf, gapsOf}
 use Rattle.differences.proofs.GapLaws.{gaps-are}

@@ -1,5 +1,5 @@
 -- `lags` meets its contract. Every difference lies from the low end of the axis on.
-use Rattle.runset.specs.laws.Set.{makes-ext}
+use Rattle.runs.specs.laws.Set.{makes-ext}
 use Rattle.differences.specs.inner.Search.{from}
 use Rattle.differences.specs.inner.Times.{lagsOf}
 use Rattle.differences.proofs.GapLaws.{from-zero}

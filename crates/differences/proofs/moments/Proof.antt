@@ -7,7 +7,7 @@ use mathlib.Core.List.{List}
 use lib.Dec.{leb}
 use lib.ListN.{length, getD}
 use Rattle.number.specs.Axis.{axis}
-use Rattle.runset.specs.Set.{member, Holds, Makes}
+use Rattle.runs.specs.Set.{member, Holds, Makes}
 use Rattle.differences.specs.inner.Search.{Least}
 use Rattle.differences.specs.inner.Times.{Times, momentsOf}
 use Rattle.differences.proofs.GatherLaws.{Gathered, gathered-none, gathered-end, gathered-behind, gathered-run, gathered-over}

@@ -14,7 +14,7 @@ use Rattle.meaning.specs.inner.Recorded.{InTime, Increasing, Recorded}
 use Rattle.meaning.specs.inner.Coded.{Coded, code, timesOf, codedTimes}
 use Rattle.meaning.specs.inner.Truth.{truth}
 use Rattle.differences.specs.inner.Times.{Times, lagsOf, gapsOf, stepsOf, momentsOf}
-use Rattle.runset.specs.Set.{Ascending}
+use Rattle.runs.specs.Set.{Ascending}
 
 -- the last time
 abbrev hi : ℕ

@@ -5,8 +5,8 @@ use mathlib.Core.Bool.{Bool, false}
 use mathlib.Core.List.{List}
 use lib.Dec.{ltb}
 use lib.ListN.{length, take, drop}
-use Rattle.runset.specs.Runs.{mostRuns, runCount}
-use Rattle.runset.specs.Set.{slotWords, Holds}
+use Rattle.runs.specs.Runs.{mostRuns, runCount}
+use Rattle.runs.specs.Set.{slotWords, Holds}
 use Rattle.grammar.specs.Size.{mostNodes}
 
 -- the words of slot m

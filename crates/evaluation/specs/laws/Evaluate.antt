@@ -11,10 +11,10 @@ use lib.Dec.{eqb, ltb}
 use borrow.Author.Tests.{eqb-true, eqb-false}
 use Rattle.grammar.specs.inner.Kinds.{AND, UNTIL}
 use Rattle.number.specs.Axis.{axis}
-use Rattle.runset.specs.Set.{member, Valid, Holds}
-use Rattle.runset.specs.Runs.{mostRuns, runCount}
-use Rattle.runset.specs.laws.Runs.{runCount-ext}
-use Rattle.runset.specs.laws.Set.{holds-ext}
+use Rattle.runs.specs.Set.{member, Valid, Holds}
+use Rattle.runs.specs.Runs.{mostRuns, runCount}
+use Rattle.runs.specs.laws.Runs.{runCount-ext}
+use Rattle.runs.specs.laws.Set.{holds-ext}
 use Rattle.grammar.specs.Syntax.{Text, or, and, neg, finally, globally, next, until, weakUntil}
 use Rattle.grammar.specs.Size.{temporal, mostNodes}
 use Rattle.grammar.specs.declared.Row.{Row}

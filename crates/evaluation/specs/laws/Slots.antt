@@ -8,8 +8,8 @@ use mathlib.Core.List.{List, _++_}
 use lib.ListN.{length, getD, take, drop, length-take, length-drop, length-append, List·getD-append}
 use lib.Seq.{ext-getD, getD-drop, getD-take, getD-append-add, length-take-le, drop-at, take-at}
 use Rattle.number.specs.laws.Order.{less-or-not}
-use Rattle.runset.specs.Set.{slotWords, Holds, Makes, member}
-use Rattle.runset.specs.laws.Set.{holds-ext}
+use Rattle.runs.specs.Set.{slotWords, Holds, Makes, member}
+use Rattle.runs.specs.laws.Set.{holds-ext}
 use Rattle.grammar.specs.Size.{mostNodes}
 use Rattle.evaluation.specs.inner.Slots.{slot, Sized, Elsewhere, Puts}
 

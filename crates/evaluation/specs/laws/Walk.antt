@@ -8,8 +8,8 @@ use mathlib.Core.Logic.{⊎-elim}
 use mathlib.Core.List.{List}
 use lib.ListN.{length, take}
 use Rattle.number.specs.Axis.{axis}
-use Rattle.runset.specs.Set.{member, Valid, Holds}
-use Rattle.runset.specs.laws.Set.{holds-ext}
+use Rattle.runs.specs.Set.{member, Valid, Holds}
+use Rattle.runs.specs.laws.Set.{holds-ext}
 use Rattle.grammar.specs.Syntax.{Text, atom, listed, or, and, neg, finally, globally, next, until, weakUntil}
 use Rattle.grammar.specs.Size.{temporal}
 use Rattle.grammar.specs.inner.Table.{treeAt}

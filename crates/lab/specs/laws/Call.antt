@@ -15,7 +15,7 @@ use Rattle.recording.specs.Output.{outputLine, Answers}
 use Rattle.recording.specs.declared.Written.{Written}
 use Rattle.recording.specs.declared.Written.the-variants as written
 use Rattle.recording.specs.laws.Outcome.{judged-pass, judged-skip, judged-first, judged-none, result-none, refusal-stands, none-append, answers-refused}
-use Rattle.runset.specs.Runs.{setBytes}
+use Rattle.runs.specs.Runs.{setBytes}
 use Rattle.grammar.specs.Syntax.{Text}
 use Rattle.grammar.specs.inner.Parse.{parsed}
 use Rattle.parser.specs.inner.Rows.{Laid}

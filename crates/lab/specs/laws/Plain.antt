@@ -10,7 +10,7 @@ use Rattle.recording.specs.laws.Outcome.{judged-pass, judged-skip, judged-first
 use Rattle.recording.specs.Reading.{curveOf}
 use Rattle.recording.specs.Recording.{readings, recordingLines, noRecord}
 use Rattle.recording.specs.Output.{outputLine}
-use Rattle.runset.specs.Runs.{setBytes}
+use Rattle.runs.specs.Runs.{setBytes}
 use Rattle.meaning.specs.inner.Coded.{index}
 use Rattle.question.specs.Question.{read, answer, askingLines, setLines, questionOf}
 use Rattle.degree.specs.Degree.{valueOf, targetLine, nearnessOf}

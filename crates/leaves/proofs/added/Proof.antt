@@ -2,7 +2,7 @@
 use mathlib.Core.Path.{sym, ap}
 use Rattle.grammar.specs.Syntax.{Text}
 use Rattle.grammar.specs.inner.Kinds.{DOSE}
-use Rattle.runset.specs.laws.Set.{makes-of}
+use Rattle.runs.specs.laws.Set.{makes-of}
 use Rattle.meaning.specs.inner.Coded.{coded}
 use Rattle.meaning.specs.inner.Truth.{val}
 use Rattle.leaves.specs.laws.Leaf.{leafAt}

@@ -10,7 +10,7 @@ use Rattle.grammar.specs.inner.Kinds.{GAPS, STEPS, LAG}
 use Rattle.meaning.specs.inner.Coded.{codedTimes, coded}
 use Rattle.tops.specs.Tops.{mostTops}
 use Rattle.meaning.specs.inner.Truth.{val, truth, refused9}
-use Rattle.runset.specs.laws.Set.{makes-of}
+use Rattle.runs.specs.laws.Set.{makes-of}
 use Rattle.leaves.specs.laws.Leaf.{leafAt, of-kind, few-gaps, few-steps, few-lag, past, just, under}
 use borrow.Author.Needs.{needs}
 use Rattle.leaves.proofs.apart.Statement.{statement}

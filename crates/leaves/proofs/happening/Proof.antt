@@ -1,7 +1,7 @@
 -- The times of the event that the row asks for.
 use mathlib.Core.Path.{sym}
 use Rattle.grammar.specs.Syntax.{Text}
-use Rattle.runset.specs.laws.Set.{makes-of}
+use Rattle.runs.specs.laws.Set.{makes-of}
 use Rattle.meaning.specs.inner.Coded.{coded}
 use Rattle.meaning.specs.inner.Truth.{val}
 use borrow.Author.Needs.{needs}

@@ -7,8 +7,8 @@ use mathlib.Core.List.{List}
 use lib.Dec.{leb, ltb, eqb}
 use borrow.Author.Tests.{le-leb, leb-true, eqb-true, eq-eqb, ltb-true, lt-ltb}
 use Rattle.number.specs.Axis.{axis}
-use Rattle.runset.specs.Set.{Holds, Makes}
-use Rattle.runset.specs.laws.Set.{nothing-between, everything-between, holds-ext, holds-makes}
+use Rattle.runs.specs.Set.{Holds, Makes}
+use Rattle.runs.specs.laws.Set.{nothing-between, everything-between, holds-ext, holds-makes}
 use Rattle.number.specs.laws.Boolean.{same, and-left, and-right, and-make}
 use Rattle.leaves.specs.declared.span.Span.{Span}
 use Rattle.leaves.specs.inner.Span.{Spans}

@@ -6,7 +6,7 @@ use mathlib.Core.List.{List, [], _∷_}
 use lib.Dec.{leb, ltb, eqb}
 use lib.ListN.{length, getD}
 use Rattle.number.specs.Axis.{origin}
-use Rattle.runset.specs.Runs.{runCount, mostRuns}
+use Rattle.runs.specs.Runs.{runCount, mostRuns}
 use Rattle.recording.specs.Condition.{someOf}
 use Rattle.recording.specs.Reading.{Curve, A, B, a-top, a-dip, a-crossing, an-upcrossing}
 use Rattle.grammar.specs.Syntax.{Field, of, T, Relation, ge, le, gt, lt, eq, Operand, v, number, Atom, compare, A-to-B, fall, rise, pigment, Listed, high, low, lowafter, capafter, peaks, dips, cross, crossup, dose, ampl, gaps, steps, lag, Text, atom, listed, or, and, neg, finally, globally, next, until, weakUntil}

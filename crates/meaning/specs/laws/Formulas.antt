@@ -12,7 +12,7 @@ use lib.Dec.{ltb, leb, eqb}
 use lib.ListN.{length, getD, drop}
 use borrow.Author.Tests.{ltb-true, lt-ltb, le-ltb, leb-true, leb-false, eqb-true, ne-eqb}
 use Rattle.number.specs.Axis.{axis, whole}
-use Rattle.runset.specs.Runs.{runCount, mostRuns}
+use Rattle.runs.specs.Runs.{runCount, mostRuns}
 use Rattle.recording.specs.Condition.{pick, pickFrom, when, someOf}
 use Rattle.recording.specs.Reading.{Reading, Curve, lastOfThose, turn}
 use Rattle.recording.specs.laws.Turn.{Exclusive, exclusive-swap, oneOf, turn-is, not-exclusive}

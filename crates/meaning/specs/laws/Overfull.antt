@@ -8,7 +8,7 @@ use mathlib.Core.Logic.{⊎-elim, _↔_}
 use mathlib.Core.List.{List, [], _∷_, map, List·Memᴰ, List·Memᴰ·head, List·Memᴰ·tail, List·Memᴰ·not-nil, List·Memᴰ·cases-cons, List·Memᴰ·eq-of-singleton}
 use lib.ListN.{length, length-map}
 use borrow.Author.Tests.{ltb-true, lt-ltb}
-use Rattle.runset.specs.Runs.{runCount, mostRuns}
+use Rattle.runs.specs.Runs.{runCount, mostRuns}
 use Rattle.recording.specs.Condition.{pick}
 use Rattle.recording.specs.Reading.{Reading, Curve, A, B, top, a-top}
 use Rattle.grammar.specs.Syntax.{Listed, high, low, lowafter, capafter, peaks, dips, cross, crossup, dose, ampl, gaps, steps, lag, Text, atom, listed, or, and, neg, finally, globally, next, until, weakUntil}

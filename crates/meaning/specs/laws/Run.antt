@@ -10,7 +10,7 @@ use lib.Dec.{ltb, leb, eqb}
 use lib.ListN.{length, length-append}
 use borrow.Author.Tests.{eqb-true, eq-eqb, ne-eqb, le-ltb, leb-true, le-leb}
 use Rattle.number.specs.Axis.{axis}
-use Rattle.runset.specs.Runs.{startsAt, below, runCount, mostRuns}
+use Rattle.runs.specs.Runs.{startsAt, below, runCount, mostRuns}
 use Rattle.number.specs.laws.Boolean.{and-left, and-right, and-make, or-left, or-right, or-cases}
 
 -- how many runs of f start below n

@@ -19,7 +19,7 @@ use Rattle.kept.specs.Kept.{keptFor}
 use Rattle.thin.specs.Thin.{keptBytes, thinOf}
 use Rattle.marks.specs.Marks.{marksOf, marksLine}
 use Rattle.thin.specs.laws.Model.{kept-sixteens}
-use Rattle.runset.specs.Runs.{setBytes}
+use Rattle.runs.specs.Runs.{setBytes}
 use Rattle.text.specs.Told.{textLines}
 use Rattle.meaning.specs.inner.Coded.{coded, index}
 use Rattle.question.specs.Question.{answer, read, setLines, questionOf}

@@ -15,7 +15,7 @@ use Rattle.recording.specs.Recording.{mostRecords, recordingLines, noRecord}
 use Rattle.recording.specs.Output.{outputLine}
 use Rattle.recording.specs.laws.Outcome.{judged-first, judged-skip}
 use Rattle.number.specs.laws.Order.{less-or-not}
-use Rattle.runset.specs.Runs.{setBytes}
+use Rattle.runs.specs.Runs.{setBytes}
 use Rattle.grammar.specs.inner.Parse.{parsed}
 use Rattle.grammar.specs.Size.{mostBytes}
 use Rattle.text.specs.Told.{badLength, noReading, tooLarge}

@@ -18,10 +18,10 @@ use Rattle.recording.specs.Recording as recording
 use Rattle.recording.specs.laws.Outcome.{judged-none, append-none}
 use Rattle.recording.specs.Output.{outputLine}
 use Rattle.recording.specs.R1.{R1}
-use Rattle.runset.specs.Runs.{mostRuns, runCount, setBytes}
-use Rattle.runset.specs.Set.{xor, inside, Canonical}
-use Rattle.runset.specs.laws.Cuts.{lowCuts, highCuts}
-use Rattle.runset.specs.laws.Runs.{cuts-bytes, cuts-count}
+use Rattle.runs.specs.Runs.{mostRuns, runCount, setBytes}
+use Rattle.runs.specs.Set.{xor, inside, Canonical}
+use Rattle.runs.specs.laws.Cuts.{lowCuts, highCuts}
+use Rattle.runs.specs.laws.Runs.{cuts-bytes, cuts-count}
 use Rattle.grammar.specs.Bytes.{bytes}
 use Rattle.grammar.specs.inner.Lexer.{unsignedAt, numberAt, operandAt, comparisonAt, timedAt, argumentsAt, namedAt, headedAt, leafAt}
 use Rattle.grammar.specs.inner.Parse.{parse, parsed}

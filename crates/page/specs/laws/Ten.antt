@@ -13,8 +13,8 @@ use Rattle.refusal.specs.Outcome.{Outcome, refused, Line, line, judged}
 use Rattle.recording.specs.Recording.{records, reading, readings, recordingLines, noRecord}
 use Rattle.recording.specs.Output.{outputLine}
 use Rattle.recording.specs.laws.Outcome.{judged-skip, no-result}
-use Rattle.runset.specs.Runs.{mostRuns, runCount, setBytes}
-use Rattle.runset.specs.laws.Runs.{setBytes-length}
+use Rattle.runs.specs.Runs.{mostRuns, runCount, setBytes}
+use Rattle.runs.specs.laws.Runs.{setBytes-length}
 use Rattle.grammar.specs.Syntax.{Text}
 use Rattle.text.specs.Told.{textLines}
 use Rattle.meaning.specs.inner.Coded.{Coded, code, coded}

@@ -15,10 +15,10 @@ use Rattle.number.specs.laws.Boolean.{then, back, and-left, and-right, and-make
 use Rattle.recording.specs.Recording.{readings, recordingLines, noRecord}
 use Rattle.recording.specs.Output.{counted, outputLine}
 use Rattle.recording.specs.laws.Outcome.{judged-none, append-none}
-use Rattle.runset.specs.Runs.{runCount, mostRuns, setBytes}
-use Rattle.runset.specs.laws.Runs.{setBytes-length}
+use Rattle.runs.specs.Runs.{runCount, mostRuns, setBytes}
+use Rattle.runs.specs.laws.Runs.{setBytes-length}
 use Rattle.text.specs.Told.{textLines}
-use Rattle.runset.specs.Written.{inBytes}
+use Rattle.runs.specs.Written.{inBytes}
 use Rattle.grammar.specs.Syntax.{Listed, Text, listed}
 use Rattle.meaning.specs.Listed.{Says}
 use Rattle.meaning.specs.Meaning.{Holds}

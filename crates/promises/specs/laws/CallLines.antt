@@ -20,8 +20,8 @@ use Rattle.recording.specs.Condition.{pick, someOf}
 use Rattle.recording.specs.Reading.{top, curveOf}
 use Rattle.recording.specs.Recording.{records, readings, recordingLines, noRecord, mostPigments, Accepted}
 use Rattle.recording.specs.Output.{outputLine}
-use Rattle.runset.specs.Runs.{runCount, setBytes}
-use Rattle.runset.specs.laws.Runs.{runCount-ext, setBytes-length}
+use Rattle.runs.specs.Runs.{runCount, setBytes}
+use Rattle.runs.specs.laws.Runs.{runCount-ext, setBytes-length}
 use Rattle.targets.specs.Target.{offAxis}
 use Rattle.tops.specs.Tops.{mostTops}
 use Rattle.grammar.specs.Syntax.{Text}

@@ -9,7 +9,7 @@ use lib.Seq.{take-append-seam, drop-append-seam}
 use Rattle.refusal.specs.Outcome.{Outcome, result, refused}
 use Rattle.recording.specs.Recording.{readings, recordingLines, noRecord}
 use Rattle.recording.specs.Output.{counted, outputLine}
-use Rattle.runset.specs.Runs.{setBytes}
+use Rattle.runs.specs.Runs.{setBytes}
 use Rattle.question.specs.Question.{read, answer, askingLines, setLines, questionOf}
 use Rattle.degree.specs.Degree.{Value, met, short, noValue, valueOf, targetLine, nearnessOf}
 use Rattle.meaning.specs.inner.Coded.{coded, index}

@@ -16,10 +16,10 @@ use Rattle.recording.specs.Reading.{curveOf}
 use Rattle.recording.specs.Recording.{readings, recordingLines, noRecord}
 use Rattle.recording.specs.Output.{counted, outputLine}
 use Rattle.recording.specs.laws.Outcome.{judged-pass, result-none, none-append}
-use Rattle.runset.specs.Runs.{setBytes}
-use Rattle.runset.specs.Written.{inBytes}
-use Rattle.runset.specs.laws.Runs.{setBytes-ext}
-use Rattle.runset.specs.laws.Written.{written-member, member-written}
+use Rattle.runs.specs.Runs.{setBytes}
+use Rattle.runs.specs.Written.{inBytes}
+use Rattle.runs.specs.laws.Runs.{setBytes-ext}
+use Rattle.runs.specs.laws.Written.{written-member, member-written}
 use Rattle.targets.specs.laws.Target.{sub-above, sub-below}
 use Rattle.text.specs.Told.{textLines}
 use Rattle.number.specs.laws.Boolean.{same, then}

@@ -12,7 +12,7 @@ use Rattle.refusal.specs.Outcome.{Line, line, judged, NoneMeets}
 use Rattle.recording.specs.Recording.{readings, recordingLines, noRecord, Accepted}
 use Rattle.recording.specs.Output.{outputLine}
 use Rattle.recording.specs.laws.Outcome.{judged-pass, none-append}
-use Rattle.runset.specs.Runs.{setBytes}
+use Rattle.runs.specs.Runs.{setBytes}
 use Rattle.grammar.specs.Bytes.{bytes}
 use Rattle.grammar.specs.inner.Lexer.{unsignedAt, numberAt, pigmentAt, pigmentLeafAt, operandAt, comparisonAt, timedAt, argumentsAt, namedAt, headedAt, leafAt}
 use Rattle.grammar.specs.inner.Parse.{one, parse, parsed}

@@ -22,10 +22,10 @@ use Rattle.recording.specs.R3.{R3}
 use Rattle.recording.specs.laws.Pigment.{R3-accepted}
 use Rattle.recording.specs.Reading.{Reading, A}
 use Rattle.recording.specs.Recording as recording
-use Rattle.runset.specs.Runs.{runCount, mostRuns, startsAt, runBytes, setBytes}
-use Rattle.runset.specs.Set.{inside, Ascending, Canonical}
-use Rattle.runset.specs.laws.Cuts.{lowCuts, highCuts, none, behind-run, covers, inside-covers}
-use Rattle.runset.specs.laws.Runs.{cuts-bytes, cuts-count}
+use Rattle.runs.specs.Runs.{runCount, mostRuns, startsAt, runBytes, setBytes}
+use Rattle.runs.specs.Set.{inside, Ascending, Canonical}
+use Rattle.runs.specs.laws.Cuts.{lowCuts, highCuts, none, behind-run, covers, inside-covers}
+use Rattle.runs.specs.laws.Runs.{cuts-bytes, cuts-count}
 use Rattle.grammar.specs.Bytes.{bytes}
 use Rattle.grammar.specs.inner.Lexer.{unsignedAt, numberAt, pigmentAt, pigmentLeafAt, operandAt, comparisonAt, timedAt, argumentsAt, namedAt, headedAt, leafAt}
 use Rattle.grammar.specs.inner.Parse.{one, parse, parsed}

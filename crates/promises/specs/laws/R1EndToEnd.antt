@@ -16,11 +16,11 @@ use Rattle.recording.specs.Reading.{A}
 use Rattle.recording.specs.Recording.{reading as record-reading, recordingLines, noRecord}
 use Rattle.recording.specs.Output.{outputLine}
 use Rattle.recording.specs.laws.Outcome.{judged-none, append-none}
-use Rattle.runset.specs.Runs.{runCount, mostRuns, setBytes}
-use Rattle.runset.specs.Set.{inside, Canonical}
-use Rattle.runset.specs.laws.Cuts.{lowCuts, highCuts}
-use Rattle.runset.specs.laws.Runs.{cuts-bytes, cuts-count}
-use Rattle.runset.specs.laws.Set.{run-canonical, run-inside}
+use Rattle.runs.specs.Runs.{runCount, mostRuns, setBytes}
+use Rattle.runs.specs.Set.{inside, Canonical}
+use Rattle.runs.specs.laws.Cuts.{lowCuts, highCuts}
+use Rattle.runs.specs.laws.Runs.{cuts-bytes, cuts-count}
+use Rattle.runs.specs.laws.Set.{run-canonical, run-inside}
 use Rattle.grammar.specs.Bytes.{bytes}
 use Rattle.grammar.specs.Size.{tooDeep}
 use Rattle.grammar.specs.Syntax.{Listed, lowafter, peaks, Text, listed}

@@ -14,7 +14,7 @@ use Rattle.refusal.specs.Outcome.{refused, NoneMeets}
 use Rattle.recording.specs.Condition.{someOf}
 use Rattle.recording.specs.Reading.{Reading, A, B, value, nothing}
 use Rattle.recording.specs.Recording.{reading, readings, inRange, fieldsOf, fields, lawful, firstBad, Accepted}
-use Rattle.runset.specs.laws.Cuts.{lowCuts, highCuts}
+use Rattle.runs.specs.laws.Cuts.{lowCuts, highCuts}
 use Rattle.grammar.specs.Bytes.{bytes}
 use Rattle.grammar.specs.Size.{tooDeep}
 use Rattle.grammar.specs.Syntax.{high, lowafter, listed}

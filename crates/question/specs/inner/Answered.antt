@@ -7,7 +7,7 @@ use Rattle.refusal.specs.Outcome.{Outcome, refused, judged, NoneMeets}
 use Rattle.refusal.specs.Numbers.{numberOf, placeOf}
 use Rattle.refusal.specs.declared.Refusal.{Refusal}
 use Rattle.recording.specs.Recording.{Accepted}
-use Rattle.runset.specs.Set.{Holds}
+use Rattle.runs.specs.Set.{Holds}
 use Rattle.grammar.specs.Syntax.{Text}
 use Rattle.grammar.specs.Size.{mostNodes}
 use Rattle.grammar.specs.inner.Table.{Falling}

@@ -11,9 +11,9 @@ use Rattle.refusal.specs.Outcome.{result}
 use Rattle.recording.specs.Recording.{Accepted, readings, recordingLines, noRecord}
 use Rattle.recording.specs.Output.{outputLine}
 use Rattle.recording.specs.laws.Outcome.{result-none, none-append}
-use Rattle.runset.specs.Runs.{setBytes}
-use Rattle.runset.specs.Written.{inBytes}
-use Rattle.runset.specs.laws.Written.{written-member, member-written}
+use Rattle.runs.specs.Runs.{setBytes}
+use Rattle.runs.specs.Written.{inBytes}
+use Rattle.runs.specs.laws.Written.{written-member, member-written}
 use Rattle.text.specs.Told.{textLines}
 use Rattle.meaning.specs.Meaning.{Holds}
 use Rattle.meaning.specs.laws.Recorded.{accepted-recorded}

@@ -11,7 +11,7 @@ use Rattle.refusal.specs.Numbers.{numberOf, placeOf}
 use Rattle.refusal.specs.declared.Refusal.{Refusal}
 use Rattle.refusal.specs.declared.Refusal.the-variants.{TooManyTops, TooManyRuns}
 use Rattle.recording.specs.laws.Outcome.{judged-first, judged-skip}
-use Rattle.runset.specs.Set.{Holds}
+use Rattle.runs.specs.Set.{Holds}
 use Rattle.grammar.specs.Syntax.{Text}
 use Rattle.meaning.specs.inner.Coded.{coded}
 use Rattle.meaning.specs.inner.Truth.{val, refused8, refused9}

@@ -20,9 +20,9 @@ use Rattle.recording.specs.Output.{outputLine, Answers}
 use Rattle.recording.specs.laws.Outcome.{judged-pass, judged-first, judged-none, result-none, refusal-stands, none-append, answers-refused, answers-written}
 use Rattle.recording.specs.declared.Written.{Written}
 use Rattle.recording.specs.declared.Written.the-variants as written
-use Rattle.runset.specs.Runs.{runCount, setBytes}
-use Rattle.runset.specs.laws.Runs.{setBytes-ext, setBytes-length}
-use Rattle.runset.specs.Set.{member}
+use Rattle.runs.specs.Runs.{runCount, setBytes}
+use Rattle.runs.specs.laws.Runs.{setBytes-ext, setBytes-length}
+use Rattle.runs.specs.Set.{member}
 use Rattle.runset.specs.declared.RunSet.{RunSet}
 use Rattle.grammar.specs.Syntax.{Text}
 use Rattle.grammar.specs.Size.{tooDeep, mostNodes}

@@ -14,8 +14,8 @@ use Rattle.recording.specs.Recording.{records, recordingLines, noRecord}
 use Rattle.recording.specs.Output.{outputLine}
 use Rattle.recording.specs.laws.Outcome.{result-none, none-append}
 use Rattle.recording.specs.laws.Record.{length-records}
-use Rattle.runset.specs.Runs.{runCount, mostRuns, setBytes}
-use Rattle.runset.specs.laws.Runs.{setBytes-length}
+use Rattle.runs.specs.Runs.{runCount, mostRuns, setBytes}
+use Rattle.runs.specs.laws.Runs.{setBytes-length}
 use Rattle.grammar.specs.Syntax.{Text, atom, listed, or, and, neg, finally, globally, next, until, weakUntil}
 use Rattle.text.specs.Told.{textLines}
 use Rattle.meaning.specs.inner.Coded.{Coded, coded}

@@ -1,6 +1,6 @@
 -- Each number stands for one operation.
-use Rattle.runset.specs.Set.{member}
-use Rattle.runset.specs.laws.Set.{makes-ext}
+use Rattle.runs.specs.Set.{member}
+use Rattle.runs.specs.laws.Set.{makes-ext}
 use Rattle.runset_c.specs.Bytes.{chosen}
 use Rattle.runset_c.proofs.Delivery.{chosen-or, chosen-and, chosen-not, chosen-else}
 use borrow.Author.Needs.{needs}

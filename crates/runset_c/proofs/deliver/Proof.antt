@@ -1,6 +1,6 @@
 -- Over, short or written, by the number of runs.
 use native.Mathlib.Omega.{arith}
-use Rattle.runset.specs.laws.Set.{valid-count}
+use Rattle.runs.specs.laws.Set.{valid-count}
 use Rattle.runset_c.proofs.Delivery.{delivered-over, delivered-short, delivered-set}
 use borrow.Author.Needs.{needs}
 use Rattle.runset_c.proofs.deliver.Statement.{statement}

@@ -4,7 +4,7 @@ use mathlib.Core.Path.{_≡_, sym, _∙_}
 use mathlib.Core.Bool.{false}
 use native.Mathlib.Omega.{arith}
 use lib.ListN.{length}
-use Rattle.runset.specs.Set.{Holds}
+use Rattle.runs.specs.Set.{Holds}
 use Rattle.runset_c.specs.Bytes.{inRuns, unfitRuns}
 use Rattle.runset_c.proofs.Loading.{no-runs, next-over, next-runs, loaded-over, loaded-all}
 use Rattle.runset_c.proofs.load.Statement.{statement}

@@ -4,7 +4,7 @@ use mathlib.Core.Path.{_≡_, refl, ap, _∙_}
 use mathlib.Core.Bool.{false}
 use native.Mathlib.Omega.{arith}
 use lib.ListN.{length}
-use Rattle.runset.specs.Set.{member, slotWords, sharedWords}
+use Rattle.runs.specs.Set.{member, slotWords, sharedWords}
 use Rattle.runset_c.specs.Bytes.{chosen, repeatReply}
 use Rattle.runset_c.proofs.Repetition.{no-turn, over-reply, empty-reply, one-more}
 use native.Mathlib.Nat.{mod-lt}

@@ -1,7 +1,7 @@
 -- What `distance` says of the loaded set.
 use mathlib.Core.Path.{sym, _∙_}
 use Rattle.runset_c.proofs.Delivery.{distance-refused, distance-off, distance-said}
-use Rattle.runset.specs.laws.Distance.{at-distance, nothing-distance}
+use Rattle.runs.specs.laws.Distance.{at-distance, nothing-distance}
 use borrow.Author.Needs.{needs}
 use Rattle.runset_c.proofs.runset_distance.Statement.{statement}
 use Rattle.runset_c.proofs.runset_distance.Tie as tie

@@ -5,8 +5,8 @@ use Prim.Native.Nat.{ℕ, _<_}
 use native.Mathlib.Omega.{arith}
 use Rattle.grammar.specs.inner.Kinds.{FINALLY, GLOBALLY, NEXT}
 use Rattle.grammar.specs.inner.Table.{unaryFrom}
-use Rattle.runset.specs.Set.{member}
-use Rattle.runset.specs.laws.Set.{holds-makes, makes-ext}
+use Rattle.runs.specs.Set.{member}
+use Rattle.runs.specs.laws.Set.{holds-makes, makes-ext}
 use Rattle.evaluation.specs.inner.Step.{unaryOf, binaryOf}
 use Rattle.evaluation.specs.laws.Step.{child-at-last, last-of-four, until-or-weak}
 use borrow.Author.Needs.{needs}

@@ -3,7 +3,7 @@ use mathlib.Core.Path.{sym, subst}
 use Prim.Native.Nat.{ℕ}
 use mathlib.Core.List.{List}
 use lib.Seq.{length-take-le}
-use Rattle.runset.specs.laws.Set.{makes-of}
+use Rattle.runs.specs.laws.Set.{makes-of}
 use Rattle.differences.specs.inner.Times.{Times, momentsOf}
 use Rattle.leaves.specs.laws.Stamp.{addition-times, additions-room}
 use borrow.Author.Needs.{needs}

@@ -5,7 +5,7 @@ use Prim.Native.Nat.{ℕ}
 use mathlib.Core.List.{List}
 use lib.Seq.{length-take-le}
 use Rattle.meaning.specs.inner.Coded.{coded}
-use Rattle.runset.specs.laws.Set.{makes-of}
+use Rattle.runs.specs.laws.Set.{makes-of}
 use Rattle.differences.specs.inner.Times.{Times, momentsOf}
 use Rattle.leaves.specs.laws.Stamp.{event-times, events-few}
 use Rattle.leaves.specs.laws.Leaf.{times-are}

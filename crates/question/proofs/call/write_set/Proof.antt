@@ -2,8 +2,8 @@
 use mathlib.Core.Path.{ap}
 use Prim.Native.Nat.{ℕ, _*_}
 use native.Mathlib.Omega.{arith}
-use Rattle.runset.specs.Set.{member}
-use Rattle.runset.specs.laws.Set.{valid-count}
+use Rattle.runs.specs.Set.{member}
+use Rattle.runs.specs.laws.Set.{valid-count}
 use Rattle.question.specs.laws.Call.{write-short, write-whole}
 use borrow.Author.Needs.{needs}
 use Rattle.question.proofs.call.write_set.Statement.{statement}

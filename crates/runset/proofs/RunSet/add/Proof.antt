@@ -1,7 +1,6 @@
 -- The last run goes on, or two cuts more, or there is no room for them.
 use native.Mathlib.Omega.{arith}
-use lib.ListN.{length-set}
-use Rattle.runset.specs.laws.Added.{joins, full, room, added}
+use Rattle.runs.specs.laws.Added.{joins, full, room, added}
 use borrow.Author.Needs.{needs}
 use Rattle.runset.proofs.RunSet.add.Statement.{statement}
 use Rattle.runset.proofs.RunSet.add.Tie as tie
@@ -39,38 +38,22 @@ same-length-2 c = search needs
 returns-2 : tie.Need-returns-2
 returns-2 c = let s = c .before .before .before .before .before .before .before in full (s .args .set .now) (s .pre .0) (s .args .low) (s .args .high) (s .pre .2) (s .pre .3) (s .pre .1) _ (c .before .before .before .before .cuts-in .ensures) (c .before .before .ends-at .ensures .1 (c .before .if1 .left)) (c .if2 .taken)
 
-mul-set-2 : tie.Need-mul-set-2
-mul-set-2 c = search needs
-
-slice-write-set-2 : tie.Need-slice-write-set-2
-slice-write-set-2 c = search needs
-
-add-set-2 : tie.Need-add-set-2
-add-set-2 c = search needs
-
-add-set-3 : tie.Need-add-set-3
-add-set-3 c = search needs
-
-mul-set-3 : tie.Need-mul-set-3
-mul-set-3 c = search needs
-
-slice-write-set-3 : tie.Need-slice-write-set-3
-slice-write-set-3 c = let s = c .before .before .before .before .before .before .before in simp length-set (omega (arith, s .pre .0 .size, room (s .args .set .now) (s .pre .0) (s .args .low) (s .args .high) (s .pre .2) (s .pre .3) (s .pre .1) _ (c .before .before .before .before .cuts-in .ensures) (c .before .before .ends-at .ensures .1 (c .before .if1 .left)) (c .if2 .left)))
-
-add-set-4 : tie.Need-add-set-4
-add-set-4 c = search needs
-
-cast-set : tie.Need-cast-set
-cast-set c = search needs
-
-slice-write-set-4 : tie.Need-slice-write-set-4
-slice-write-set-4 c = search needs
+put-run-requires : tie.Need-put-run-requires
+put-run-requires c κs =
+    let s = c .before .before .before .before .before .before .before .before in (
+      s .pre .0 .size,
+      room (s .args .set .now) (s .pre .0) (s .args .low) (s .args .high) (s .pre .2) (s .pre .3) (s .pre .1) _ (c .before .before .before .before .before .cuts-in .ensures) (c .before .before .before .ends-at .ensures .1 (c .before .before .if1 .left)) (c .before .if2 .left),
+      s .pre .3,
+    )
 
 same-length-3 : tie.Need-same-length-3
 same-length-3 c = search needs
 
 returns-3 : tie.Need-returns-3
-returns-3 c = let s = c .before .before .before .before .before .before .before in added (s .args .set .now) (s .pre .0) (s .args .low) (s .args .high) (s .pre .2) (s .pre .3) (s .pre .1) _ (c .before .before .before .before .cuts-in .ensures) (c .before .before .ends-at .ensures .1 (c .before .if1 .left)) (c .if2 .left)
+returns-3 c =
+    let s = c .before .before .before .before .before .before .before .before .before .before .before in
+    added (s .args .set .now) (s .pre .0) (s .args .low) (s .args .high) (s .pre .2) (s .pre .3) (s .pre .1) _ (c .before .before .before .before .before .before .before .before .cuts-in .ensures)
+    (c .before .before .before .before .before .before .ends-at .ensures .1 (c .before .before .before .before .before .if1 .left)) (c .before .before .before .before .if2 .left) _ (c .before .before .put-run .ensures)
 
 pub add-spec : {M : Type 1} → statement M
 add-spec =
@@ -86,14 +69,6 @@ add-spec =
     returns
     same-length-2
     returns-2
-    mul-set-2
-    slice-write-set-2
-    add-set-2
-    add-set-3
-    mul-set-3
-    slice-write-set-3
-    add-set-4
-    cast-set
-    slice-write-set-4
+    put-run-requires
     same-length-3
     returns-3)

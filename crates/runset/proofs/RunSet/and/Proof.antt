@@ -1,12 +1,12 @@
 -- The operation on the members, by the walk along the cuts.
-use mathlib.Core.Path.{_≡_, refl, sym, ap, subst, _∙_}
+use mathlib.Core.Path.{sym, subst}
 use mathlib.Core.Bool.{_&&_}
 use Prim.Native.Nat.{_≤_}
 use mathlib.Core.List.{List}
 use Prim.Native.Nat.{ℕ}
 use lib.ListN.{length}
-use Rattle.runset.specs.Set.{member, sharedWords, Canonical}
-use Rattle.runset.specs.laws.Set.{valid-short, makes-lists}
+use Rattle.runs.specs.Set.{member, sharedWords, Canonical}
+use Rattle.runs.specs.laws.Set.{valid-short, makes-lists}
 use borrow.Author.Needs.{needs}
 use Rattle.runset.proofs.RunSet.and.Statement.{statement}
 use Rattle.runset.proofs.RunSet.and.Tie as tie

@@ -1,12 +1,11 @@
 -- Cut by cut: the first i are the same.
-use Prim.Native.Nat.{ℕ, _-_, _*_, _≤_}
-use mathlib.Core.Path.{_≡_, refl, sym, ap, subst, _∙_}
+use Prim.Native.Nat.{ℕ, _-_, _≤_}
+use mathlib.Core.Path.{_≡_, refl, sym, ap, _∙_}
 use native.Mathlib.Omega.{arith}
 use lib.ListN.{length, getD, take, set, length-set}
 use lib.Seq.{getD-set-same, take-set-le}
-use Rattle.runset.specs.Runs.{mostRuns}
-use Rattle.runset.specs.Set.{cutsOf, member}
-use Rattle.runset.specs.laws.Set.{held, cuts-length, one-more}
+use Rattle.runs.specs.Set.{cutsOf, member}
+use Rattle.runs.specs.laws.Set.{held, cuts-length, one-more}
 use borrow.Author.Needs.{needs}
 use Rattle.runset.proofs.RunSet.copy.Statement.{statement}
 use Rattle.runset.proofs.RunSet.copy.Tie as tie

@@ -1,6 +1,6 @@
 -- Two cuts for each run.
 use native.Mathlib.Omega.{arith}
-use Rattle.runset.specs.laws.Set.{valid-cuts}
+use Rattle.runs.specs.laws.Set.{valid-cuts}
 use borrow.Author.Needs.{needs}
 use Rattle.runset.proofs.RunSet.count.Statement.{statement}
 use Rattle.runset.proofs.RunSet.count.Tie as tie

@@ -1,14 +1,14 @@
 -- The invariant: d is the least distance to the runs from place i on.
-use Prim.Native.Nat.{ℕ, _+_, _-_, _*_, _≤_, _<_, _%_}
-use mathlib.Core.Path.{_≡_, refl, sym, ap, subst, _∙_}
+use Prim.Native.Nat.{ℕ, _+_, _-_, _*_, _≤_, _%_}
+use mathlib.Core.Path.{_≡_, sym, ap, subst, _∙_}
 use mathlib.Core.Bool.{false}
 use native.Mathlib.Omega.{arith}
-use lib.ListN.{length, drop, getD}
-use Rattle.runset.specs.Runs.{mostRuns}
-use Rattle.runset.specs.Set.{cutsOf, member}
-use Rattle.runset.specs.inner.Gap.{gapTo, nearerOf}
-use Rattle.runset.specs.laws.Set.{cuts-there, valid-cuts}
-use Rattle.runset.proofs.Nearness.{Reaches, two-ascend, next-reach, first-reach, nearest-at, nearest-nothing}
+use lib.ListN.{drop, getD}
+use Rattle.runs.specs.Runs.{mostRuns}
+use Rattle.runs.specs.Set.{cutsOf, member}
+use Rattle.slot.specs.inner.Gap.{gapTo, nearerOf}
+use Rattle.runs.specs.laws.Set.{cuts-there, valid-cuts}
+use Rattle.slot.specs.laws.Nearness.{Reaches, two-ascend, next-reach, first-reach, nearest-at, nearest-nothing}
 use borrow.Author.Needs.{needs}
 use Rattle.runset.proofs.RunSet.distance.Statement.{statement}
 use Rattle.runset.proofs.RunSet.distance.Tie as tie

@@ -1,9 +1,9 @@
 -- No cut.
 use lib.ListN.{length-set}
 use lib.Seq.{getD-set-same}
-use mathlib.Core.Path.{_≡_, refl, sym, ap, subst, _∙_}
+use mathlib.Core.Path.{_∙_}
 use native.Mathlib.Omega.{arith}
-use Rattle.runset.specs.laws.Set.{nothing-held}
+use Rattle.runs.specs.laws.Set.{nothing-held}
 use borrow.Author.Needs.{needs}
 use Rattle.runset.proofs.RunSet.empty.Statement.{statement}
 use Rattle.runset.proofs.RunSet.empty.Tie as tie

@@ -6,11 +6,10 @@ use mathlib.Core.List.{List}
 use native.Mathlib.Omega.{arith}
 use lib.Dec.{leb}
 use lib.ListN.{length, take, drop, getD}
-use Rattle.runset.specs.Runs.{mostRuns}
-use Rattle.runset.specs.Set.{xor, cutsOf, inside, member}
-use Rattle.runset.specs.laws.Cuts.{xor-false, xor-assoc, none}
-use Rattle.runset.specs.laws.Merge.{front, all-passed}
-use Rattle.runset.specs.laws.Set.{cuts-there}
+use Rattle.runs.specs.Runs.{mostRuns}
+use Rattle.runs.specs.Set.{xor, cutsOf, inside, member}
+use Rattle.runs.specs.laws.Cuts.{xor-false, xor-assoc, none, front, all-passed}
+use Rattle.runs.specs.laws.Set.{cuts-there}
 use borrow.Author.Needs.{needs}
 use Rattle.runset.proofs.RunSet.has.Statement.{statement}
 use Rattle.runset.proofs.RunSet.has.Tie as tie

@@ -1,8 +1,7 @@
 -- The second cut of the run lies one above its highest number.
 use native.Mathlib.Omega.{arith}
-use Rattle.runset.specs.laws.Set.{valid-cuts}
+use Rattle.runs.specs.laws.Set.{valid-cuts}
 use Rattle.runset.proofs.Reading.{run}
-use borrow.Author.Needs.{needs}
 use Rattle.runset.proofs.RunSet.high.Statement.{statement}
 use Rattle.runset.proofs.RunSet.high.Tie as tie
 

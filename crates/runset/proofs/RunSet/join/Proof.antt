@@ -1,12 +1,12 @@
 -- The joining of the cuts.
-use mathlib.Core.Path.{_≡_, refl, sym, ap, subst, _∙_}
+use mathlib.Core.Path.{sym, subst}
 use Prim.Native.Nat.{_≤_}
 use mathlib.Core.List.{List}
 use Prim.Native.Nat.{ℕ}
 use lib.ListN.{length}
-use Rattle.runset.specs.Set.{member, sharedWords, Canonical}
-use Rattle.runset.specs.laws.Set.{valid-short}
-use Rattle.runset.specs.laws.Join.{joins-lists}
+use Rattle.runs.specs.Set.{member, sharedWords, Canonical}
+use Rattle.runs.specs.laws.Set.{valid-short}
+use Rattle.join.specs.laws.Join.{joins-lists}
 use borrow.Author.Needs.{needs}
 use Rattle.runset.proofs.RunSet.join.Statement.{statement}
 use Rattle.runset.proofs.RunSet.join.Tie as tie

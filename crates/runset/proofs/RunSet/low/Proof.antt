@@ -1,8 +1,7 @@
 -- The first cut of the run.
 use native.Mathlib.Omega.{arith}
-use Rattle.runset.specs.laws.Set.{valid-cuts}
+use Rattle.runs.specs.laws.Set.{valid-cuts}
 use Rattle.runset.proofs.Reading.{run}
-use borrow.Author.Needs.{needs}
 use Rattle.runset.proofs.RunSet.low.Statement.{statement}
 use Rattle.runset.proofs.RunSet.low.Tie as tie
 

@@ -1,12 +1,12 @@
 -- What is in the whole axis or in the set, and not in both.
-use mathlib.Core.Path.{_≡_, refl, sym, ap, subst, _∙_}
+use mathlib.Core.Path.{refl, sym, ap, subst}
 use native.Mathlib.Omega.{arith}
 use mathlib.Core.Bool.{Bool, not}
 use mathlib.Core.List.{List}
 use Prim.Native.Nat.{ℕ, _≤_}
 use lib.ListN.{length}
-use Rattle.runset.specs.Set.{xor, cutsOf, inside, member, sharedWords, Canonical}
-use Rattle.runset.specs.laws.Set.{valid-short, axis-canonical, axis-inside, makes-ext, makes-lists}
+use Rattle.runs.specs.Set.{xor, cutsOf, inside, member, sharedWords, Canonical}
+use Rattle.runs.specs.laws.Set.{valid-short, axis-canonical, axis-inside, makes-ext, makes-lists}
 use borrow.Author.Needs.{needs}
 use Rattle.runset.proofs.RunSet.not.Statement.{statement}
 use Rattle.runset.proofs.RunSet.not.Tie as tie

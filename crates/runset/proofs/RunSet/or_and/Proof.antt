@@ -6,8 +6,9 @@ use mathlib.Core.List.{List}
 use Prim.Native.Nat.{ℕ, _+_, _≤_}
 use lib.ListN.{length, length-take}
 use lib.Seq.{length-take-le}
-use Rattle.runset.specs.Set.{cutsOf, inside, member, sharedWords, Canonical}
-use Rattle.runset.specs.laws.Set.{cuts-length, valid-short, shared-there, shared-short, shared-canonical, shared-members, makes-ext, makes-lists}
+use Rattle.runs.specs.Set.{cutsOf, inside, member, sharedWords, Canonical}
+use Rattle.runs.specs.laws.Set.{cuts-length, valid-short, makes-ext, makes-lists}
+use Rattle.merge.specs.laws.Made.{shared-there, shared-short, shared-canonical, shared-members}
 use borrow.Author.Needs.{needs}
 use Rattle.runset.proofs.RunSet.or_and.Statement.{statement}
 use Rattle.runset.proofs.RunSet.or_and.Tie as tie

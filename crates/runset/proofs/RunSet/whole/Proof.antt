@@ -1,6 +1,5 @@
 -- All numbers of the axis.
-use mathlib.Core.Path.{_≡_, refl, sym, ap, subst, _∙_}
-use Rattle.runset.specs.laws.Set.{everything-between, holds-ext}
+use Rattle.runs.specs.laws.Set.{everything-between, holds-ext}
 use borrow.Author.Needs.{needs}
 use Rattle.runset.proofs.RunSet.whole.Statement.{statement}
 use Rattle.runset.proofs.RunSet.whole.Tie as tie

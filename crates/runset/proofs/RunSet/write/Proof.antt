@@ -1,15 +1,13 @@
 -- The invariant: the first i runs stand in front of what was there.
-use Prim.Native.Nat.{ℕ, _+_, _-_, _*_, _≤_, _<_}
-use mathlib.Core.Path.{_≡_, refl, ap, _∙_}
+use Prim.Native.Nat.{_-_, _*_, _≤_, _<_}
+use mathlib.Core.Path.{_≡_, refl, _∙_}
 use mathlib.Core.List.{_++_}
 use native.Mathlib.Omega.{arith}
-use lib.ListN.{length, drop, getD}
-use Rattle.number.specs.Axis.{axis, whole}
-use Rattle.number.specs.Words.{bits}
-use Rattle.number.specs.laws.Words.{put-length}
-use Rattle.runset.specs.Runs.{runCount, lows, highs}
-use Rattle.runset.specs.Set.{member}
-use Rattle.runset.proofs.Reading.{RunAt, run, front, next-run, all-runs}
+use lib.ListN.{length, drop}
+use Rattle.runs.specs.Runs.{runCount}
+use Rattle.runs.specs.Set.{member}
+use Rattle.slot.specs.laws.Bytes.{put-length}
+use Rattle.runset.proofs.Reading.{run, front, next-run, all-runs}
 use borrow.Author.Needs.{needs}
 use Rattle.runset.proofs.RunSet.write.Statement.{statement}
 use Rattle.runset.proofs.RunSet.write.Tie as tie
@@ -20,47 +18,25 @@ Inv-loop set out₀ n i₀ out i = (i ≤ n) × (length out ≡ length out₀) �
 abbrev μ-loop : tie.MeasureT-loop
 μ-loop set out₀ n i₀ out i = n - i
 
--- run i, where the loop stands
-this-run : (s : tie.Start Inv-loop μ-loop) (i : ℕ) → i < runCount (member (s .args .set .now))
-    → RunAt axis (s .args .set .now) (lows (member (s .args .set .now))) (highs (member (s .args .set .now))) i
-this-run s i h = run (s .args .set .now) (s .pre .0) i h
-
 count-requires : tie.Need-count-requires Inv-loop μ-loop
 count-requires c κs = search needs
 
 loop-holds : tie.Need-loop-holds Inv-loop μ-loop
 loop-holds c = (omega arith, refl, refl)
 
-mul-put-word : tie.Need-mul-put-word Inv-loop μ-loop
-mul-put-word c = search needs
-
 low-requires : tie.Need-low-requires Inv-loop μ-loop
 low-requires c κs = let s = c .before .before .before .before .before .before in (s .pre .0, omega (arith, c .before .before .before .count .ensures, c .before .loop-test .taken))
 
-bits-at-requires : tie.Need-bits-at-requires Inv-loop μ-loop
-bits-at-requires c κs = let r = this-run (c .before .before .before .before .before .before .before) (c .before .before .before .loop .i) (omega (arith, c .before .before .before .before .count .ensures, c .before .before .loop-test .taken)) in omega (arith, c .low .ensures, r .order, r .top)
-
-put-word-requires : tie.Need-put-word-requires Inv-loop μ-loop
-put-word-requires c κs = let s = c .before .before .before .before .before .before .before .before in omega (arith, c .before .before .before .before .before .count .ensures, c .before .before .before .loop-test .taken, s .pre .1, c .before .before .before .before .loop .inv .1)
-
-mul-put-word-2 : tie.Need-mul-put-word-2 Inv-loop μ-loop
-mul-put-word-2 c = search needs
-
-add-put-word : tie.Need-add-put-word Inv-loop μ-loop
-add-put-word c = search needs
-
 high-requires : tie.Need-high-requires Inv-loop μ-loop
-high-requires c κs = let s = c .before .before .before .before .before .before .before .before .before .before .before .before in (s .pre .0, omega (arith, c .before .before .before .before .before .before .before .before .before .count .ensures, c .before .before .before .before .before .before .before .loop-test .taken))
+high-requires c κs = let s = c .before .before .before .before .before .before .before in (s .pre .0, omega (arith, c .before .before .before .before .count .ensures, c .before .before .loop-test .taken))
 
-bits-at-requires-2 : tie.Need-bits-at-requires-2 Inv-loop μ-loop
-bits-at-requires-2 c κs = let r = this-run (c .before .before .before .before .before .before .before .before .before .before .before .before .before) (c .before .before .before .before .before .before .before .before .before .loop .i) (omega (arith, c .before .before .before .before .before .before .before .before .before .before .count .ensures, c .before .before .before .before .before .before .before .before .loop-test .taken)) in omega (arith, c .high .ensures, r .top)
-
-put-word-requires-2 : tie.Need-put-word-requires-2 Inv-loop μ-loop
-put-word-requires-2 c κs =
-    let l = c .before .before .before .before .before .before .before .before .before .before .loop in
-    let s = c .before .before .before .before .before .before .before .before .before .before .before .before .before .before in
-    let room : 8 * l .i + 8 ≤ length (l .out) = omega (arith, c .before .before .before .before .before .before .before .before .before .before .before .count .ensures, c .before .before .before .before .before .before .before .before .before .loop-test .taken, s .pre .1, l .inv .1) in
-    omega (arith, put-length (l .out) _ (8 * l .i) _ (omega arith) (c .before .before .before .before .before .put-word .ensures))
+put-bytes-requires : tie.Need-put-bytes-requires Inv-loop μ-loop
+put-bytes-requires c κs =
+    let s = c .before .before .before .before .before .before .before .before in
+    let l = c .before .before .before .before .loop in
+    let h : l .i < runCount (member (s .args .set .now)) = omega (arith, c .before .before .before .before .before .count .ensures, c .before .before .before .loop-test .taken) in
+    let r = run (s .args .set .now) (s .pre .0) (l .i) h in
+    (omega (arith, s .pre .1, l .inv .1), omega (arith, c .before .low .ensures, r .order, r .top), omega (arith, c .high .ensures, r .top))
 
 add-i : tie.Need-add-i Inv-loop μ-loop
 add-i c = search needs
@@ -70,18 +46,13 @@ loop-less c = search needs
 
 loop-again : tie.Need-loop-again Inv-loop μ-loop
 loop-again c =
-    let l = c .before .before .before .before .before .before .before .before .before .before .before .before .before .loop in
-    let s = c .before .before .before .before .before .before .before .before .before .before .before .before .before .before .before .before .before in
-    let h : l .i < runCount (member (s .args .set .now)) = omega (arith, c .before .before .before .before .before .before .before .before .before .before .before .before .before .before .count .ensures, c .before .before .before .before .before .before .before .before .before .before .before .before .loop-test .taken) in
-    let room : 8 * l .i + 8 ≤ length (l .out) = omega (arith, s .pre .1, l .inv .1) in
-    let once = c .before .before .before .before .before .before .before .before .put-word .ensures in
-    let twice = c .before .before .put-word2 .ensures in
-    let same = put-length (l .out) _ (8 * l .i) _ (omega arith) once in (
-      omega (arith, c .before .before .before .before .before .before .before .before .before .before .before .before .loop-test .taken),
-      put-length (c .before .before .before .before .before .before .before .before .put-word .last .0) _ (8 * l .i + 4) _ (omega arith) twice ∙ same ∙ l .inv .1,
-      next-run (member (s .args .set .now)) (l .i) _ (l .out) _ _ _ _ h (l .inv .2)
-          (c .before .before .before .before .before .before .before .before .before .bits-at .ensures ∙ ap (λ (k : ℕ). bits (whole k)) (c .before .before .before .before .before .before .before .before .before .before .low .ensures))
-          (c .before .before .before .bits-at2 .ensures ∙ ap (λ (k : ℕ). bits (whole k)) (c .before .before .before .before .high .ensures)) once twice,
+    let l = c .before .before .before .before .before .before .before .loop in
+    let s = c .before .before .before .before .before .before .before .before .before .before .before in
+    let h : l .i < runCount (member (s .args .set .now)) = omega (arith, c .before .before .before .before .before .before .before .before .count .ensures, c .before .before .before .before .before .before .loop-test .taken) in
+    let put = c .before .before .put-bytes .ensures in (
+      omega (arith, c .before .before .before .before .before .before .loop-test .taken),
+      put-length (l .out) _ (8 * l .i) (c .before .before .before .before .low .result) (c .before .before .before .high .result) (omega (arith, s .pre .1, l .inv .1)) put ∙ l .inv .1,
+      next-run (member (s .args .set .now)) (l .i) _ (l .out) _ _ _ h (l .inv .2) (c .before .before .before .before .low .ensures) (c .before .before .before .high .ensures) put,
     )
 
 same-length : tie.Need-same-length Inv-loop μ-loop
@@ -101,15 +72,9 @@ write-spec =
     μ-loop
     count-requires
     loop-holds
-    mul-put-word
     low-requires
-    bits-at-requires
-    put-word-requires
-    mul-put-word-2
-    add-put-word
     high-requires
-    bits-at-requires-2
-    put-word-requires-2
+    put-bytes-requires
     add-i
     loop-less
     loop-again

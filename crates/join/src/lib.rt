@@ -1,0 +1,132 @@
+// Joining two sets: each run of the result is stored once, where it belongs, when it closes.
+ghost use mathlib.Core.Path.{_≡_};
+ghost use mathlib.Core.Bool.{true, false, _||_};
+ghost use Prim.Native.Nat.{_+_, _*_, _≤_, _<_, max};
+ghost use lib.ListN.{length};
+ghost use Rattle.runs.specs.Runs.{mostRuns};
+ghost use Rattle.runs.specs.Set.{inside, slotWords, sharedWords, Canonical};
+ghost use Rattle.join.specs.inner.Join.{Rest, Next, withRun, Joins};
+use runs::MOST_RUNS;
+use slot::CUTS;
+
+// A run, the numbers from low on and before end, and the places behind it in both lists.
+struct Head {
+    low: u32,
+    end: u32,
+    i: usize,
+    j: usize,
+}
+
+// Whether the result has too many runs; else how many runs were stored.
+pub struct Joined {
+    pub over: bool,
+    pub stores: usize,
+}
+
+// Of the runs from place i of a and from place j of b on the one that begins first.
+fn next(a: &[u32], i: usize, b: &[u32], j: usize) -> Head
+    requires { ⌜ Rest 0 (now a) i × Rest 0 (now b) j × (i + j < length (now a) + length (now b)) × (length (now a) ≤ sharedWords) × (length (now b) ≤ sharedWords) ⌝ }
+    ensures { λ r. ⌜ Next (now (a .entry)) i (now (b .entry)) j r ⌝ }
+{
+    if i == a.len() {
+        return Head {
+            low: b[j],
+            end: b[j + 1],
+            i,
+            j: j + 2,
+        };
+    }
+    if j == b.len() {
+        return Head {
+            low: a[i],
+            end: a[i + 1],
+            i: i + 2,
+            j,
+        };
+    }
+    if a[i] < b[j] {
+        return Head {
+            low: a[i],
+            end: a[i + 1],
+            i: i + 2,
+            j,
+        };
+    }
+    Head {
+        low: b[j],
+        end: b[j + 1],
+        i,
+        j: j + 2,
+    }
+}
+
+fn greater(x: u32, y: u32) -> u32
+    ensures { λ r. ⌜ r ≡ max x y ⌝ }
+{
+    if x < y { y } else { x }
+}
+
+// Stores a run as run number `at`, and counts the store: no other function writes a run of the result. `at` runs were stored before it.
+fn store(set: &mut [u32], at: usize, low: u32, end: u32, stores: &mut usize)
+    requires { ⌜ (length (now set) ≡ slotWords) × (at < mostRuns) × (now stores ≡ at) ⌝ }
+    ensures { λ r. ⌜ (now (set .exit) ≡ withRun (now (set .entry)) at low end) × (now (stores .exit) ≡ now (stores .entry) + 1) ⌝ }
+{
+    set[2 * at] = low;
+    set[2 * at + 1] = end;
+    *stores += 1;
+}
+
+// Closes a run: it is stored once.
+fn close(set: &mut [u32], at: usize, run: Head, stores: &mut usize)
+    requires { ⌜ (length (now set) ≡ slotWords) × (at < mostRuns) × (now stores ≡ at) ⌝ }
+    ensures { λ r. ⌜ (now (set .exit) ≡ withRun (now (set .entry)) at (run .low) (run .end)) × (now (stores .exit) ≡ now (stores .entry) + 1) ⌝ }
+{
+    store(set, at, run.low, run.end, stores);
+}
+
+// What is in a or in b.
+pub fn join(a: &[u32], b: &[u32], set: &mut [u32]) -> Joined
+    requires { ⌜ Canonical (now a) × Canonical (now b) × (length (now a) ≤ sharedWords) × (length (now b) ≤ sharedWords) × (length (now set) ≡ slotWords) ⌝ }
+    ensures { λ r. ⌜ Joins (λ v. inside (now (a .entry)) v || inside (now (b .entry)) v) (now (set .exit)) r ⌝ }
+{
+    let all = a.len() + b.len();
+    if all == 0 {
+        set[CUTS] = 0;
+        return Joined {
+            over: false,
+            stores: 0,
+        };
+    }
+    let mut run = next(a, 0, b, 0);
+    let mut n: usize = 0;
+    let mut stores: usize = 0;
+    while run.i + run.j < all {
+        let r = next(a, run.i, b, run.j);
+        if r.low <= run.end {
+            let low = run.low;
+            let end = greater(run.end, r.end);
+            run = Head {
+                low,
+                end,
+                i: r.i,
+                j: r.j,
+            };
+        } else {
+            if n == MOST_RUNS {
+                return Joined { over: true, stores };
+            }
+            close(set, n, run, &mut stores);
+            n += 1;
+            run = r;
+        }
+    }
+    if n == MOST_RUNS {
+        return Joined { over: true, stores };
+    }
+    close(set, n, run, &mut stores);
+    set[CUTS] = (2 * n + 2) as u32;
+    Joined {
+        over: false,
+        stores,
+    }
+}

@@ -1,0 +1,45 @@
+-- The cuts of an operation on two sets, by one walk along both lists, and what the functions of the walk promise.
+use Prim.Native.Nat.{ℕ, _+_, _≤_, _<_}
+use mathlib.Core.Path.{_≡_}
+use mathlib.Core.Bool.{Bool, true, false, not, _&&_}
+use mathlib.Core.List.{List, [], _∷_, _++_}
+use lib.Dec.{ltb}
+use lib.ListN.{length, drop}
+use Rattle.runs.specs.Set.{xor}
+use Rattle.runs.specs.inner.Emit.{emit}
+use Rattle.merge.specs.declared.walk.Op.{Op}
+use Rattle.merge.specs.declared.walk.Op.the-variants.{And, Xor}
+use Rattle.merge.specs.declared.walk.Step.{Step}
+use Rattle.merge.specs.declared.walk.Filled.{Filled}
+
+abbrev pub opOf : Op → Bool → Bool → Bool
+opOf And p q = p && q
+opOf Xor p q = xor p q
+
+-- the cuts of f of two sets, p and q being the membership before the cuts
+unfoldable pub mergeCuts : (Bool → Bool → Bool) → Bool → Bool → List ℕ → List ℕ → List ℕ
+mergeCuts f p q [] [] = []
+mergeCuts f p q [] (y ∷ ys) = emit (f p q) (f p (not q)) y (mergeCuts f p (not q) [] ys)
+mergeCuts f p q (x ∷ xs) [] = emit (f p q) (f (not p) q) x (mergeCuts f (not p) q xs [])
+mergeCuts f p q (x ∷ xs) (y ∷ ys) =
+    elim (ltb x y) [
+      | true ↦ emit (f p q) (f (not p) q) x (mergeCuts f (not p) q xs (y ∷ ys))
+      | false ↦
+          elim (ltb y x) [
+            | true ↦ emit (f p q) (f p (not q)) y (mergeCuts f p (not q) (x ∷ xs) ys)
+            | false ↦ emit (f p q) (f (not p) (not q)) x (mergeCuts f (not p) (not q) xs ys)
+          ]
+    ]
+
+-- one step from i and j on: the next cut of either list
+pub record Stepped (a : List ℕ) (na i : ℕ) (p : Bool) (b : List ℕ) (nb j : ℕ) (q : Bool) (r : Step) : Type 0 where
+  pub left-in : r .i ≤ na
+  pub right-in : r .j ≤ nb
+  pub on : i + j < r .i + r .j
+  pub cut : (f : Bool → Bool → Bool) → mergeCuts f p q (drop i a) (drop j b) ≡ emit (f p q) (f (r .p) (r .q)) (r .x) (mergeCuts f (r .p) (r .q) (drop (r .i) a) (drop (r .j) b))
+
+-- the cuts m take the place of the first elements, if there is room for all
+pub record Merged (m : List ℕ) (before after : List ℕ) (r : Filled) : Type 0 where
+  pub over : r .over ≡ ltb (length before) (length m)
+  pub count : r .over ≡ false → r .n ≡ length m
+  pub filled : r .over ≡ false → after ≡ m ++ drop (length m) before

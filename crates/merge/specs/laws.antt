@@ -1,0 +1,4 @@
+pub mod Merge
+pub mod OneRun
+pub mod Made
+pub mod Examples

@@ -1,0 +1,102 @@
+// Operations on two sets of one run each that make one run at most: no walk is needed.
+ghost use mathlib.Core.Path.{_≡_};
+ghost use mathlib.Core.Bool.{true, false, _&&_};
+ghost use mathlib.Core.List.{[], _∷_};
+ghost use Prim.Native.Nat.{_≤_, _<_, min, max};
+ghost use lib.ListN.{length};
+ghost use Rattle.runs.specs.Set.{sharedWords, Canonical};
+ghost use Rattle.merge.specs.inner.Merge.{opOf, mergeCuts, Merged};
+ghost use Rattle.merge.specs.inner.OneRun.{runCuts, OneRun};
+use crate::walk::Filled;
+use crate::walk::Op;
+
+// The numbers from low on and before end; none where low is not below end. Not known where there may be more runs.
+struct Run {
+    known: bool,
+    low: u32,
+    end: u32,
+}
+
+fn unknown() -> Run
+    ensures { λ r. ⌜ r .known ≡ false ⌝ }
+{
+    Run {
+        known: false,
+        low: 0,
+        end: 0,
+    }
+}
+
+fn lesser(x: u32, y: u32) -> u32
+    ensures { λ r. ⌜ r ≡ min x y ⌝ }
+{
+    if x < y { x } else { y }
+}
+
+fn greater(x: u32, y: u32) -> u32
+    ensures { λ r. ⌜ r ≡ max x y ⌝ }
+{
+    if x < y { y } else { x }
+}
+
+// What two runs share.
+fn shared(la: u32, ea: u32, lb: u32, eb: u32) -> Run
+    requires { ⌜ (la < ea) × (lb < eb) ⌝ }
+    ensures { λ r. ⌜ OneRun _&&_ (la ∷ ea ∷ []) (lb ∷ eb ∷ []) r ⌝ }
+{
+    Run {
+        known: true,
+        low: greater(la, lb),
+        end: lesser(ea, eb),
+    }
+}
+
+// An operation on two runs.
+fn of_runs(op: Op, la: u32, ea: u32, lb: u32, eb: u32) -> Run
+    requires { ⌜ (la < ea) × (lb < eb) ⌝ }
+    ensures { λ r. ⌜ OneRun (opOf op) (la ∷ ea ∷ []) (lb ∷ eb ∷ []) r ⌝ }
+{
+    match op {
+        Op::And => shared(la, ea, lb, eb),
+        Op::Xor => unknown(),
+    }
+}
+
+// An operation on two sets: known where each has one run, and the result one at most.
+fn of_two(op: Op, a: &[u32], b: &[u32]) -> Run
+    requires { ⌜ Canonical (now a) × Canonical (now b) ⌝ }
+    ensures { λ r. ⌜ OneRun (opOf op) (now (a .entry)) (now (b .entry)) r ⌝ }
+{
+    if a.len() != 2 {
+        return unknown();
+    }
+    if b.len() != 2 {
+        return unknown();
+    }
+    of_runs(op, a[0], a[1], b[0], b[1])
+}
+
+// Writes the cuts of one run, or none.
+fn put(low: u32, end: u32, out: &mut [u32]) -> Filled
+    requires { ⌜ 2 ≤ length (now out) ⌝ }
+    ensures { λ r. ⌜ Merged (runCuts low end) (now (out .entry)) (now (out .exit)) r ⌝ }
+{
+    if end <= low {
+        return Filled { over: false, n: 0 };
+    }
+    out[0] = low;
+    out[1] = end;
+    Filled { over: false, n: 2 }
+}
+
+// Writes the cuts of an operation on two sets: one run at once, others by the walk.
+pub fn merge(op: Op, a: &[u32], b: &[u32], out: &mut [u32]) -> Filled
+    requires { ⌜ Canonical (now a) × Canonical (now b) × (length (now a) ≤ sharedWords) × (length (now b) ≤ sharedWords) × (2 ≤ length (now out)) ⌝ }
+    ensures { λ r. ⌜ Merged (mergeCuts (opOf op) false false (now (a .entry)) (now (b .entry))) (now (out .entry)) (now (out .exit)) r ⌝ }
+{
+    let run = of_two(op, a, b);
+    if run.known {
+        return put(run.low, run.end, out);
+    }
+    crate::walk::merge(op, a, a.len(), b, b.len(), out)
+}

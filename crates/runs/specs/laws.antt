@@ -1,0 +1,7 @@
+pub mod Cuts
+pub mod Runs
+pub mod Set
+pub mod Added
+pub mod Distance
+pub mod Written
+pub mod Examples

@@ -1,4 +1,0 @@
-pub mod Merge
-pub mod OneRun
-pub mod Join
-pub mod Gap
