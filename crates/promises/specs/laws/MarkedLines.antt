@@ -12,7 +12,7 @@ use lib.ListN.{length}
 use borrow.Author.Tests.{leb-true, ltb-true, le-ltb}
 use Rattle.number.specs.Axis.{origin, axis, whole}
 use Rattle.number.specs.Least.{least}
-use Rattle.number.specs.Words.{turned, signed}
+use Rattle.number.specs.Words.{offsetBinary, signed}
 use Rattle.refusal.specs.Outcome.{NoneMeets}
 use Rattle.recording.specs.Output.{outputLine}
 use Rattle.recording.specs.laws.Outcome.{judged-pass, append-none}
@@ -296,21 +296,21 @@ any P [] a x m = absurd (List·Memᴰ·not-nil m)
 any P (y ∷ l) a x m = ⊎-elim (λ e. subst P (sym e) (a .0)) (any P l (a .1) x) (List·Memᴰ·cases-cons m)
 
 R1-readings : recording.readings R1 ≡ r1.R1
-unfolding recording.reading signed turned
+unfolding recording.reading signed offsetBinary
 R1-readings = refl
 
 told : Each (Holding (recording.readings R1)) r1.marked
 told = each (Holding (recording.readings R1)) r1.marked (λ l m. subst (λ (r : List Reading). Holding r l) (sym R1-readings) (marked-lines l m))
 
 R2-readings : recording.readings R2 ≡ r2.R2
-unfolding recording.reading signed turned
+unfolding recording.reading signed offsetBinary
 R2-readings = refl
 
 told-2 : Each (Holding (recording.readings R2)) r2.lines
 told-2 = each (Holding (recording.readings R2)) r2.lines (λ l m. subst (λ (r : List Reading). Holding r l) (sym R2-readings) (lines-hold l m))
 
 R3-readings : recording.readings R3 ≡ r3.R3
-unfolding recording.reading signed turned
+unfolding recording.reading signed offsetBinary
 R3-readings = refl
 
 told-3 : Each (Holding (recording.readings R3)) r3.lines
@@ -333,7 +333,7 @@ line-3 = asked R3 R3-accepted refl
 
 -- THE MARKED LINES OF R1 HOLD
 pub marked-hold : (l : MarkedLine) → List·Memᴰ l markedLines → LineHolds R1 l
-unfolding tooDeep least parsed parse unsignedAt numberAt operandAt comparisonAt timedAt argumentsAt namedAt headedAt leafAt lowCuts highCuts refused9 someNode marksOf keptBytes recording.reading signed turned
+unfolding tooDeep least parsed parse unsignedAt numberAt operandAt comparisonAt timedAt argumentsAt namedAt headedAt leafAt lowCuts highCuts refused9 someNode marksOf keptBytes recording.reading signed offsetBinary
 marked-hold =
     any (LineHolds R1) markedLines (
       line-1 (told .0) (bytes "high(A)") refl (refl, (refl, (refl, tt))) refl refl refl (listed-eight R1 (high A)),
@@ -384,7 +384,7 @@ marked-hold =
 
 -- THE LINES OF R2 HOLD
 pub R2-hold : (l : MarkedLine) → List·Memᴰ l R2Lines → LineHolds R2 l
-unfolding tooDeep least parsed parse unsignedAt numberAt operandAt comparisonAt timedAt argumentsAt namedAt headedAt leafAt lowCuts highCuts refused9 someNode marksOf keptBytes recording.reading signed turned
+unfolding tooDeep least parsed parse unsignedAt numberAt operandAt comparisonAt timedAt argumentsAt namedAt headedAt leafAt lowCuts highCuts refused9 someNode marksOf keptBytes recording.reading signed offsetBinary
 R2-hold =
     any (LineHolds R2) R2Lines (
       line-2 (told-2 .0) (bytes "peaks(A)") refl (refl, (refl, (refl, tt))) refl refl refl (listed-eight R2 (peaks A)),
@@ -405,7 +405,7 @@ R2-hold =
 
 -- THE LINES OF R3 HOLD
 pub R3-hold : (l : MarkedLine) → List·Memᴰ l R3Lines → LineHolds R3 l
-unfolding tooDeep least parsed parse unsignedAt numberAt pigmentAt pigmentLeafAt operandAt comparisonAt timedAt argumentsAt namedAt headedAt leafAt lowCuts highCuts refused9 someNode marksOf keptBytes recording.reading signed turned
+unfolding tooDeep least parsed parse unsignedAt numberAt pigmentAt pigmentLeafAt operandAt comparisonAt timedAt argumentsAt namedAt headedAt leafAt lowCuts highCuts refused9 someNode marksOf keptBytes recording.reading signed offsetBinary
 R3-hold =
     any (LineHolds R3) R3Lines (
       line-3 (told-3 .0) (bytes "dose(7)") refl (refl, (refl, (refl, tt))) refl refl refl (listed-eight R3 (dose 7)),

@@ -9,7 +9,7 @@ use lib.ListN.{length}
 use borrow.Author.Tests.{le-leb, le-ltb}
 use Rattle.number.specs.Axis.{axis}
 use Rattle.number.specs.Least.{least}
-use Rattle.number.specs.Words.{turned, signed}
+use Rattle.number.specs.Words.{offsetBinary, signed}
 use Rattle.refusal.specs.Outcome.{result, NoneMeets}
 use Rattle.recording.specs.R1.{R1}
 use Rattle.recording.specs.Reading.{A}
@@ -84,7 +84,7 @@ after-40 n = val (coded R1) n (listed (lowafter A 2000000040)) 0
 
 -- the least A after 40 is 45
 least-after : Least (codedAfter 2000000040) (codedValue A) (coded R1) 2000000045
-unfolding record-reading signed turned
+unfolding record-reading signed offsetBinary
 least-after = record { one = refl; all = refl }
 
 members : (n : ℕ) → n < axis → inside (2000000045 ∷ 4000000001 ∷ []) n ≡ after-40 n

@@ -7,7 +7,7 @@ use mathlib.Core.Bool.{Bool, true, false, true≢false}
 use mathlib.Core.Logic.{inl, inr, ⊎-elim}
 use mathlib.Core.List.{List, [], _∷_, map, List·Memᴰ, List·Memᴰ·head, List·Memᴰ·tail, List·Memᴰ·not-nil, List·Memᴰ·cases-cons}
 use lib.ListN.{length, getD, length-map, List·getD-map}
-use Rattle.number.specs.Words.{signed, turned}
+use Rattle.number.specs.Words.{signed, offsetBinary}
 use Rattle.number.specs.laws.Order.{less-or-not, less-more-equal}
 use Rattle.recording.specs.Condition.{when, pick, pickFrom}
 use Rattle.recording.specs.Reading.{Reading, adds, added, nothing}
@@ -136,7 +136,7 @@ module _ (r s : List Reading) (up : Rising r) (rise : Rising s) (there : Carries
 -- ---- of recordings
 
 rising : (bytes : List ℕ) → Accepted bytes → Rising (readings bytes)
-unfolding reading signed turned
+unfolding reading signed offsetBinary
 rising bytes a i j h n =
     let l = length-map (records bytes) reading in
     let t = good-rising (records bytes) 0 (accepted-sound bytes a .good) i j h (omega arith) in
