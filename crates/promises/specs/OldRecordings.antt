@@ -12,7 +12,7 @@ use Rattle.number.specs.Words.{word, signed}
 use Rattle.refusal.specs.Outcome.{Outcome, Line, line, judged}
 use Rattle.recording.specs.Condition.{pick, on}
 use Rattle.recording.specs.Reading.{Reading}
-use Rattle.recording.specs.Recording.{Raw, records, flat, reading, readings, latest, inRange, later, mostRecords, recordingLines}
+use Rattle.recording.specs.Recording.{Raw, records, concat, reading, readings, latest, inRange, later, mostRecords, recordingLines}
 use Rattle.recording.specs.Output.{outputLine}
 use Rattle.kept.specs.Kept.{mostKept}
 use Rattle.kept.specs.Unpigmented.{keptForWithout, mostKeptWithout}
@@ -45,7 +45,7 @@ linesBefore bytes =
 
 -- the bytes of the kept records
 abbrev pub keptBefore : List ℕ → List ℕ → List ℕ
-keptBefore marks bytes = flat (pick (on reading (keptForWithout marks)) (records bytes))
+keptBefore marks bytes = concat (pick (on reading (keptForWithout marks)) (records bytes))
 
 -- the thinning call
 abbrev pub thinBefore : List ℕ → List ℕ → ℕ → Outcome (List ℕ)

@@ -42,7 +42,7 @@ use Rattle.promises.specs.laws.EndToEnd.{end-to-end}
 
 -- a listed question asked alone
 listed-plain : (marks : List ℕ) (l : Listed) → ((k : ℕ) → List·Memᴰ k (afterTime l) → List·Memᴰ k (map markIndex marks)) → Plain marks (listed l)
-listed-plain marks l h = record { flat = refl; marked = h }
+listed-plain marks l h = record { propositional = refl; marked = h }
 
 -- R1, cut in three pieces and thinned, lasts
 pub R1-end-to-end : EndToEnd mark40 cuts

@@ -22,7 +22,7 @@ use Rattle.grammar.specs.inner.Lexer.{unsignedAt, numberAt, operandAt, comparis
 use Rattle.grammar.specs.inner.Parse.{parse, parsed}
 use Rattle.text.specs.Told.{textLines}
 use Rattle.meaning.specs.Ranges.{_to_, Lo, Hi}
-use Rattle.meaning.specs.Named.{Part, SamePart, Agree, none, more}
+use Rattle.meaning.specs.Named.{Channel, SameChannel, Agree, none, more}
 use Rattle.meaning.specs.inner.Recorded.{InRange}
 use Rattle.meaning.specs.inner.Coded.{Coded, code, codedValue, codedAfter}
 use Rattle.meaning.specs.inner.Truth.{truth, val, someNode, refused9}
@@ -89,9 +89,9 @@ r7-kept = at-rest 0 11 0 ∷ at-rest 10 19 0 ∷ at-rest 30 15 3 ∷ at-rest 40 
 
 -- at one time with one A, whatever the two Bs
 agree : (t x y z : ℕ) → Agree Public (at-rest t x y) (at-rest t x z)
-agree t x y z = record { time = refl; part = same }
+agree t x y z = record { time = refl; same = same }
   where
-    same : (n : Part) → Public n → SamePart n (at-rest t x y) (at-rest t x z)
+    same : (n : Channel) → Public n → SameChannel n (at-rest t x y) (at-rest t x z)
     same n the-batch = (refl, refl)
     same n the-additions = refl
 
