@@ -23,7 +23,7 @@ use Rattle.grammar.specs.inner.Parse.{parsed}
 use Rattle.text.specs.Told.{nodesOf}
 use Rattle.meaning.specs.inner.Coded.{coded, index}
 use Rattle.meaning.specs.inner.Truth.{val}
-use Rattle.meaning.specs.laws.Whole.{Stands, stands-whole}
+use Rattle.meaning.specs.laws.Whole.{index-whole}
 use Rattle.evaluation.specs.inner.Evaluation.{textOf}
 use Rattle.question.specs.Question.{theText, read, answer, askingLines, setLines}
 use Rattle.question.specs.inner.Prepare.{preparedOf, Prepares}
@@ -119,13 +119,6 @@ module _ (bytes : List ℕ) (p : Text) (words : List ℕ) (a : Verdict) (g : Giv
       ∙ sym (judged-none (setLines bytes p) (reachIn (λ n. val (coded bytes) n p 0) v) (g .none e))
 
 -- ---- a target
-
-index-stands : (z : ℤ) (n : ℕ) → Stands z n origin → index z ≡ n
-index-stands (pos k) n h = omega arith
-index-stands (negsuc k) n h = omega arith
-
-pub index-whole : (n : ℕ) → index (whole n) ≡ n
-index-whole n = index-stands (whole n) n (stands-whole n)
 
 module _ (g : ℤ) (lines : List Line) (f : ℕ → Bool) where
   pub target-off : Placed g Off → refused 12 0 ≡ judged (targetLine g ∷ lines) (valueOf f (index g))

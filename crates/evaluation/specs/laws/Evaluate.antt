@@ -11,6 +11,7 @@ use lib.Dec.{eqb, ltb}
 use borrow.Author.Tests.{eqb-true, eqb-false}
 use Rattle.grammar.specs.inner.Kinds.{AND, UNTIL}
 use Rattle.number.specs.Axis.{axis}
+use Rattle.number.specs.laws.Boolean.{or-left, or-right}
 use Rattle.runset.specs.Set.{member, Valid, Holds}
 use Rattle.runset.specs.Runs.{mostRuns, runCount}
 use Rattle.runset.specs.laws.Runs.{runCount-ext}
@@ -35,23 +36,16 @@ use Rattle.evaluation.specs.inner.Evaluate.{kind, first, second, Under, 
 
 -- ---- a text whose child has F, G, X, U or W has one
 
-or-first : (a b : Bool) → a ≡ true → (a || b) ≡ true
-or-first a b e = ap (λ (x : Bool). x || b) e
-
-or-second : (a b : Bool) → b ≡ true → (a || b) ≡ true
-or-second true b e = refl
-or-second false b e = e
-
 temporal-first-one : (k a b n : ℕ) (p q : Text) → unaryFrom ≤ k → k < binaryFrom → temporal p ≡ true → temporal (build (row k a b n) p q) ≡ true
 temporal-first-one k a b n p q l h e = four (λ (k : ℕ). temporal (build (row k a b n) p q) ≡ true) unaryFrom k l h e refl refl refl
 
 temporal-first-two : (k a b n : ℕ) (p q : Text) → binaryFrom ≤ k → k < kinds → temporal p ≡ true → temporal (build (row k a b n) p q) ≡ true
 temporal-first-two k a b n p q l h e =
-    four (λ (k : ℕ). temporal (build (row k a b n) p q) ≡ true) binaryFrom k l h (or-first (temporal p) (temporal q) e) (or-first (temporal p) (temporal q) e) refl refl
+    four (λ (k : ℕ). temporal (build (row k a b n) p q) ≡ true) binaryFrom k l h (or-left (temporal p) (temporal q) e) (or-left (temporal p) (temporal q) e) refl refl
 
 temporal-second : (k a b n : ℕ) (p q : Text) → binaryFrom ≤ k → k < kinds → temporal q ≡ true → temporal (build (row k a b n) p q) ≡ true
 temporal-second k a b n p q l h e =
-    four (λ (k : ℕ). temporal (build (row k a b n) p q) ≡ true) binaryFrom k l h (or-second (temporal p) (temporal q) e) (or-second (temporal p) (temporal q) e) refl refl
+    four (λ (k : ℕ). temporal (build (row k a b n) p q) ≡ true) binaryFrom k l h (or-right (temporal p) (temporal q) e) (or-right (temporal p) (temporal q) e) refl refl
 
 module _ (table : List ℕ) (count : ℕ) (r : List Coded) (i n : ℕ) (falling : Falling table count) (inn : n < count) where
   abbrev self : Text

@@ -20,6 +20,7 @@ use Rattle.recording.specs.laws.Record.{length-records, getD-chunks}
 use Rattle.recording.specs.laws.Value.{inRange-offset-binary}
 use Rattle.meaning.specs.laws.Recorded.{accepted-recorded}
 use Rattle.meaning.specs.inner.Coded.{Coded, code, index, blank, codedValue, codedSlope}
+use Rattle.meaning.specs.laws.Whole.{coded-value}
 use Rattle.meaning.specs.inner.Truth.{codedAt}
 use Rattle.meaning.specs.inner.Coded.{coded}
 
@@ -87,10 +88,6 @@ module _ (rec : List ℕ) (a : Accepted rec) (i : ℕ) (h : i < length (coded re
   value-of zero l x = refl
   value-of (suc zero) l x = refl
   value-of (suc (suc n)) l x = absurd (not-suc-le-zero (le-of-suc-le-suc (le-of-suc-le-suc l)))
-
-  coded-value : (c : Curve) (x : Reading) → codedValue c (code x) ≡ index (value c x)
-  coded-value A x = refl
-  coded-value B x = refl
 
   module _ (curve : ℕ) (l : curve < 2) where
     so-value : So (inRange (signed (word (rawAt rec i) (4 + 4 * curve))))

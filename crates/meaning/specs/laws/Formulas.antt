@@ -5,7 +5,7 @@ use Prim.Native.Nat.{ℕ, zero, suc, _-_, _≤_, _<_, min}
 use native.Mathlib.Omega.{arith}
 use native.Mathlib.Nat.{le-refl}
 use mathlib.Core.Path.{_≡_, refl, sym, ap, _∙_}
-use mathlib.Core.Bool.{Bool, true, false, _&&_, _||_, not, cond, and-false, true≢false}
+use mathlib.Core.Bool.{Bool, true, false, _&&_, _||_, not, cond, and-false, or-false, true≢false}
 use mathlib.Core.Logic.{_↔_, _⊎_, inl, inr, ⊎-elim}
 use mathlib.Core.List.{List, [], _∷_, map}
 use lib.Dec.{ltb, leb, eqb}
@@ -27,7 +27,7 @@ use Rattle.meaning.specs.inner.Truth.{allOf, among, truth, lastCoded, co
 use Rattle.number.specs.laws.Boolean.{same, then, back, or-left, or-cases, or-none, none-left, and-right}
 use Rattle.meaning.specs.laws.Run.{starts, run-count, starts-ext, runs-ext, Convex, Up, Down, up-convex, down-convex, const-convex, const-up, and-convex, point-convex, or-up, and-up, or-down, ray-up, ray-down, convex-few, more-starts}
 use Rattle.meaning.specs.laws.Truth.{val-holds}
-use Rattle.meaning.specs.laws.Overfull.{eight-overfull, below-find, below-at}
+use Rattle.meaning.specs.laws.Overfull.{eight-overfull, below-find, below-at, below-none}
 
 -- ---- readings by index and by list
 
@@ -68,10 +68,6 @@ until-same : (f g f′ g′ : ℕ → Bool) → ((j : ℕ) → f j ≡ f′ j) �
 until-same f g f′ g′ h k zero i = k i
 until-same f g f′ g′ h k (suc d) i = let a = h i in let b = k i in let c = until-same f g f′ g′ h k d (suc i) in λ j. b j || (a j && c j)
 
-or-false : (e : Bool) → e ≡ (e || false)
-or-false true = refl
-or-false false = refl
-
 or-off : (e f : Bool) → f ≡ false → (e || f) ≡ e
 or-off true f h = refl
 or-off false f h = h
@@ -82,7 +78,7 @@ and-true false = refl
 
 module _ (P : Coded → Bool) where
   some-list : (x : Coded) (r : List Coded) → finallyFrom (λ i. P (codedAt (x ∷ r) i)) (length r) 0 ≡ someOf P (x ∷ r)
-  some-list x [] = ap P (at-zero x []) ∙ or-false (P x)
+  some-list x [] = ap P (at-zero x []) ∙ sym (or-false (P x))
   some-list x (y ∷ r) =
       let a = ap P (at-zero x (y ∷ r)) in
       let b = some-shift (λ i. P (codedAt (x ∷ y ∷ r) i)) (length r) 0
@@ -549,7 +545,7 @@ module _ (P Q : Coded → Bool) (never : Exclusive P Q) where
     where
       go : (p q : Bool) → P y ≡ p → Q y ≡ q → First r → First (y ∷ r)
       go true q u w rest = inl (λ n. rw (never y u, u))
-      go false true u w rest = inr (y .time, (λ n h. turns-later y r inc n (rw u at h)), λ n. rw (w, u) (sym (or-false (eqb n (y .time)))))
+      go false true u w rest = inr (y .time, (λ n h. turns-later y r inc n (rw u at h)), λ n. rw (w, u) (or-false (eqb n (y .time))))
       go false false u w rest = ⊎-elim (λ none. inl (λ n. rw (w, u) (none n))) (λ one. inr (one .0, (λ n h. one .1 n (rw u at h)), λ n. rw (w, u) (one .2 n))) rest
 
   turns-grow : Growing (turns P Q)
@@ -594,10 +590,6 @@ module _ (Q : Coded → Bool) where
 over-up : (m n : ℕ) → m ≤ n → ltb mostRuns m ≡ true → ltb mostRuns n ≡ true
 over-up m n h k = lt-ltb mostRuns n (omega (arith, ltb-true mostRuns m k))
 
-below-none : (f : ℕ → Bool) → ((i : ℕ) → f i ≡ false) → (n : ℕ) → someBelow f n ≡ false
-below-none f h zero = refl
-below-none f h (suc n) = or-none (h n) (below-none f h n)
-
 below-first : (f : ℕ → Bool) (n : ℕ) → ((i : ℕ) → i < suc n → f i ≡ true → f 0 ≡ true) → someBelow f (suc n) ≡ f 0
 below-first f n h = same _ _ (λ e. let s = below-find f (suc n) e in h (s .0) (s .1) (s .2)) (λ e. below-at f (suc n) 0 (omega arith) e)
 
@@ -611,7 +603,7 @@ module _ {q : Listed} {p : Text} (f : Formula q p) (x : Coded) (r : List Coded) 
     (head : largeAt (x ∷ r) p 0 ≡ false) where
   quiet : someBelow (overAt (x ∷ r) p) (length (x ∷ r)) ≡ overAt (x ∷ r) (listed q) 0
   unfolding someNode
-  quiet = below-none (overAt (x ∷ r) p) nowhere (length (x ∷ r)) ∙ sym head ∙ alone f x r
+  quiet = below-none (overAt (x ∷ r) p) (length (x ∷ r)) (λ i k. nowhere i) ∙ sym head ∙ alone f x r
 
 -- a formula F(p) where p is over nowhere, and the set of F(p) grows at its low end
 module _ {q : Listed} (p : Text) (f : Formula q (finally p)) (S : List Coded → ℕ → Bool) (g : Growing S) (x : Coded) (r : List Coded) (inc : IncreasingCodes (x ∷ r))

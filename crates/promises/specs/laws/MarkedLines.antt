@@ -57,6 +57,7 @@ use Rattle.thin.specs.laws.R1Calls.{R1-accepted}
 use Rattle.thin.specs.laws.Examples.{R2-accepted}
 use Rattle.promises.specs.laws.FormulasAsked.{same-val, same-eight}
 use Rattle.meaning.specs.Formulas.{of-dose}
+use Rattle.meaning.specs.laws.Overfull.{below-none}
 use Rattle.promises.specs.MarkedLines.{MarkedLine, markedLines, R2Lines, R3Lines, bytesOfRuns, bytesOfMarks, writtenIn, Asked, Thinned, LineHolds}
 use Rattle.recording.specs.Condition.{someOf}
 
@@ -234,10 +235,6 @@ until-starts f g (suc d) i = go (f i) (until-starts f g d (suc i))
     go false h =
         omega (arith, starts-or (λ n. eqb n (g i)) (λ n. false) axis, convex-starts (λ n. eqb n (g i)) (point-convex (g i)), convex-starts (λ n. false) (const-convex false))
 
-nowhere : (f : ℕ → Bool) → ((i : ℕ) → f i ≡ false) → (n : ℕ) → someBelow f n ≡ false
-nowhere f h zero = refl
-nowhere f h (suc n) = or-none (h n) (nowhere f h n)
-
 -- U(A>=k,A=v)
 abbrev untilText : ℕ → Text
 untilText k = until (atom (compare (of A) ge (number k))) (atom (compare (of A) eq v))
@@ -255,7 +252,7 @@ until-over r k i h =
 
 until-eight : (k : ℕ) → refused8 (coded R1) (untilText k) ≡ false
 unfolding refused8
-until-eight k = nowhere (overAt (coded R1) (untilText k)) (λ i. until-over (coded R1) k i (leb-true _ _ refl)) (length (coded R1))
+until-eight k = below-none (overAt (coded R1) (untilText k)) (length (coded R1)) (λ i h. until-over (coded R1) k i (leb-true _ _ refl))
 
 -- X(X(P=7)), which has no v
 twoOn-over : (r : List Coded) (i : ℕ) → overAt r r3.twoOn i ≡ false
@@ -267,7 +264,7 @@ twoOn-over r i =
 
 twoOn-eight : refused8 (coded R3) r3.twoOn ≡ false
 unfolding refused8
-twoOn-eight = nowhere (overAt (coded R3) r3.twoOn) (twoOn-over (coded R3)) (length (coded R3))
+twoOn-eight = below-none (overAt (coded R3) r3.twoOn) (length (coded R3)) (λ i h. twoOn-over (coded R3) i)
 
 -- ---- thinning
 
