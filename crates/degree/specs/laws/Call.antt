@@ -6,10 +6,10 @@ use mathlib.Core.Bool.{Bool, true, false, not, cond}
 use mathlib.Core.Logic.{_⊎_, inl, inr, ⊎-elim}
 use mathlib.Core.List.{List, [], _∷_, _++_}
 use lib.Dec.{T, eqb, ltb}
-use lib.IntN.{ℤ, pos, negsuc}
+use lib.IntN.{ℤ}
 use lib.Ieee.{Float, isNan}
 use borrow.Author.Tests.{eq-eqb, ne-eqb, ltb-true}
-use Rattle.number.specs.Axis.{axis, origin, whole}
+use Rattle.number.specs.Axis.{axis}
 use Rattle.refusal.specs.Outcome.{Outcome, result, refused, Line, judged, NoneMeets}
 use Rattle.refusal.specs.Numbers.{numberOf, placeOf}
 use Rattle.refusal.specs.declared.Refusal.{Refusal}
@@ -83,10 +83,6 @@ module _ (f : ℕ → Bool) (v : ℕ) where
 -- sets with the same members are equally far
 pub reach-ext : (f g : ℕ → Bool) (v : ℕ) → v < axis → ((w : ℕ) → w < axis → f w ≡ g w) → reachIn f v ≡ reachIn g v
 reach-ext f g v h e = ap (λ (d : ℕ). cond (ltb d axis) (away d) nowhere) (distance-ext f g v h e)
-
--- sets with the same members come equally near
-pub value-ext : (f g : ℕ → Bool) (v : ℕ) → v < axis → ((w : ℕ) → w < axis → f w ≡ g w) → valueOf f v ≡ valueOf g v
-value-ext f g v h e = ap valued (reach-ext f g v h e)
 
 -- ---- grading
 

@@ -14,7 +14,7 @@ use Rattle.number.specs.Axis.{origin}
 use Rattle.number.specs.Words.{word, signed, offsetBinary}
 use Rattle.number.specs.laws.Order.{less-or-not}
 use Rattle.number.specs.laws.Boolean.{and-left, and-right}
-use Rattle.recording.specs.Reading.{Reading, Curve, A, B, value, nothing, curveOf}
+use Rattle.recording.specs.Reading.{Reading, Curve, value, nothing, curveOf}
 use Rattle.recording.specs.Recording.{Raw, records, rawAt, reading, readings, inRange, latest, Accepted}
 use Rattle.recording.specs.laws.Record.{length-records, getD-chunks}
 use Rattle.recording.specs.laws.Value.{inRange-offset-binary}

@@ -47,7 +47,7 @@ use Rattle.meaning.specs.laws.R1Lines.{marked-lines}
 use Rattle.meaning.specs.laws.R2Lines.{lines-hold}
 use Rattle.meaning.specs.laws.Run.{starts, run-count, Convex, const-convex, point-convex, convex-runs, convex-few}
 use Rattle.meaning.specs.laws.Recorded.{accepted-recorded}
-use Rattle.meaning.specs.inner.Truth.{allOf, codedAt, lastCoded, untilFrom, val, someNode, overAt, someBelow, refused8, refused9}
+use Rattle.meaning.specs.inner.Truth.{allOf, codedAt, lastCoded, untilFrom, val, someNode, overAt, refused8, refused9}
 use Rattle.meaning.specs.laws.Truth.{val-holds}
 use Rattle.meaning.specs.laws.Whole.{Stands, stands-whole, le-index}
 use Rattle.question.specs.Question.{theText, read, answer, askingLines, setLines, questionOf}

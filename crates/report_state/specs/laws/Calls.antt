@@ -19,7 +19,7 @@ use Rattle.degree.specs.inner.Reach.{mapped}
 use Rattle.reply.specs.Reply.{packed}
 use Rattle.report.specs.Report.{Naming, reportBytes, namingLines, named, openedBy, Answer, taken, told, onward, Stage, closed, underWay, answered, stageAfter, answers}
 use Rattle.report.specs.Report as report
-use Rattle.report.specs.inner.Running.{runningOf, Addition, none, stopped, last, counted, withBatch, addedTo, answerIn}
+use Rattle.report.specs.inner.Running.{runningOf, Addition, last, counted, withBatch, addedTo, answerIn}
 use Rattle.report.specs.inner.Running as inner
 use Rattle.report.specs.inner.Naming.{targetLines}
 use Rattle.report.specs.laws.Steps.{small-more, length-more, counted-more, answer-told}
@@ -28,7 +28,6 @@ use Rattle.report.specs.declared.Report.{Report}
 use Rattle.report_state.specs.State.{wordsBytes, figureWords, namedBytes, closedBytes, startAfter, additionIn, addAfter, stateless}
 use Rattle.report_state.specs.Call.{answerTold, metAfter, emptyAfter, distancesAfter, meanAfter, indexOf, Reports}
 use Rattle.report_state.specs.Calls.{Made, start, add, plain, Returned, CallsMade, ReturnedAs, AllReturnedAs, AsTheFold}
-use Rattle.report_state.specs.inner.Kept.{Writable}
 use Rattle.report_state.specs.laws.Words.{words-length}
 use Rattle.report_state.specs.laws.Read.{too-short}
 use Rattle.report_state.specs.laws.Start.{named-mapped}
@@ -48,12 +47,6 @@ length-put ws b e h =
   where
     by : (p q n k : ℕ) → p ≡ 4 * k → q ≡ n - 44 → k ≡ 11 → 44 ≤ n → p + q ≡ n
     by p q n k a c e h = omega arith
-
-length-add : (a : Addition) (b : List ℕ) → Writable a b → length (addAfter a b) ≡ length b
-length-add none b w = refl
-length-add (stopped n p) b w = length-closed b (omega (arith, w))
-length-add (inner.taken r) b w = length-put (figureWords r) b refl (w .0)
-length-add (last r) b w = length-closed b (omega (arith, w))
 
 length-named : (n : ℕ) (text : List ℕ) (v : ℕ) (b : List ℕ) → 52 + length text ≤ length b → length (namedBytes n text v b) ≡ length b
 length-named n text v b h =
