@@ -39,9 +39,6 @@ at-suc x y r i =
     let e : min (suc i) (lastCoded (x ∷ y ∷ r)) ≡ suc (min i (lastCoded (y ∷ r))) = omega arith in
     ap (λ (i : ℕ). getD (x ∷ y ∷ r) i blank) e
 
-at-end : (x : Coded) (i : ℕ) → codedAt (x ∷ []) i ≡ x
-at-end x i = let e : min i (lastCoded (x ∷ [])) ≡ 0 = omega arith in ap (λ (i : ℕ). getD (x ∷ []) i blank) e
-
 -- the last index again is the last
 at-next : (r : List Coded) (i : ℕ) → codedAt r (min (suc i) (lastCoded r)) ≡ codedAt r (suc i)
 at-next r i =
