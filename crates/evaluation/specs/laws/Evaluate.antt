@@ -30,7 +30,8 @@ use Rattle.evaluation.specs.inner.Askable.{Askable}
 use Rattle.meaning.specs.inner.Coded.{coded}
 use Rattle.evaluation.specs.inner.Step.{unaryOf, binaryOf}
 use Rattle.evaluation.specs.laws.Step.{four, unary-last, unary-inner, binary-last, binary-inner}
-use Rattle.evaluation.specs.laws.Tree.{build-leaf, tree-step, falls-first, falls-second, kind-known}
+use Rattle.text.specs.laws.Table.{tree-step}
+use Rattle.evaluation.specs.laws.Tree.{build-leaf, falls-first, falls-second, kind-known}
 use Rattle.evaluation.specs.laws.Node.{none-first, none-second}
 use Rattle.evaluation.specs.inner.Evaluate.{kind, first, second, Under, here, on-first, on-second, Right, Ready, Fit, Evaluated, Large, Outcome}
 

@@ -15,7 +15,8 @@ use Rattle.meaning.specs.inner.Truth.{someNode}
 use Rattle.leaves.specs.inner.Leaf.{leafOf}
 use Rattle.evaluation.specs.laws.Leaf.{isLeaf, row-leaf}
 use Rattle.evaluation.specs.laws.Step.{four}
-use Rattle.evaluation.specs.laws.Tree.{build-leaf, tree-step, falls-first, falls-second, kind-known}
+use Rattle.text.specs.laws.Table.{tree-step}
+use Rattle.evaluation.specs.laws.Tree.{build-leaf, falls-first, falls-second, kind-known}
 use Rattle.evaluation.specs.inner.Evaluate.{kind, first, second, Under, here, on-first, on-second}
 
 module _ (G : Text → Bool) where
