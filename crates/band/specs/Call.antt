@@ -13,9 +13,9 @@ use Rattle.question.specs.Question.{read, askingLines}
 use Rattle.band.specs.Band.{widest}
 use Rattle.band.specs.Means.{Part, empty, run, Bands}
 use Rattle.band.specs.inner.Ends.{bandsOf}
-use Rattle.band.specs.declared.Part.{Part as Told}
+use Rattle.band.specs.declared.Part.{Part as CodePart}
 use Rattle.band.specs.declared.Part.the-variants as part
-use Rattle.band.specs.declared.Bands.{Bands as Pair}
+use Rattle.band.specs.declared.Bands.{Bands as CodeBands}
 use Rattle.band.specs.declared.InBand.{InBand}
 use Rattle.band.specs.declared.InBand.the-variants as answer
 
@@ -75,11 +75,11 @@ bandOf bytes text e =
     judged (askingLines bytes text ++ (widthLine e ∷ extremeLine (read text) ∷ [])) (bandsOf (theQuestion (read text)) (widthOf e) (coded bytes))
 
 -- the number, the place and the values of each answer
-abbrev pub partOf : Told → Part
+abbrev pub partOf : CodePart → Part
 partOf part.Empty = empty
 partOf (part.Run l h) = run l h
 
-abbrev pub setsOf : Pair → Bands
+abbrev pub setsOf : CodeBands → Bands
 setsOf b = record { certain = partOf (b .certain); possible = partOf (b .possible) }
 
 abbrev pub outcomeOf : InBand → Outcome Bands

@@ -6,7 +6,7 @@ ghost use Rattle.number.specs.Axis.{whole};
 ghost use Rattle.refusal.specs.Outcome.{judged};
 ghost use Rattle.meaning.specs.inner.Coded.{coded};
 ghost use Rattle.evaluation.specs.inner.Evaluation.{textOf};
-ghost use Rattle.question.specs.inner.Answered.{Ready};
+ghost use Rattle.question.specs.inner.Answered.{Answerable};
 ghost use Rattle.band.specs.Band.{widest};
 ghost use Rattle.band.specs.inner.Ends.{bandsOf};
 ghost use Rattle.band.specs.Call.{widthOf, theQuestion, widthLine, extremeLine, outcomeOf, bandOf};
@@ -41,7 +41,7 @@ pub const WIDEST: u32 = 1_000_000;
 
 // The two sets of a text that was read, where it is one question on extremes alone.
 fn of_text(rec: &[u8], table: &[u32], count: usize, e: u32) -> InBand
-    requires { ⌜ Ready (now table) count (now rec) × (e ≤ widest) ⌝ }
+    requires { ⌜ Answerable (now table) count (now rec) × (e ≤ widest) ⌝ }
     ensures { λ r. ⌜ outcomeOf r ≡ judged (extremeLine (textOf (now (table .entry)) count) ∷ []) (bandsOf (theQuestion (textOf (now (table .entry)) count)) e (coded (now (rec .entry)))) ⌝ }
 {
     let row = evaluation::rows::row_at(table, count - 1);
@@ -67,7 +67,7 @@ fn of_text(rec: &[u8], table: &[u32], count: usize, e: u32) -> InBand
 
 // The two sets of a text that was read, where the band is not too wide: its e is the number at an index.
 fn at_index(rec: &[u8], table: &[u32], count: usize, index: u32) -> InBand
-    requires { ⌜ Ready (now table) count (now rec) ⌝ }
+    requires { ⌜ Answerable (now table) count (now rec) ⌝ }
     ensures { λ r. ⌜ outcomeOf r ≡ judged (widthLine (whole index) ∷ extremeLine (textOf (now (table .entry)) count) ∷ []) (bandsOf (theQuestion (textOf (now (table .entry)) count)) (widthOf (whole index)) (coded (now (rec .entry)))) ⌝ }
 {
     if index < number::ORIGIN {
@@ -82,7 +82,7 @@ fn at_index(rec: &[u8], table: &[u32], count: usize, index: u32) -> InBand
 
 // The two sets of a text that was read, within any band.
 fn within(rec: &[u8], table: &[u32], count: usize, e: i64) -> InBand
-    requires { ⌜ Ready (now table) count (now rec) ⌝ }
+    requires { ⌜ Answerable (now table) count (now rec) ⌝ }
     ensures { λ r. ⌜ outcomeOf r ≡ judged (widthLine e ∷ extremeLine (textOf (now (table .entry)) count) ∷ []) (bandsOf (theQuestion (textOf (now (table .entry)) count)) (widthOf e) (coded (now (rec .entry)))) ⌝ }
 {
     let place = targets::on_axis(e);

@@ -9,7 +9,7 @@ ghost use Rattle.meaning.specs.inner.Coded.{coded};
 ghost use Rattle.meaning.specs.inner.Coded.{index as indexOf};
 ghost use Rattle.meaning.specs.inner.Truth.{val};
 ghost use Rattle.evaluation.specs.inner.Evaluation.{textOf};
-ghost use Rattle.question.specs.inner.Answered.{Ready};
+ghost use Rattle.question.specs.inner.Answered.{Answerable};
 ghost use Rattle.question.specs.Question.{setLines};
 ghost use Rattle.degree.specs.Degree.{reachIn, graded, valued, valueOf, targetLine, nearnessOf, outcomeOf, reachedOf};
 ghost use Rattle.degree.specs.inner.Reach.{reachAt, mapped};
@@ -77,7 +77,7 @@ fn near_set(set: &[u32], index: u32) -> Reached
 
 // How far the number at an index is from the set of a text that was read.
 fn near_text(rec: &[u8], table: &[u32], count: usize, index: u32) -> Reached
-    requires { ⌜ Ready (now table) count (now rec) × (index < axis) ⌝ }
+    requires { ⌜ Answerable (now table) count (now rec) × (index < axis) ⌝ }
     ensures { λ r. ⌜ reachedOf r ≡ judged (setLines (now (rec .entry)) (textOf (now (table .entry)) count)) (reachIn (λ n. val (coded (now (rec .entry))) n (textOf (now (table .entry)) count) 0) index) ⌝ }
 {
     let mut set = [0u32; runset::SLOT];
@@ -90,7 +90,7 @@ fn near_text(rec: &[u8], table: &[u32], count: usize, index: u32) -> Reached
 
 // How near the set of a text that was read comes to a target.
 pub fn near_target(rec: &[u8], table: &[u32], count: usize, target: i64) -> Nearness
-    requires { ⌜ Ready (now table) count (now rec) ⌝ }
+    requires { ⌜ Answerable (now table) count (now rec) ⌝ }
     ensures { λ r. ⌜ outcomeOf r ≡ judged (targetLine target ∷ setLines (now (rec .entry)) (textOf (now (table .entry)) count)) (valueOf (λ n. val (coded (now (rec .entry))) n (textOf (now (table .entry)) count) 0) (indexOf target)) ⌝ }
 {
     let place = targets::on_axis(target);

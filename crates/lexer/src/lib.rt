@@ -124,7 +124,7 @@ fn arguments(text: &[u8], kind: u32, at: usize) -> Leaf
     requires { ⌜ at ≤ length (now text) ⌝ }
     ensures { λ r. ⌜ r ≡ argumentsAt (now (text .entry)) kind at ⌝ }
 {
-    match words::curve(text, at) {
+    match words::curve_letter(text, at) {
         Found::At(c, e) => {
             if is_timed(kind) {
                 return timed(text, kind, c, e);

@@ -7,7 +7,7 @@ use lib.Dec.{ltb, eqb}
 use lib.ListN.{length}
 use Rattle.refusal.specs.Outcome.{Outcome, result, refused, Line, line, judged}
 use Rattle.recording.specs.Condition.{pick, on}
-use Rattle.recording.specs.Recording.{Raw, reading, flat, lawful, mostRecords}
+use Rattle.recording.specs.Recording.{Raw, reading, concat, lawful, mostRecords}
 use Rattle.recording.specs.Output.{outputLine}
 use Rattle.kept.specs.Kept.{keptFor}
 use Rattle.marks.specs.Marks.{marksOf, marksLine}
@@ -121,7 +121,7 @@ afterAll h (s ∷ ss) = afterAll (after h s) ss
 
 -- THE KEPT READINGS OF THE RUN, under its marks, as bytes
 abbrev pub keptRun : History → List ℕ
-keptRun h = keptBytes (marksOf (h .marks)) (flat (h .run))
+keptRun h = keptBytes (marksOf (h .marks)) (concat (h .run))
 
 -- THE READ-OUT, which is no step: 11; 10 where the output is shorter; else the kept readings of the run
 unfoldable pub readOut : History → ℕ → Outcome (List ℕ)

@@ -21,7 +21,7 @@ markIndex m = m + origin
 
 -- a text without F, G, X, U, W, whose after-times are among the marks
 pub record Plain (marks : List ℕ) (p : Text) : Type 0 where
-  pub flat : temporal p ≡ false
+  pub propositional : temporal p ≡ false
   pub marked : (k : ℕ) → List·Memᴰ k (afterTimes p) → List·Memᴰ k (map markIndex marks)
 
 -- the times of the records of which the condition holds

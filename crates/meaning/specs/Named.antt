@@ -9,13 +9,13 @@ use Rattle.grammar.specs.Syntax.{of, T, Atom, compare, A-to-B, fall, rise, pigm
 use Rattle.meaning.specs.Meaning.{Holds}
 use Rattle.meaning.specs.Overfull.{Node, Overfull, TooManyTops}
 
--- what a text may name: a curve, that is its values and its slopes, or the additions of pigments
-pub data Part : Type 0 where
-  curve : Curve → Part
-  additions : Part
+-- a channel of a recording, which a text may name: a curve, that is its values and its slopes, or the additions of pigments
+pub data Channel : Type 0 where
+  curve : Curve → Channel
+  additions : Channel
 
 -- what an atom names; A and B in relation are both curves
-abbrev pub atomNames : Atom → List Part
+abbrev pub atomNames : Atom → List Channel
 atomNames (compare (of c) ρ o) = curve c ∷ []
 atomNames (compare T ρ o) = []
 atomNames (A-to-B ρ) = curve A ∷ curve B ∷ []
@@ -24,7 +24,7 @@ atomNames (rise c) = curve c ∷ []
 atomNames (pigment k) = additions ∷ []
 
 -- what a listed question names; `cross`, `crossup` and `lag` ask about both curves
-abbrev pub listedNames : Listed → List Part
+abbrev pub listedNames : Listed → List Channel
 listedNames (high c) = curve c ∷ []
 listedNames (low c) = curve c ∷ []
 listedNames (lowafter c k) = curve c ∷ []
@@ -40,7 +40,7 @@ listedNames (steps c) = curve c ∷ []
 listedNames lag = curve A ∷ curve B ∷ []
 
 -- what a node names by itself; an operator nothing
-abbrev pub nodeNames : Text → List Part
+abbrev pub nodeNames : Text → List Channel
 nodeNames (atom k) = atomNames k
 nodeNames (listed q) = listedNames q
 nodeNames (or p q) = []
@@ -53,21 +53,21 @@ nodeNames (until p q) = []
 nodeNames (weakUntil p q) = []
 
 -- THE TEXT NAMES IT: one of its nodes does
-abbrev pub Names : Text → Part → Type 0
+abbrev pub Names : Text → Channel → Type 0
 Names p n = (q : Text) × Node q p × List·Memᴰ n (nodeNames q)
 
 -- two readings are the same in it
-abbrev pub SamePart : Part → Reading → Reading → Type 0
-SamePart (curve c) x y = (value c x ≡ value c y) × (slope c x ≡ slope c y)
-SamePart additions x y = x .pigment ≡ y .pigment
+abbrev pub SameChannel : Channel → Reading → Reading → Type 0
+SameChannel (curve c) x y = (value c x ≡ value c y) × (slope c x ≡ slope c y)
+SameChannel additions x y = x .pigment ≡ y .pigment
 
--- two readings at one time that are the same in each of these parts
-pub record Agree (N : Part → Type 0) (x y : Reading) : Type 0 where
+-- two readings at one time that are the same in each of these channels
+pub record Agree (N : Channel → Type 0) (x y : Reading) : Type 0 where
   pub time : x .time ≡ y .time
-  pub part : (n : Part) → N n → SamePart n x y
+  pub same : (n : Channel) → N n → SameChannel n x y
 
 -- two recordings that agree so, record by record
-pub data Agreeing (N : Part → Type 0) : List Reading → List Reading → Type 0 where
+pub data Agreeing (N : Channel → Type 0) : List Reading → List Reading → Type 0 where
   none : Agreeing N [] []
   more : {x y : Reading} {r s : List Reading} → Agree N x y → Agreeing N r s → Agreeing N (x ∷ r) (y ∷ s)
 

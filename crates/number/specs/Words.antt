@@ -13,13 +13,13 @@ word bytes at =
 abbrev pub wordBytes : ℕ → List ℕ
 wordBytes n = n % 256 ∷ n / 256 % 256 ∷ n / 65536 % 256 ∷ n / 16777216 % 256 ∷ []
 
--- 32 bits, turned so that their order is that of the signed numbers: 0 is the least
-unfoldable pub turned : ℕ → ℕ
-turned bits = (bits + 2147483648) % 4294967296
+-- 32 bits in offset binary: their order is that of the signed numbers, 0 is the least
+unfoldable pub offsetBinary : ℕ → ℕ
+offsetBinary bits = (bits + 2147483648) % 4294967296
 
 -- the signed number of 32 bits
 unfoldable pub signed : ℕ → ℤ
-signed bits = subℕ (turned bits) 2147483648
+signed bits = subℕ (offsetBinary bits) 2147483648
 
 -- the 32 bits of a signed number, −2,147,483,648 to 2,147,483,647
 abbrev pub bits : ℤ → ℕ

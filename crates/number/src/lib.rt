@@ -4,7 +4,7 @@ ghost use mathlib.Core.List.{_++_};
 ghost use Prim.Native.Nat.{_+_, _%_, _≤_, _<_};
 ghost use lib.ListN.{length, take, drop};
 ghost use Rattle.number.specs.Axis.{axis, whole};
-ghost use Rattle.number.specs.Words.{word, wordBytes, turned, bits};
+ghost use Rattle.number.specs.Words.{word, wordBytes, offsetBinary, bits};
 
 // The index of the whole number 0 on the axis.
 pub const ORIGIN: u32 = 2_000_000_000;
@@ -26,9 +26,9 @@ pub fn word_at(s: &[u8], at: usize) -> u32
     wide(s[at]) + 256 * wide(s[at + 1]) + 65536 * wide(s[at + 2]) + 16777216 * wide(s[at + 3])
 }
 
-// The bits of a signed number, turned into the order of unsigned ones.
-pub fn turn(bits: u32) -> u32
-    ensures { λ r. ⌜ r ≡ turned bits ⌝ }
+// The bits of a signed number in offset binary: their order is that of the signed numbers.
+pub fn offset_binary(bits: u32) -> u32
+    ensures { λ r. ⌜ r ≡ offsetBinary bits ⌝ }
 {
     std::num::wrapping_add_u32(bits, 2147483648)
 }

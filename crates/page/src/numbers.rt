@@ -24,7 +24,7 @@ pub fn signed(out: &mut [u8], at: usize, bits: u32) -> usize
     requires { ⌜ at + length (signedDecimal (signed bits)) ≤ length (now out) ⌝ }
     ensures { λ r. ⌜ Puts (signedDecimal (signed bits)) (now (out .entry)) at (now (out .exit)) r ⌝ }
 {
-    let place = number::turn(bits);
+    let place = number::offset_binary(bits);
     if place < ZERO {
         let digits = put::byte(out, at, b'-');
         return unsigned(out, digits, (ZERO - place) as u64);

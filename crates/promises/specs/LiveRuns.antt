@@ -7,7 +7,7 @@ use mathlib.Core.List.{List, [], _∷_, _++_, List·Memᴰ}
 use lib.ListN.{length, take}
 use Rattle.number.specs.Words.{word}
 use Rattle.refusal.specs.Outcome.{Outcome, refused}
-use Rattle.recording.specs.Recording.{flat, Accepted}
+use Rattle.recording.specs.Recording.{concat, Accepted}
 use Rattle.recording.specs.Output.{counted, outputAfter}
 use Rattle.marks.specs.Marks.{marksOf, marksLine, AcceptedMarks}
 use Rattle.thin.specs.Thin.{keptBytes}
@@ -83,7 +83,7 @@ pub record RunHeld (h : History) (live : List ℕ) : Type 0 where
   pub marks : marksIn live ≡ h .marks
   pub kept : heldIn live 0 ≡ keptRun h
   pub few : length (keptRun h) ≤ 16 * mostHeld
-  pub accepted : Accepted (flat (h .run))
+  pub accepted : Accepted (concat (h .run))
 
 -- EVERY CALL ANSWERS AS THE HISTORY DOES, and before the first call and after each the run holds the kept readings of the history's run, where its marks are accepted
 abbrev pub AsTheHistory : History → List ℕ → List LiveCall → List LiveReturned → Type 0
@@ -97,10 +97,10 @@ AsTheHistory h live (c ∷ cs) (y ∷ ys) =
 -- "Going back makes the discarded readings no part of the run, for cutting as well as for questions": what is read out answers as the history's run does, and with a
 -- further piece behind it thins, with room, to the kept readings of the history's run with that piece
 pub record HeldLikeRun (h : History) : Type 0 where
-  pub in-place : InPlaceOf (h .marks) (flat (h .run)) (keptRun h)
-  pub thins-on : (piece : List ℕ) {out : List ℕ} {r : ℕ} {written : List ℕ} → Accepted (flat (h .run) ++ piece)
-      → length (keptBytes (marksOf (h .marks)) (flat (h .run) ++ piece)) ≤ length out → ThinCall (keptRun h ++ piece) (h .marks) out r written
-      → (numberIn r ≡ 0) × (take (lowIn r) written ≡ keptBytes (marksOf (h .marks)) (flat (h .run) ++ piece))
+  pub in-place : InPlaceOf (h .marks) (concat (h .run)) (keptRun h)
+  pub thins-on : (piece : List ℕ) {out : List ℕ} {r : ℕ} {written : List ℕ} → Accepted (concat (h .run) ++ piece)
+      → length (keptBytes (marksOf (h .marks)) (concat (h .run) ++ piece)) ≤ length out → ThinCall (keptRun h ++ piece) (h .marks) out r written
+      → (numberIn r ≡ 0) × (take (lowIn r) written ≡ keptBytes (marksOf (h .marks)) (concat (h .run) ++ piece))
 
 -- ---- DEMAND 1, of these calls
 

@@ -3,16 +3,16 @@
 -- means that writes neither `P` nor `dose` stands in meaning/specs/Unpigmented.
 use Prim.Native.Nat.{ℕ, _+_, _*_, _/_, _%_, _<_}
 use mathlib.Core.Path.{_≡_}
-use mathlib.Core.Bool.{Bool, _&&_, not}
+use mathlib.Core.Bool.{_&&_, not}
 use mathlib.Core.List.{List, [], _∷_, _++_, List·Memᴰ}
-use lib.Dec.{leb, ltb, eqb}
+use lib.Dec.{ltb, eqb}
 use lib.ListN.{length, getD}
 use Rattle.number.specs.Least.{least}
-use Rattle.number.specs.Words.{word, signed}
 use Rattle.refusal.specs.Outcome.{Outcome, Line, line, judged}
 use Rattle.recording.specs.Condition.{pick, on}
 use Rattle.recording.specs.Reading.{Reading}
-use Rattle.recording.specs.Recording.{Raw, records, flat, reading, readings, latest, inRange, later, mostRecords, recordingLines}
+use Rattle.recording.specs.Recording.{Raw, records, concat, pigmentByte, reading, readings, later, mostRecords, recordingLines}
+use Rattle.recording.specs.Unpigmented.{fieldsWithout}
 use Rattle.recording.specs.Output.{outputLine}
 use Rattle.kept.specs.Kept.{mostKept}
 use Rattle.kept.specs.Unpigmented.{keptForWithout, mostKeptWithout}
@@ -21,19 +21,13 @@ use Rattle.thin.specs.Thin.{thinOf}
 
 -- byte 14 of every record is zero
 abbrev pub Old : List ℕ → Type 0
-Old recording = (i : ℕ) → i < length recording / 16 → getD recording (i * 16 + 14) 0 ≡ 0
+Old recording = (i : ℕ) → i < length recording / 16 → getD recording (i * 16 + pigmentByte) 0 ≡ 0
 
 -- ---- the rules without pigments
 
--- document 01: the fields of a record keep to their ranges, and bytes 14 and 15 are zero
-abbrev pub fieldsBefore : Raw → Bool
-fieldsBefore x =
-    leb (word x 0) latest
-    && (inRange (signed (word x 4)) && (inRange (signed (word x 8)) && (leb (getD x 12 0) 2 && (leb (getD x 13 0) 2 && (eqb (getD x 14 0) 0 && eqb (getD x 15 0) 0)))))
-
 -- the index of the first record out of its rules
 abbrev pub firstBadBefore : List Raw → ℕ
-firstBadBefore xs = least (λ i. not (fieldsBefore (getD xs i []) && later xs i)) (length xs)
+firstBadBefore xs = least (λ i. not (fieldsWithout (getD xs i []) && later xs i)) (length xs)
 
 -- refusals 1, 2 and 3, in order
 abbrev pub linesBefore : List ℕ → List Line
@@ -45,7 +39,7 @@ linesBefore bytes =
 
 -- the bytes of the kept records
 abbrev pub keptBefore : List ℕ → List ℕ → List ℕ
-keptBefore marks bytes = flat (pick (on reading (keptForWithout marks)) (records bytes))
+keptBefore marks bytes = concat (pick (on reading (keptForWithout marks)) (records bytes))
 
 -- the thinning call
 abbrev pub thinBefore : List ℕ → List ℕ → ℕ → Outcome (List ℕ)

@@ -8,7 +8,7 @@ use lib.IntN.{ℤ}
 use lib.ListN.{length, take}
 use Rattle.recording.specs.Reading.{A}
 use Rattle.recording.specs.Recording.{readings, Accepted}
-use Rattle.meaning.specs.Named.{Part, curve, additions, Agreeing}
+use Rattle.meaning.specs.Named.{Channel, curve, additions, Agreeing}
 use Rattle.marks.specs.Marks.{marksOf}
 use Rattle.thin.specs.Thin.{keptBytes}
 use Rattle.thin.specs.Selection.{Selection}
@@ -16,7 +16,7 @@ use Rattle.reply.specs.Reply.{numberIn, lowIn}
 use Rattle.mill.specs.Calls.{LabQuestionCall, LabDegreeCall, LabPairCall}
 
 -- what is no secret, beside the times: A with its slopes, and the pigments
-pub data Public : Part → Type 0 where
+pub data Public : Channel → Type 0 where
   the-batch : Public (curve A)
   the-additions : Public additions
 

@@ -3,7 +3,7 @@ ghost use mathlib.Core.Path.{_≡_};
 ghost use lib.ListN.{length};
 ghost use Rattle.runs.specs.Set.{slotWords};
 ghost use Rattle.evaluation.specs.inner.Evaluation.{textOf};
-ghost use Rattle.question.specs.inner.Answered.{Ready, Gives};
+ghost use Rattle.question.specs.inner.Answered.{Answerable, Gives};
 use refusal::Refusal;
 
 // Whether the set is given.
@@ -14,7 +14,7 @@ pub enum Verdict {
 
 // The set of the text at the first record, unless it is refused.
 pub fn set_of(rec: &[u8], table: &[u32], count: usize, set: &mut [u32]) -> Verdict
-    requires { ⌜ Ready (now table) count (now rec) × (length (now set) ≡ slotWords) ⌝ }
+    requires { ⌜ Answerable (now table) count (now rec) × (length (now set) ≡ slotWords) ⌝ }
     ensures { λ r. ⌜ Gives (now (rec .entry)) (textOf (now (table .entry)) count) (now (set .exit)) r ⌝ }
 {
     if crate::limits::asks(table, count, rec, count - 1) {

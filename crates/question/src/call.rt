@@ -4,7 +4,7 @@ ghost use lib.ListN.{length};
 ghost use Rattle.recording.specs.Output.{Answers};
 ghost use Rattle.evaluation.specs.inner.Evaluation.{textOf};
 ghost use Rattle.question.specs.Question.{questionOf, answerOf, writtenOf};
-ghost use Rattle.question.specs.inner.Answered.{Ready};
+ghost use Rattle.question.specs.inner.Answered.{Answerable};
 ghost use Rattle.runs.specs.Set.{member, Valid};
 use crate::answered::Verdict;
 use crate::prepare::Prepared;
@@ -27,7 +27,7 @@ fn write_set(set: &[u32], out: &mut [u8]) -> Written
 
 // Answers a text that was read.
 pub fn answer(rec: &[u8], table: &[u32], count: usize, out: &mut [u8]) -> Written
-    requires { ⌜ Ready (now table) count (now rec) ⌝ }
+    requires { ⌜ Answerable (now table) count (now rec) ⌝ }
     ensures { λ r. ⌜ Answers (answerOf (now (rec .entry)) (textOf (now (table .entry)) count) (length (now (out .entry)))) (now (out .entry)) r (now (out .exit)) ⌝ }
 {
     let mut set = [0u32; runset::SLOT];

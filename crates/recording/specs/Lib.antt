@@ -1,6 +1,7 @@
 pub mod Condition
 pub mod Reading
 pub mod Recording
+pub mod Unpigmented
 pub mod Output
 pub mod R1
 pub mod R2

@@ -17,9 +17,9 @@ reported (written.Bytes n) = result n
 reported (written.Refused r) = refused (numberOf r) (placeOf r)
 
 -- the number of records, or the refusal's number and place
-abbrev pub found : Checked → Outcome ℕ
-found (checked.Records n) = result n
-found (checked.Refused r) = refused (numberOf r) (placeOf r)
+abbrev pub checkOutcome : Checked → Outcome ℕ
+checkOutcome (checked.Records n) = result n
+checkOutcome (checked.Refused r) = refused (numberOf r) (placeOf r)
 
 -- the length of the result
 abbrev pub counted : Outcome (List ℕ) → Outcome ℕ

@@ -4,3 +4,4 @@ pub mod Acceptance
 pub mod Outcome
 pub mod Pigment
 pub mod Turn
+pub mod Condition

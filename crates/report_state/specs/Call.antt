@@ -56,13 +56,13 @@ pub record Reports (o : Outcome Answer) (met empty distances mean r first second
   pub fourth-place : fourth ≡ meanAfter o mean
 
 -- the index of the target that was named
-abbrev pub indexOf : Naming → ℕ → Outcome ℕ
-indexOf n room = judged (namingLines n room) (index (n .target))
+abbrev pub namedIndex : Naming → ℕ → Outcome ℕ
+namedIndex n room = judged (namingLines n room) (index (n .target))
 
 -- THE START CALL: what it returns, and the bytes of the report, `old` before and `new` after
 pub record Starts (n : Naming) (old : List ℕ) (r : ℕ) (new : List ℕ) : Type 0 where
   pub returned : r ≡ packed (answerTold (named (length old) n))
-  pub state : new ≡ startAfter n (indexOf n (length old)) old
+  pub state : new ≡ startAfter n (namedIndex n (length old)) old
 
 -- THE ADD CALL, of any bytes that are handed in as the report
 pub record Adds (report recording : List ℕ) (met empty distances mean r : ℕ) (after : List ℕ) (first second third fourth : ℕ) : Type 0 where

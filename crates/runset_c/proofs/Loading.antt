@@ -9,7 +9,7 @@ use lib.Dec.{leb, ltb}
 use lib.ListN.{length}
 use borrow.Author.Tests.{lt-ltb, le-ltb, le-leb, lt-leb}
 use Rattle.number.specs.Axis.{axis}
-use Rattle.number.specs.Words.{word, turned}
+use Rattle.number.specs.Words.{word, offsetBinary}
 use Rattle.runs.specs.Runs.{mostRuns, runCount}
 use Rattle.runs.specs.Set.{member, Holds, Makes}
 use Rattle.runs.specs.laws.Runs.{runCount-ext}
@@ -19,20 +19,20 @@ use Rattle.runset_c.specs.Promises.{Extended, Loaded}
 
 -- ---- an index
 
-module _ (bytes : List ℕ) (at t : ℕ) (e : t ≡ turned (word bytes at)) where
+module _ (bytes : List ℕ) (at t : ℕ) (e : t ≡ offsetBinary (word bytes at)) where
   pub index-below : t < 147483648 → axis ≡ indexAt bytes at
   unfolding indexAt
-  index-below h = sym (ap (λ (b : Bool). cond b axis (min (turned (word bytes at) - 147483648) axis)) (lt-ltb (turned (word bytes at)) 147483648 (omega arith)))
+  index-below h = sym (ap (λ (b : Bool). cond b axis (min (offsetBinary (word bytes at) - 147483648) axis)) (lt-ltb (offsetBinary (word bytes at)) 147483648 (omega arith)))
 
-  from-shift : 147483648 ≤ t → min (turned (word bytes at) - 147483648) axis ≡ indexAt bytes at
+  from-shift : 147483648 ≤ t → min (offsetBinary (word bytes at) - 147483648) axis ≡ indexAt bytes at
   unfolding indexAt
-  from-shift h = sym (ap (λ (b : Bool). cond b axis (min (turned (word bytes at) - 147483648) axis)) (le-ltb (turned (word bytes at)) 147483648 (omega arith)))
+  from-shift h = sym (ap (λ (b : Bool). cond b axis (min (offsetBinary (word bytes at) - 147483648) axis)) (le-ltb (offsetBinary (word bytes at)) 147483648 (omega arith)))
 
   pub index-in : 147483648 ≤ t → t - 147483648 < axis → t - 147483648 ≡ indexAt bytes at
-  index-in h g = let q : t - 147483648 ≡ min (turned (word bytes at) - 147483648) axis = omega arith in q ∙ from-shift h
+  index-in h g = let q : t - 147483648 ≡ min (offsetBinary (word bytes at) - 147483648) axis = omega arith in q ∙ from-shift h
 
   pub index-above : 147483648 ≤ t → axis ≤ t - 147483648 → axis ≡ indexAt bytes at
-  index-above h g = let q : axis ≡ min (turned (word bytes at) - 147483648) axis = omega arith in q ∙ from-shift h
+  index-above h g = let q : axis ≡ min (offsetBinary (word bytes at) - 147483648) axis = omega arith in q ∙ from-shift h
 
 -- ---- one more run
 

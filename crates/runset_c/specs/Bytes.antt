@@ -6,13 +6,13 @@ use mathlib.Core.List.{List, _++_}
 use lib.Dec.{leb, ltb, eqb}
 use lib.ListN.{length, getD, drop}
 use Rattle.number.specs.Axis.{axis}
-use Rattle.number.specs.Words.{word, turned}
+use Rattle.number.specs.Words.{word, offsetBinary}
 use Rattle.runs.specs.Runs.{mostRuns, runCount, lows, setBytes}
 use Rattle.runs.specs.Distance.{distance}
 
 -- the index of the number that stands at `at`; the size of the axis where it is off the axis
 unfoldable pub indexAt : List ℕ → ℕ → ℕ
-indexAt bytes at = cond (ltb (turned (word bytes at)) 147483648) axis (min (turned (word bytes at) - 147483648) axis)
+indexAt bytes at = cond (ltb (offsetBinary (word bytes at)) 147483648) axis (min (offsetBinary (word bytes at) - 147483648) axis)
 
 -- v lies in one of the first k runs
 unfoldable pub inRuns : List ℕ → ℕ → ℕ → Bool

@@ -11,7 +11,7 @@ ghost use Rattle.runs.specs.Set.{slotWords, sharedWords, member, Valid, Makes};
 ghost use Rattle.runset_c.specs.Bytes.{indexAt, setOf, unfit, unfitAny, chosen, asked, replyOf, outputOf, memberReply, distanceReply, repeatReply, storesReply};
 ghost use Rattle.runset_c.specs.Promises.{Extended, Loaded, Delivered};
 
-// How far the indices lie below the turned bits.
+// How far the indices lie below offset binary.
 const SHIFT: u32 = 147_483_648;
 
 // The index of the number that stands at `at`; AXIS where it is off the axis.
@@ -19,7 +19,7 @@ fn index_at(s: &[u8], at: usize) -> u32
     requires { ⌜ at + 4 ≤ length (now s) ⌝ }
     ensures { λ r. ⌜ r ≡ indexAt (now (s .entry)) at ⌝ }
 {
-    let t = number::turn(number::word_at(s, at));
+    let t = number::offset_binary(number::word_at(s, at));
     if t < SHIFT {
         return number::AXIS;
     }

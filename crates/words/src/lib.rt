@@ -32,8 +32,8 @@ pub fn spelled(text: &[u8], at: usize, word: &[u8]) -> bool
     true
 }
 
-// The code of a curve: 0 A, 1 B.
-pub fn curve(text: &[u8], at: usize) -> Found
+// The letter of a curve, as its code: 0 A, 1 B.
+pub fn curve_letter(text: &[u8], at: usize) -> Found
     requires { ⌜ at ≤ length (now text) ⌝ }
     ensures { λ r. ⌜ r ≡ firstOf curves (now (text .entry)) at ⌝ }
 {
@@ -85,7 +85,7 @@ fn field(text: &[u8], at: usize) -> Found
     requires { ⌜ at ≤ length (now text) ⌝ }
     ensures { λ r. ⌜ r ≡ firstOf fields (now (text .entry)) at ⌝ }
 {
-    match curve(text, at) {
+    match curve_letter(text, at) {
         Found::At(k, e) => Found::At(k, e),
         Found::Missing => time(text, at),
     }

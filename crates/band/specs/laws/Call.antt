@@ -24,9 +24,10 @@ use Rattle.grammar.specs.inner.Table.{leafTexts, unaries, binaries, rowAt, tree
 use Rattle.text.specs.Told.{nodesOf}
 use Rattle.meaning.specs.inner.Coded.{Coded, coded}
 use Rattle.evaluation.specs.inner.Evaluation.{textOf}
-use Rattle.evaluation.specs.laws.Tree.{tree-step, kind-known}
+use Rattle.text.specs.laws.Table.{tree-step}
+use Rattle.evaluation.specs.laws.Tree.{kind-known}
 use Rattle.question.specs.Question.{theText, read, askingLines}
-use Rattle.question.specs.inner.Answered.{Ready}
+use Rattle.question.specs.inner.Answered.{Answerable}
 use Rattle.question.specs.inner.Prepare.{preparedOf, Prepares}
 use Rattle.question.specs.declared.prepare.Prepared.{Prepared}
 use Rattle.question.specs.declared.prepare.Prepared.the-variants as prepared
@@ -79,7 +80,7 @@ module _ (r : Row) (p q : Text) where
       only-at oneExtreme 0 (leafTexts r ++ (unaries p ++ binaries p q)) k p refl h
       (let z : 0 + k ≡ k = omega arith in ap isFive z ∙ or-none (ne-eqb k HIGH a) (or-none (ne-eqb k LOW b) (or-none (ne-eqb k LOWAFTER c) (or-none (ne-eqb k CAPAFTER d) (ne-eqb k AMPL e)))))
 
-module _ (table : List ℕ) (count : ℕ) (bytes : List ℕ) (ready : Ready table count bytes) (row : Row) (is-row : row ≡ rowAt table (count - 1)) where
+module _ (table : List ℕ) (count : ℕ) (bytes : List ℕ) (ready : Answerable table count bytes) (row : Row) (is-row : row ≡ rowAt table (count - 1)) where
   last : count - 1 < count
   last = omega (arith, ready .some)
 

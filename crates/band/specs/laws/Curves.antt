@@ -17,7 +17,7 @@ use Rattle.recording.specs.Recording.{inRange}
 use Rattle.meaning.specs.Listed.{recordAt}
 use Rattle.meaning.specs.inner.Recorded.{InRange}
 use Rattle.meaning.specs.inner.Coded.{Coded, code, index, codedValue}
-use Rattle.meaning.specs.laws.Whole.{Stands, stands-whole, stands-le, stands-add, le-test}
+use Rattle.meaning.specs.laws.Whole.{Stands, stands-whole, index-whole, coded-value, stands-le, stands-add, le-test}
 use Rattle.meaning.specs.laws.Listed.{Settled, AllSettled, settled}
 use Rattle.meaning.specs.laws.Pick.{Each, each-make}
 use Rattle.band.specs.Band.{NoFarther, Moved, Within}
@@ -45,10 +45,6 @@ near-stands e x y m o p q h k =
       ),
     )
 
-pub index-stands : (z : ℤ) (n : ℕ) → Stands z n origin → index z ≡ n
-index-stands (pos k) n h = omega arith
-index-stands (negsuc k) n h = omega arith
-
 -- wherever it moves, a value that stands over e stands on the axis
 pub near-index : (e : ℕ) (x y : ℤ) (m : ℕ) → Stands x m origin → e ≤ m → NoFarther e x y → Stands y (index y) origin × Close e m (index y)
 near-index e x (pos k) m h l n =
@@ -75,10 +71,6 @@ all-ranged r h = each-make nothing Ranged r (λ i k. h i k)
 range-index : (z : ℤ) → So (inRange z) → (1000000000 ≤ index z) × (index z ≤ 3000000000)
 range-index (pos n) h = (omega arith, omega (arith, leb-true n 1000000000 h))
 range-index (negsuc n) h = let l = leb-true n 999999999 (and-left (leb n 999999999) _ h) in (omega arith, omega arith)
-
-pub coded-value : (c : Curve) (x : Reading) → codedValue c (code x) ≡ index (value c x)
-coded-value A x = refl
-coded-value B x = refl
 
 -- how far a value within the record's limits may move and stay on the axis
 abbrev pub margin : ℕ
@@ -187,8 +179,8 @@ module _ (e : ℕ) (narrow : e ≤ margin) where
 
     put-value : (d : Curve) (n : ℕ) (x : Reading) → codedValue d (code (put d (whole n) x)) ≡ n
     unfolding put
-    put-value A n x = index-stands (whole n) n (stands-whole n)
-    put-value B n x = index-stands (whole n) n (stands-whole n)
+    put-value A n x = index-whole n
+    put-value B n x = index-whole n
 
     -- CLOSE VALUES ARE THOSE OF A CURVE WITHIN THE BAND
     pub curved : (r : List Reading) → Each Ranged r → (v : List ℕ) → Closely e (valuesWhere P c (map code r)) v → Curved r v

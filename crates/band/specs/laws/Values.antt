@@ -2,7 +2,7 @@
 use Prim.Native.Nat.{ℕ, _+_, _-_, _≤_, _<_, max, min}
 use native.Mathlib.Omega.{arith}
 use mathlib.Core.Path.{_≡_, refl, sym, ap, _∙_, subst}
-use mathlib.Core.Bool.{Bool, true, false, _||_, _&&_, So}
+use mathlib.Core.Bool.{Bool, true, false, _||_, _&&_, So, or-false}
 use mathlib.Core.Logic.{⊎-elim}
 use mathlib.Core.List.{List, [], _∷_, map}
 use Rattle.number.specs.laws.Boolean.{same, or-left, or-right, or-cases, and-left, and-right, and-make}
@@ -90,10 +90,6 @@ least-map f h x [] = refl
 least-map f h x (y ∷ v) = ap (min (f x)) (least-map f h y v) ∙ sym (h x (leastOf y v))
 
 -- ---- tests
-
-or-false : (b : Bool) → (b || false) ≡ b
-or-false true = refl
-or-false false = refl
 
 and-true : (b : Bool) → (b && true) ≡ b
 and-true true = refl

@@ -6,10 +6,10 @@ use mathlib.Core.Bool.{Bool, true, false, not, cond}
 use mathlib.Core.Logic.{_⊎_, inl, inr, ⊎-elim}
 use mathlib.Core.List.{List, [], _∷_, _++_}
 use lib.Dec.{T, eqb, ltb}
-use lib.IntN.{ℤ, pos, negsuc}
+use lib.IntN.{ℤ}
 use lib.Ieee.{Float, isNan}
 use borrow.Author.Tests.{eq-eqb, ne-eqb, ltb-true}
-use Rattle.number.specs.Axis.{axis, origin, whole}
+use Rattle.number.specs.Axis.{axis}
 use Rattle.refusal.specs.Outcome.{Outcome, result, refused, Line, judged, NoneMeets}
 use Rattle.refusal.specs.Numbers.{numberOf, placeOf}
 use Rattle.refusal.specs.declared.Refusal.{Refusal}
@@ -23,7 +23,7 @@ use Rattle.grammar.specs.inner.Parse.{parsed}
 use Rattle.text.specs.Told.{nodesOf}
 use Rattle.meaning.specs.inner.Coded.{coded, index}
 use Rattle.meaning.specs.inner.Truth.{val}
-use Rattle.meaning.specs.laws.Whole.{Stands, stands-whole}
+use Rattle.meaning.specs.laws.Whole.{index-whole}
 use Rattle.evaluation.specs.inner.Evaluation.{textOf}
 use Rattle.question.specs.Question.{theText, read, answer, askingLines, setLines}
 use Rattle.question.specs.inner.Prepare.{preparedOf, Prepares}
@@ -84,10 +84,6 @@ module _ (f : ℕ → Bool) (v : ℕ) where
 pub reach-ext : (f g : ℕ → Bool) (v : ℕ) → v < axis → ((w : ℕ) → w < axis → f w ≡ g w) → reachIn f v ≡ reachIn g v
 reach-ext f g v h e = ap (λ (d : ℕ). cond (ltb d axis) (away d) nowhere) (distance-ext f g v h e)
 
--- sets with the same members come equally near
-pub value-ext : (f g : ℕ → Bool) (v : ℕ) → v < axis → ((w : ℕ) → w < axis → f w ≡ g w) → valueOf f v ≡ valueOf g v
-value-ext f g v h e = ap valued (reach-ext f g v h e)
-
 -- ---- grading
 
 -- a result that is graded, after the same lines
@@ -119,13 +115,6 @@ module _ (bytes : List ℕ) (p : Text) (words : List ℕ) (a : Verdict) (g : Giv
       ∙ sym (judged-none (setLines bytes p) (reachIn (λ n. val (coded bytes) n p 0) v) (g .none e))
 
 -- ---- a target
-
-index-stands : (z : ℤ) (n : ℕ) → Stands z n origin → index z ≡ n
-index-stands (pos k) n h = omega arith
-index-stands (negsuc k) n h = omega arith
-
-pub index-whole : (n : ℕ) → index (whole n) ≡ n
-index-whole n = index-stands (whole n) n (stands-whole n)
 
 module _ (g : ℤ) (lines : List Line) (f : ℕ → Bool) where
   pub target-off : Placed g Off → refused 12 0 ≡ judged (targetLine g ∷ lines) (valueOf f (index g))

@@ -15,7 +15,8 @@ use Rattle.meaning.specs.inner.Truth.{val, largeAt, someNode, refused8, refused
 use Rattle.leaves.specs.inner.Leaf.{leafOf, Asked}
 use Rattle.evaluation.specs.inner.Evaluation.{textOf, Asking, Evaluates}
 use Rattle.evaluation.specs.laws.Leaf.{isLeaf, row-leaf}
-use Rattle.evaluation.specs.laws.Tree.{build-leaf, tree-step}
+use Rattle.text.specs.laws.Table.{tree-step}
+use Rattle.evaluation.specs.laws.Tree.{build-leaf}
 
 alone-eight : (r : List Coded) (p : Text) → isLeaf p ≡ true → refused8 r p ≡ largeAt r p 0
 unfolding refused8 someNode

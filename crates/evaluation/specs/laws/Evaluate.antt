@@ -3,7 +3,7 @@ use Prim.Native.Nat.{ℕ, zero, suc, _+_, _*_, _-_, _/_, _<_, _≤_, min}
 use native.Mathlib.Omega.{arith}
 use native.Mathlib.Decide.{ℕ-discrete, decLt}
 use mathlib.Core.Path.{_≡_, refl, sym, ap, ap₂, subst, _∙_}
-use mathlib.Core.Bool.{Bool, true, false, false≢true, _||_, _&&_, not}
+use mathlib.Core.Bool.{Bool, true, false, false≢true, _&&_, not}
 use mathlib.Core.Logic.{_⊎_, inl, inr, ⊎-elim}
 use mathlib.Core.List.{List}
 use lib.ListN.{length, take, length-map}
@@ -11,6 +11,7 @@ use lib.Dec.{eqb, ltb}
 use borrow.Author.Tests.{eqb-true, eqb-false}
 use Rattle.grammar.specs.inner.Kinds.{AND, UNTIL}
 use Rattle.number.specs.Axis.{axis}
+use Rattle.number.specs.laws.Boolean.{or-left, or-right}
 use Rattle.runs.specs.Set.{member, Valid, Holds}
 use Rattle.runs.specs.Runs.{mostRuns, runCount}
 use Rattle.runs.specs.laws.Runs.{runCount-ext}
@@ -29,29 +30,23 @@ use Rattle.evaluation.specs.inner.Askable.{Askable}
 use Rattle.meaning.specs.inner.Coded.{coded}
 use Rattle.evaluation.specs.inner.Step.{unaryOf, binaryOf}
 use Rattle.evaluation.specs.laws.Step.{four, unary-last, unary-inner, binary-last, binary-inner}
-use Rattle.evaluation.specs.laws.Tree.{build-leaf, tree-step, falls-first, falls-second, kind-known}
+use Rattle.text.specs.laws.Table.{tree-step}
+use Rattle.evaluation.specs.laws.Tree.{build-leaf, falls-first, falls-second, kind-known}
 use Rattle.evaluation.specs.laws.Node.{none-first, none-second}
 use Rattle.evaluation.specs.inner.Evaluate.{kind, first, second, Under, here, on-first, on-second, Right, Ready, Fit, Evaluated, Large, Outcome}
 
 -- ---- a text whose child has F, G, X, U or W has one
-
-or-first : (a b : Bool) → a ≡ true → (a || b) ≡ true
-or-first a b e = ap (λ (x : Bool). x || b) e
-
-or-second : (a b : Bool) → b ≡ true → (a || b) ≡ true
-or-second true b e = refl
-or-second false b e = e
 
 temporal-first-one : (k a b n : ℕ) (p q : Text) → unaryFrom ≤ k → k < binaryFrom → temporal p ≡ true → temporal (build (row k a b n) p q) ≡ true
 temporal-first-one k a b n p q l h e = four (λ (k : ℕ). temporal (build (row k a b n) p q) ≡ true) unaryFrom k l h e refl refl refl
 
 temporal-first-two : (k a b n : ℕ) (p q : Text) → binaryFrom ≤ k → k < kinds → temporal p ≡ true → temporal (build (row k a b n) p q) ≡ true
 temporal-first-two k a b n p q l h e =
-    four (λ (k : ℕ). temporal (build (row k a b n) p q) ≡ true) binaryFrom k l h (or-first (temporal p) (temporal q) e) (or-first (temporal p) (temporal q) e) refl refl
+    four (λ (k : ℕ). temporal (build (row k a b n) p q) ≡ true) binaryFrom k l h (or-left (temporal p) (temporal q) e) (or-left (temporal p) (temporal q) e) refl refl
 
 temporal-second : (k a b n : ℕ) (p q : Text) → binaryFrom ≤ k → k < kinds → temporal q ≡ true → temporal (build (row k a b n) p q) ≡ true
 temporal-second k a b n p q l h e =
-    four (λ (k : ℕ). temporal (build (row k a b n) p q) ≡ true) binaryFrom k l h (or-second (temporal p) (temporal q) e) (or-second (temporal p) (temporal q) e) refl refl
+    four (λ (k : ℕ). temporal (build (row k a b n) p q) ≡ true) binaryFrom k l h (or-right (temporal p) (temporal q) e) (or-right (temporal p) (temporal q) e) refl refl
 
 module _ (table : List ℕ) (count : ℕ) (r : List Coded) (i n : ℕ) (falling : Falling table count) (inn : n < count) where
   abbrev self : Text

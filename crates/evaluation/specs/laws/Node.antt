@@ -3,33 +3,21 @@ use Prim.Native.Nat.{ℕ, zero, suc, _+_, _*_, _-_, _<_, _≤_}
 use native.Mathlib.Omega.{arith}
 use native.Mathlib.Nat.{le-of-suc-le-suc, not-suc-le-zero}
 use native.Mathlib.Decide.{decLt}
-use mathlib.Core.Path.{_≡_, refl, sym, ap, ap₂, subst, _∙_}
+use mathlib.Core.Path.{_≡_, refl, sym, ap, subst, _∙_}
 use mathlib.Core.Bool.{Bool, true, false, false≢true, _||_}
 use mathlib.Core.List.{List, [], _∷_}
 use lib.ListN.{length, getD}
 use Rattle.grammar.specs.Syntax.{Text, atom, listed, lag, or, and, neg, finally, globally, next, until, weakUntil}
 use Rattle.grammar.specs.declared.Row.{Row}
 use Rattle.grammar.specs.inner.Table.{row, build, rowAt, treeAt, Falling, binaryFrom, kinds, unaryFrom}
+use Rattle.number.specs.laws.Boolean.{or-left, or-right, or-none, none-left, none-right}
 use Rattle.meaning.specs.inner.Truth.{someNode}
 use Rattle.leaves.specs.inner.Leaf.{leafOf}
 use Rattle.evaluation.specs.laws.Leaf.{isLeaf, row-leaf}
 use Rattle.evaluation.specs.laws.Step.{four}
-use Rattle.evaluation.specs.laws.Tree.{build-leaf, tree-step, falls-first, falls-second, kind-known}
+use Rattle.text.specs.laws.Table.{tree-step}
+use Rattle.evaluation.specs.laws.Tree.{build-leaf, falls-first, falls-second, kind-known}
 use Rattle.evaluation.specs.inner.Evaluate.{kind, first, second, Under, here, on-first, on-second}
-
-or-first : (a b : Bool) → a ≡ true → (a || b) ≡ true
-or-first a b e = ap (λ (x : Bool). x || b) e
-
-or-second : (a b : Bool) → b ≡ true → (a || b) ≡ true
-or-second true b e = refl
-or-second false b e = e
-
-pub or-none : (a b : Bool) → (a || b) ≡ false → (a ≡ false) × (b ≡ false)
-or-none true b e = absurd (false≢true (sym e))
-or-none false b e = (refl, e)
-
-or-false : (a b : Bool) → a ≡ false → b ≡ false → (a || b) ≡ false
-or-false a b e f = ap₂ _||_ e f
 
 module _ (G : Text → Bool) where
   one-node : (t : Text) → isLeaf t ≡ true → someNode G t ≡ G t
@@ -82,15 +70,15 @@ module _ (G : Text → Bool) where
     none-first l e = by (decLt (kind table n) binaryFrom)
       where
         by : Dec (kind table n < binaryFrom) → someNode G (treeAt table (first table n)) ≡ false
-        by (yes h) = or-none (G (treeAt table n)) (someNode G (treeAt table (first table n))) (sym (here-one l h) ∙ e) .1
+        by (yes h) = none-right (G (treeAt table n)) (someNode G (treeAt table (first table n))) (sym (here-one l h) ∙ e)
         by (no h) =
-            or-none (someNode G (treeAt table (first table n))) (someNode G (treeAt table (second table n)))
-            (or-none (G (treeAt table n)) (someNode G (treeAt table (first table n)) || someNode G (treeAt table (second table n))) (sym (here-two (omega arith)) ∙ e) .1) .0
+            none-left (someNode G (treeAt table (first table n))) (someNode G (treeAt table (second table n)))
+            (none-right (G (treeAt table n)) (someNode G (treeAt table (first table n)) || someNode G (treeAt table (second table n))) (sym (here-two (omega arith)) ∙ e))
 
     pub none-second : binaryFrom ≤ kind table n → someNode G (treeAt table n) ≡ false → someNode G (treeAt table (second table n)) ≡ false
     none-second l e =
-        or-none (someNode G (treeAt table (first table n))) (someNode G (treeAt table (second table n)))
-        (or-none (G (treeAt table n)) (someNode G (treeAt table (first table n)) || someNode G (treeAt table (second table n))) (sym (here-two l) ∙ e) .1) .1
+        none-right (someNode G (treeAt table (first table n))) (someNode G (treeAt table (second table n)))
+        (none-right (G (treeAt table n)) (someNode G (treeAt table (first table n)) || someNode G (treeAt table (second table n))) (sym (here-two l) ∙ e))
 
   module _ (table : List ℕ) (count : ℕ) (falling : Falling table count) where
     -- a node under n that has G is a node of the text
@@ -99,18 +87,18 @@ module _ (G : Text → Bool) where
       where
         by : Dec (kind table n < unaryFrom) → Dec (kind table n < binaryFrom) → someNode G (treeAt table n) ≡ true
         by (yes h) d = here-leaf table count falling n inn h ∙ e
-        by (no h) (yes k) = here-one table count falling n inn (omega arith) k ∙ or-first (G (treeAt table n)) _ e
-        by (no h) (no k) = here-two table count falling n inn (omega arith) ∙ or-first (G (treeAt table n)) _ e
+        by (no h) (yes k) = here-one table count falling n inn (omega arith) k ∙ or-left (G (treeAt table n)) _ e
+        by (no h) (no k) = here-two table count falling n inn (omega arith) ∙ or-left (G (treeAt table n)) _ e
     some-under n m inn (on-first l u) e =
         let s = falls-first table count falling n inn l in by (decLt (kind table n) binaryFrom) (some-under (first table n) m (omega arith) u e)
       where
         by : Dec (kind table n < binaryFrom) → someNode G (treeAt table (first table n)) ≡ true → someNode G (treeAt table n) ≡ true
-        by (yes k) child = here-one table count falling n inn l k ∙ or-second (G (treeAt table n)) _ child
-        by (no k) child = here-two table count falling n inn (omega arith) ∙ or-second (G (treeAt table n)) _ (or-first (someNode G (treeAt table (first table n))) _ child)
+        by (yes k) child = here-one table count falling n inn l k ∙ or-right (G (treeAt table n)) _ child
+        by (no k) child = here-two table count falling n inn (omega arith) ∙ or-right (G (treeAt table n)) _ (or-left (someNode G (treeAt table (first table n))) _ child)
     some-under n m inn (on-second l u) e =
         let s = falls-second table count falling n inn l in
         here-two table count falling n inn l
-        ∙ or-second (G (treeAt table n)) _ (or-second (someNode G (treeAt table (first table n))) _ (some-under (second table n) m (omega arith) u e))
+        ∙ or-right (G (treeAt table n)) _ (or-right (someNode G (treeAt table (first table n))) _ (some-under (second table n) m (omega arith) u e))
 
     -- where no node under n has G, no node of the text has
     pub none-under : (f n : ℕ) → n < f → n < count → ((m : ℕ) → Under table n m → G (treeAt table m) ≡ false) → someNode G (treeAt table n) ≡ false
@@ -123,7 +111,7 @@ module _ (G : Text → Bool) where
         by : Dec (kind table n < unaryFrom) → Dec (kind table n < binaryFrom) → (unaryFrom ≤ kind table n → someNode G (treeAt table (first table n)) ≡ false)
             → (binaryFrom ≤ kind table n → someNode G (treeAt table (second table n)) ≡ false) → someNode G (treeAt table n) ≡ false
         by (yes k) d p q = here-leaf table count falling n inn k ∙ e n here
-        by (no k) (yes j) p q = here-one table count falling n inn (omega arith) j ∙ or-false (G (treeAt table n)) _ (e n here) (p (omega arith))
+        by (no k) (yes j) p q = here-one table count falling n inn (omega arith) j ∙ or-none (e n here) (p (omega arith))
         by (no k) (no j) p q =
             here-two table count falling n inn (omega arith)
-            ∙ or-false (G (treeAt table n)) _ (e n here) (or-false (someNode G (treeAt table (first table n))) _ (p (omega arith)) (q (omega arith)))
+            ∙ or-none (e n here) (or-none (p (omega arith)) (q (omega arith)))

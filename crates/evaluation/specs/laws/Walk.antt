@@ -1,9 +1,9 @@
 -- The walk from the last record to the first.
-use Prim.Native.Nat.{ℕ, zero, suc, _+_, _*_, _-_, _<_, _≤_}
+use Prim.Native.Nat.{ℕ, suc, _+_, _*_, _-_, _<_, _≤_}
 use native.Mathlib.Omega.{arith}
 use native.Mathlib.Nat.{eq-or-lt-of-le}
-use mathlib.Core.Path.{_≡_, refl, sym, ap, subst, _∙_}
-use mathlib.Core.Bool.{Bool, true, false, false≢true, cond, _||_}
+use mathlib.Core.Path.{_≡_, sym, ap, subst, _∙_}
+use mathlib.Core.Bool.{Bool, true, false, false≢true, cond}
 use mathlib.Core.Logic.{⊎-elim}
 use mathlib.Core.List.{List}
 use lib.ListN.{length, take}
@@ -19,25 +19,8 @@ use Rattle.meaning.specs.inner.Coded.{coded}
 use Rattle.evaluation.specs.inner.Slots.{slot, Sized}
 use Rattle.evaluation.specs.inner.Evaluate.{Under, here, Right, Ready, Fit, Evaluated, Large, Outcome}
 use Rattle.evaluation.specs.inner.Evaluation.{textOf, Asking, Evaluates}
+use Rattle.meaning.specs.laws.Overfull.{below-at, below-none}
 use Rattle.evaluation.specs.laws.Node.{some-under, none-under}
-
-below-some : (f : ℕ → Bool) (n i : ℕ) → i < n → f i ≡ true → someBelow f n ≡ true
-below-some f zero i h e = absurd (omega arith)
-below-some f (suc n) i h e = ⊎-elim (λ q. ap (λ (b : Bool). b || someBelow f n) (ap f (sym (last i q)) ∙ e)) (λ k. or-second (f n) (below-some f n i k e)) (eq-or-lt-of-le (le-suc i h))
-  where
-    last : (i : ℕ) → i ≡ n → i ≡ n
-    last i q = q
-
-    le-suc : (i : ℕ) → i < suc n → i ≤ n
-    le-suc i h = omega arith
-
-    or-second : (a : Bool) {b : Bool} → b ≡ true → (a || b) ≡ true
-    or-second true e = refl
-    or-second false e = e
-
-below-none : (f : ℕ → Bool) (n : ℕ) → ((i : ℕ) → i < n → f i ≡ false) → someBelow f n ≡ false
-below-none f zero h = refl
-below-none f (suc n) h = ap (λ (b : Bool). b || someBelow f n) (h n (omega arith)) ∙ below-none f n (λ i k. h i (omega arith))
 
 -- the same set, by equal words
 pub holds-same : {a b : List ℕ} (words : List ℕ) → a ≡ b → Holds (member a) words → Holds (member b) words
@@ -194,7 +177,7 @@ module _ (table : List ℕ) (count : ℕ) (rec : List ℕ) (asking : Asking tabl
           → Evaluates (coded rec) (textOf table count) out true
       walk-over before after out x e o =
           record {
-            flag = sym (eight-deep deep ∙ below-some (overAt (coded rec) (textOf table count)) (length (coded rec)) (i - 1) (omega (arith, w .end)) (large-over (i - 1) (o .bad e)));
+            flag = sym (eight-deep deep ∙ below-at (overAt (coded rec) (textOf table count)) (length (coded rec)) (i - 1) (omega (arith, w .end)) (large-over (i - 1) (o .bad e)));
             holds = λ z. absurd (false≢true (sym z));
           }
 

@@ -4,7 +4,7 @@ use mathlib.Core.Path.{_≡_, refl}
 use mathlib.Core.List.{List, [], _∷_, map}
 use lib.ListN.{length}
 use lib.IntN.{pos}
-use Rattle.number.specs.Words.{turned, signed}
+use Rattle.number.specs.Words.{offsetBinary, signed}
 use Rattle.recording.specs.Reading.{Reading}
 use Rattle.recording.specs.Recording.{reading, readings}
 use Rattle.recording.specs.R1.{R1}
@@ -34,7 +34,7 @@ keptLines =
     ∷ []
 
 pub lines-kept : map (λ (l : KeptLine). timesOf (kept (l .marks) (readings (l .bytes)))) keptLines ≡ map (λ (l : KeptLine). l .times) keptLines
-unfolding reading signed turned
+unfolding reading signed offsetBinary
 lines-kept = refl
 
 -- ---- each reason keeps records of its own, so the limit is met

@@ -2,7 +2,6 @@
 use mathlib.Core.Path.{_≡_, sym, ap, _∙_}
 use mir.Syntax.{w64}
 use borrow.Author.Needs.{needs}
-use Rattle.recording.specs.Output.{found}
 use Rattle.targets.specs.laws.Target.{placed-handed}
 use Rattle.targets.specs.declared.OnAxis.the-variants.{Index, Off}
 use Rattle.lab.specs.laws.Pair.{recording-refused, none-there, target-off, always-b}

@@ -13,7 +13,7 @@ use Rattle.grammar.specs.Syntax.{Listed, Text, atom, listed, or, and, neg, fina
 use Rattle.grammar.specs.Size.{temporal, afterTime, afterTimes}
 use Rattle.meaning.specs.Overfull.{children, Node, itself, below}
 use Rattle.meaning.specs.Alike.{markIndex, Plain}
-use Rattle.meaning.specs.Named.{Part, curve, additions, nodeNames, Names}
+use Rattle.meaning.specs.Named.{Channel, curve, additions, nodeNames, Names}
 use Rattle.meaning.specs.inner.Truth.{someNode}
 use Rattle.meaning.specs.laws.Alike.{plain-node}
 use Rattle.meaning.specs.laws.Overfull.{some-node}
@@ -44,9 +44,9 @@ is-marked [] k e = absurd (false≢true e)
 is-marked (m ∷ marks) k e =
     or-cases (eqb k (markIndex m)) (isMarkIndex marks k) e (λ q. List·Memᴰ·head (eqb-true k (markIndex m) q)) (λ q. List·Memᴰ·tail (is-marked marks k q))
 
--- ---- the part that is B
+-- ---- the channel that is B
 
-is-B : (n : Part) → isB n ≡ true → n ≡ curve B
+is-B : (n : Channel) → isB n ≡ true → n ≡ curve B
 is-B (curve A) e = absurd (false≢true e)
 is-B (curve B) e = refl
 is-B additions e = absurd (false≢true e)
@@ -66,21 +66,21 @@ module _ (marks : List ℕ) where
   unfolding notForLaboratory
   two-right p q h = none-right (someNode (barred marks) p) (someNode (barred marks) q) h
 
-  flat-two : (p q : Text) → temporal p ≡ false → temporal q ≡ false → (temporal p || temporal q) ≡ false
-  flat-two p q a b = λ i. a i || b i
+  propositional-two : (p q : Text) → temporal p ≡ false → temporal q ≡ false → (temporal p || temporal q) ≡ false
+  propositional-two p q a b = λ i. a i || b i
 
-  clear-flat : (p : Text) → Clear p → temporal p ≡ false
+  clear-propositional : (p : Text) → Clear p → temporal p ≡ false
   unfolding notForLaboratory someNode
-  clear-flat (atom k) h = refl
-  clear-flat (listed q) h = refl
-  clear-flat (or p q) h = flat-two p q (clear-flat p (two-left p q h)) (clear-flat q (two-right p q h))
-  clear-flat (and p q) h = flat-two p q (clear-flat p (two-left p q h)) (clear-flat q (two-right p q h))
-  clear-flat (neg p) h = clear-flat p h
-  clear-flat (finally p) h = absurd (true≢false h)
-  clear-flat (globally p) h = absurd (true≢false h)
-  clear-flat (next p) h = absurd (true≢false h)
-  clear-flat (until p q) h = absurd (true≢false h)
-  clear-flat (weakUntil p q) h = absurd (true≢false h)
+  clear-propositional (atom k) h = refl
+  clear-propositional (listed q) h = refl
+  clear-propositional (or p q) h = propositional-two p q (clear-propositional p (two-left p q h)) (clear-propositional q (two-right p q h))
+  clear-propositional (and p q) h = propositional-two p q (clear-propositional p (two-left p q h)) (clear-propositional q (two-right p q h))
+  clear-propositional (neg p) h = clear-propositional p h
+  clear-propositional (finally p) h = absurd (true≢false h)
+  clear-propositional (globally p) h = absurd (true≢false h)
+  clear-propositional (next p) h = absurd (true≢false h)
+  clear-propositional (until p q) h = absurd (true≢false h)
+  clear-propositional (weakUntil p q) h = absurd (true≢false h)
 
   listed-marked : (q : Listed) → barred marks (listed q) ≡ false → (k : ℕ) → List·Memᴰ k (afterTime q) → List·Memᴰ k (map markIndex marks)
   listed-marked q h k m = is-marked marks k (by-test (isMarkIndex marks k) (λ e.
@@ -119,7 +119,7 @@ module _ (marks : List ℕ) where
   pub clear-laboratory : (p : Text) → notForLaboratory marks p ≡ false → LaboratoryText marks p
   unfolding notForLaboratory
   clear-laboratory p h = record {
-    plain = record { flat = clear-flat p h; marked = clear-marked p h };
+    plain = record { propositional = clear-propositional p h; marked = clear-marked p h };
     no-B = λ n. clash (some-node (barred marks) p .1 (n .0, n .1, names-barred (n .0) (n .2))) h;
   }
 
@@ -130,19 +130,19 @@ module _ (marks : List ℕ) where
   leaf-barred q p n t e = go q n (plain-node n (t .plain)) e
     where
       go : (q : Text) → Node q p → Plain marks q → barred marks q ≡ true → ⊥
-      go (atom k) n h e = let b = member-some isB (nodeNames (atom k)) e in t .no-B (atom k, n, subst (λ (x : Part). List·Memᴰ x (nodeNames (atom k))) (is-B (b .0) (b .2)) (b .1))
+      go (atom k) n h e = let b = member-some isB (nodeNames (atom k)) e in t .no-B (atom k, n, subst (λ (x : Channel). List·Memᴰ x (nodeNames (atom k))) (is-B (b .0) (b .2)) (b .1))
       go (listed l) n h e = or-cases (someOf isB (nodeNames (listed l))) (someOf (λ k. not (isMarkIndex marks k)) (afterTime l)) e
-          (λ x. let b = member-some isB (nodeNames (listed l)) x in t .no-B (listed l, n, subst (λ (x : Part). List·Memᴰ x (nodeNames (listed l))) (is-B (b .0) (b .2)) (b .1)))
+          (λ x. let b = member-some isB (nodeNames (listed l)) x in t .no-B (listed l, n, subst (λ (x : Channel). List·Memᴰ x (nodeNames (listed l))) (is-B (b .0) (b .2)) (b .1)))
           (λ x. let b = member-some (λ k. not (isMarkIndex marks k)) (afterTime l) x in
           clash (marked-is marks (b .0) (h .marked (b .0) (b .1))) (not-true (isMarkIndex marks (b .0)) (b .2)))
       go (or c d) n h e = false≢true e
       go (and c d) n h e = false≢true e
       go (neg c) n h e = false≢true e
-      go (finally c) n h e = true≢false (h .flat)
-      go (globally c) n h e = true≢false (h .flat)
-      go (next c) n h e = true≢false (h .flat)
-      go (until c d) n h e = true≢false (h .flat)
-      go (weakUntil c d) n h e = true≢false (h .flat)
+      go (finally c) n h e = true≢false (h .propositional)
+      go (globally c) n h e = true≢false (h .propositional)
+      go (next c) n h e = true≢false (h .propositional)
+      go (until c d) n h e = true≢false (h .propositional)
+      go (weakUntil c d) n h e = true≢false (h .propositional)
 
   pub laboratory-clear : (p : Text) → LaboratoryText marks p → notForLaboratory marks p ≡ false
   unfolding notForLaboratory

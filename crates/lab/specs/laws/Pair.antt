@@ -13,7 +13,7 @@ use Rattle.refusal.specs.Numbers.{numberOf, placeOf}
 use Rattle.refusal.specs.declared.Refusal.{Refusal}
 use Rattle.recording.specs.Reading.{curveOf}
 use Rattle.recording.specs.Recording.{records, readings, recordingLines, noRecord}
-use Rattle.recording.specs.Output.{found}
+use Rattle.recording.specs.Output.{checkOutcome}
 use Rattle.recording.specs.declared.Checked.{Checked}
 use Rattle.recording.specs.declared.Checked.the-variants as checked
 use Rattle.recording.specs.laws.Outcome.{judged-pass, judged-skip, judged-first, result-none, refusal-stands}
@@ -32,13 +32,13 @@ other-curve bytes c g h =
 -- ---- the pair call on B
 
 module _ (bytes : List ℕ) (g : ℤ) (r : Checked) where
-  pub recording-refused : (x : Refusal) → found r ≡ judged (recordingLines bytes) (length bytes / 16) → r ≡ checked.Refused x → refused (numberOf x) (placeOf x) ≡ labPairOf bytes 1 g
+  pub recording-refused : (x : Refusal) → checkOutcome r ≡ judged (recordingLines bytes) (length bytes / 16) → r ≡ checked.Refused x → refused (numberOf x) (placeOf x) ≡ labPairOf bytes 1 g
   unfolding labPairOf
-  recording-refused x e q = sym (refusal-stands (recordingLines bytes) _ (length bytes / 16) _ (numberOf x) (placeOf x) (sym e ∙ ap found q))
+  recording-refused x e q = sym (refusal-stands (recordingLines bytes) _ (length bytes / 16) _ (numberOf x) (placeOf x) (sym e ∙ ap checkOutcome q))
 
-  module _ (n : ℕ) (e : found r ≡ judged (recordingLines bytes) (length bytes / 16)) (q : r ≡ checked.Records n) where
+  module _ (n : ℕ) (e : checkOutcome r ≡ judged (recordingLines bytes) (length bytes / 16)) (q : r ≡ checked.Records n) where
     accepted : NoneMeets (recordingLines bytes) × (length bytes / 16 ≡ n)
-    accepted = result-none (recordingLines bytes) (length bytes / 16) n (sym e ∙ ap found q)
+    accepted = result-none (recordingLines bytes) (length bytes / 16) n (sym e ∙ ap checkOutcome q)
 
     count : length (records bytes) ≡ n
     count = length-records bytes ∙ accepted .1

@@ -11,15 +11,16 @@ use lib.IntN.{ℤ}
 use lib.ListN.{length, getD, length-map, List·getD-map}
 use borrow.Author.Tests.{lt-ltb, le-ltb, leb-true}
 use Rattle.number.specs.Axis.{origin}
-use Rattle.number.specs.Words.{word, signed, turned}
+use Rattle.number.specs.Words.{word, signed, offsetBinary}
 use Rattle.number.specs.laws.Order.{less-or-not}
 use Rattle.number.specs.laws.Boolean.{and-left, and-right}
-use Rattle.recording.specs.Reading.{Reading, Curve, A, B, value, nothing, curveOf}
+use Rattle.recording.specs.Reading.{Reading, Curve, value, nothing, curveOf}
 use Rattle.recording.specs.Recording.{Raw, records, rawAt, reading, readings, inRange, latest, Accepted}
 use Rattle.recording.specs.laws.Record.{length-records, getD-chunks}
-use Rattle.recording.specs.laws.Value.{inRange-turned}
+use Rattle.recording.specs.laws.Value.{inRange-offset-binary}
 use Rattle.meaning.specs.laws.Recorded.{accepted-recorded}
 use Rattle.meaning.specs.inner.Coded.{Coded, code, index, blank, codedValue, codedSlope}
+use Rattle.meaning.specs.laws.Whole.{coded-value}
 use Rattle.meaning.specs.inner.Truth.{codedAt}
 use Rattle.meaning.specs.inner.Coded.{coded}
 
@@ -36,7 +37,7 @@ pub at-index : (r : List Coded) (i : ℕ) → i < length r → codedAt r i ≡ g
 at-index r i h = let e : min i (length r - 1) ≡ i = omega arith in ap (λ (j : ℕ). getD r j blank) e
 
 reading-at : (rec : List ℕ) (i : ℕ) → i < length (readings rec) → getD (readings rec) i nothing ≡ reading (rawAt rec i)
-unfolding reading signed turned
+unfolding reading signed offsetBinary
 reading-at rec i h =
     List·getD-map reading (records rec) i [] ∙ ap reading (getD-chunks (length rec / 16) rec i (omega (arith, length-readings rec)))
 
@@ -47,17 +48,17 @@ coded-at rec i h =
 
 -- ---- the index of a signed number of 32 bits
 
-turned-range : (u : ℕ) → So (inRange (signed u)) → (1147483648 ≤ turned u) × (turned u ≤ 3147483648)
-turned-range u h =
-    let e = sym (inRange-turned u) ∙ h in (
-      leb-true 1147483648 (turned u) (and-left (leb 1147483648 (turned u)) (leb (turned u) 3147483648) e),
-      leb-true (turned u) 3147483648 (and-right (leb 1147483648 (turned u)) (leb (turned u) 3147483648) e),
+offset-binary-range : (u : ℕ) → So (inRange (signed u)) → (1147483648 ≤ offsetBinary u) × (offsetBinary u ≤ 3147483648)
+offset-binary-range u h =
+    let e = sym (inRange-offset-binary u) ∙ h in (
+      leb-true 1147483648 (offsetBinary u) (and-left (leb 1147483648 (offsetBinary u)) (leb (offsetBinary u) 3147483648) e),
+      leb-true (offsetBinary u) 3147483648 (and-right (leb 1147483648 (offsetBinary u)) (leb (offsetBinary u) 3147483648) e),
     )
 
 pub index-word : (u : ℕ) → So (inRange (signed u)) → (u + origin) % 4294967296 ≡ index (signed u)
-unfolding signed turned
+unfolding signed offsetBinary
 index-word u h =
-    let g = turned-range u h in
+    let g = offset-binary-range u h in
     ⊎-elim (λ l. rw (lt-ltb ((u + 2147483648) % 4294967296) 2147483648 l) (omega (arith, g .0, g .1)))
     (λ l. rw (le-ltb ((u + 2147483648) % 4294967296) 2147483648 l) (omega (arith, g .0, g .1)))
     (less-or-not ((u + 2147483648) % 4294967296) 2147483648)
@@ -67,8 +68,8 @@ abbrev pub ValueIndex : ℕ → Type 0
 ValueIndex n = (1000000000 ≤ n) × (n ≤ 3000000000)
 
 pub index-range : (u : ℕ) → So (inRange (signed u)) → ValueIndex (index (signed u))
-unfolding turned
-index-range u h = let g = turned-range u h in let e = index-word u h in (omega (arith, g .0, g .1), omega (arith, g .0, g .1))
+unfolding offsetBinary
+index-range u h = let g = offset-binary-range u h in let e = index-word u h in (omega (arith, g .0, g .1), omega (arith, g .0, g .1))
 
 -- ---- the fields
 
@@ -87,10 +88,6 @@ module _ (rec : List ℕ) (a : Accepted rec) (i : ℕ) (h : i < length (coded re
   value-of zero l x = refl
   value-of (suc zero) l x = refl
   value-of (suc (suc n)) l x = absurd (not-suc-le-zero (le-of-suc-le-suc (le-of-suc-le-suc l)))
-
-  coded-value : (c : Curve) (x : Reading) → codedValue c (code x) ≡ index (value c x)
-  coded-value A x = refl
-  coded-value B x = refl
 
   module _ (curve : ℕ) (l : curve < 2) where
     so-value : So (inRange (signed (word (rawAt rec i) (4 + 4 * curve))))

@@ -3,9 +3,9 @@ use Prim.Native.Nat.{ℕ, zero, suc, _+_, _-_, _≤_, _<_, max, min}
 use native.Mathlib.Omega.{arith}
 use native.Mathlib.Numerals.{add-one}
 use mathlib.Core.Path.{_≡_, refl, sym, ap, ap₂, _∙_, subst}
-use mathlib.Core.Bool.{Bool, true, false, cond, not, _&&_, _||_, false≢true}
+use mathlib.Core.Bool.{Bool, true, false, cond, not, _&&_, _||_, or-false, false≢true}
 use mathlib.Core.Logic.{_⊎_, inl, inr, ⊎-elim}
-use mathlib.Core.List.{List, [], _∷_, _++_, map}
+use mathlib.Core.List.{List, [], _∷_, map}
 use lib.Dec.{leb, ltb}
 use lib.ListN.{length, getD, take, length-map}
 use lib.Seq.{take-suc, take-length}
@@ -21,6 +21,7 @@ use Rattle.number.specs.laws.Boolean.{same, or-left, or-right, or-cases}
 use Rattle.leaves.specs.inner.Extreme.{beyond, farther, Extreme, Passes}
 use Rattle.leaves.specs.laws.Coding.{at-index, ValueIndex}
 use Rattle.recording.specs.Condition.{someOf}
+use Rattle.recording.specs.laws.Condition.{some-snoc}
 
 -- ---- the farther of two
 
@@ -38,10 +39,6 @@ farther-one : (up : Bool) (m x : ℕ) → x < axis → (farther up m x ≡ m) �
 farther-one true m x h = ⊎-elim (λ g. inr (omega arith)) (λ g. inl (omega arith)) (less-or-not m x)
 farther-one false m x h = inr (omega arith)
 
-or-false : (b : Bool) → b ≡ (b || false)
-or-false true = refl
-or-false false = refl
-
 -- ---- record by record
 
 module _ (up : Bool) (c : Curve) (k : ℕ) where
@@ -49,7 +46,7 @@ module _ (up : Bool) (c : Curve) (k : ℕ) where
   pub pass-over : (x : Coded) (m : ℕ) → x .time ≤ k → Passes up c k x m m
   pass-over x m h = record {
     one = inl refl;
-    tests = λ n. or-false (beyond up n m) ∙ ap (λ (b : Bool). beyond up n m || (b && beyond up n (codedValue c x))) (sym (le-ltb k (x .time) h));
+    tests = λ n. sym (or-false (beyond up n m)) ∙ ap (λ (b : Bool). beyond up n m || (b && beyond up n (codedValue c x))) (sym (le-ltb k (x .time) h));
   }
 
   -- a record after k
@@ -63,14 +60,6 @@ module _ (up : Bool) (c : Curve) (k : ℕ) where
 pub extreme-start : (up : Bool) (c : Curve) (k : ℕ) (r : List Coded) → Extreme up c k (take 0 r) (cond up 0 axis)
 extreme-start true c k r = record { most = omega arith; inside = λ e. omega arith; tests = λ n h. sym (le-ltb n 0 (omega arith)) }
 extreme-start false c k r = record { most = omega arith; inside = λ e. absurd (false≢true e); tests = λ n h. sym (lt-leb axis n h) }
-
-some-snoc : (P : Coded → Bool) (r : List Coded) (x : Coded) → someOf P (r ++ (x ∷ [])) ≡ (someOf P r || P x)
-some-snoc P [] x = sym (or-false (P x))
-some-snoc P (y ∷ r) x = ap (λ (b : Bool). P y || b) (some-snoc P r x) ∙ or-assoc (P y) (someOf P r) (P x)
-  where
-    or-assoc : (a b e : Bool) → (a || (b || e)) ≡ ((a || b) || e)
-    or-assoc true b e = refl
-    or-assoc false b e = refl
 
 pub extreme-turn : (up : Bool) (c : Curve) (k : ℕ) (r : List Coded) (i m m′ : ℕ) → i < length r → Extreme up c k (take i r) m
     → Passes up c k (codedAt r i) m m′ → Extreme up c k (take (i + 1) r) m′

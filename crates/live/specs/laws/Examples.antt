@@ -1,7 +1,7 @@
 -- A worked example: moments on an empty run and later, set again, gone back to; times that a discarded reading had; refusals that change nothing.
 use mathlib.Core.Path.{_≡_, refl}
 use mathlib.Core.List.{List, [], _∷_}
-use Rattle.number.specs.Words.{turned, signed}
+use Rattle.number.specs.Words.{offsetBinary, signed}
 use Rattle.refusal.specs.Outcome.{result, refused, judged}
 use Rattle.recording.specs.R2.{r2}
 use Rattle.recording.specs.Recording.{reading, fieldsOf, fields, lawful}
@@ -37,10 +37,10 @@ steps =
 pub steps-answered : answers (begun []) steps
     ≡ result 0 ∷ result 0 ∷ result 0 ∷ result 0 ∷ result 0 ∷ result 0 ∷ result 0 ∷ result 0
     ∷ refused 3 3 ∷ result 0 ∷ result 0 ∷ result 0 ∷ refused 18 0 ∷ refused 18 0 ∷ refused 1 0 ∷ result 0 ∷ result 0 ∷ refused 3 4 ∷ result 0 ∷ []
-unfolding outcome judged marksOf reading signed turned fieldsOf fields lawful
+unfolding outcome judged marksOf reading signed offsetBinary fieldsOf fields lawful
 steps-answered = refl
 
 -- in the end the run is that of moment 1, which was set again behind one reading
 pub steps-run : afterAll (begun []) steps .run ≡ r2 5 7 1 ∷ []
-unfolding outcome judged marksOf reading signed turned fieldsOf fields lawful
+unfolding outcome judged marksOf reading signed offsetBinary fieldsOf fields lawful
 steps-run = refl

@@ -1,15 +1,15 @@
 -- THE MEAN IS WITHIN ONE PART IN 1,000,000,000 of the exact fraction, for up to 1,000 distances of at most 4,000,000,000.
 use mathlib.Core.Path.{_≡_, refl, sym, ap, _∙_, subst}
-use mathlib.Core.Bool.{true, false, not, true≢false}
+use mathlib.Core.Bool.{true, false, true≢false}
 use mathlib.Core.List.{List, [], _∷_}
 use Prim.Native.Nat.{ℕ, suc, _+_, _*_, _≤_, _<_}
 use native.Mathlib.Nat.{zero-lt-suc, lt-irrefl, add-zero, mul-one, one-mul, mul-pos, mul-le-mul-left, mul-le-mul-right, le-of-mul-le-mul-right}
 use native.Mathlib.Omega.{arith}
 use native.Mathlib.Numerals.{add-one, one-add}
-use lib.Dec.{T, lit≤, lit<}
+use lib.Dec.{lit≤, lit<}
 use lib.ListN.{length}
 use lib.IntN.{pos, negsuc}
-use lib.Ieee.{Float, nan, inf, fin, binary64, up, down, round, add, div, ofInt, isNan}
+use lib.Ieee.{Float, nan, inf, fin, binary64, up, down, round, add, div, ofInt}
 use Rattle.ratio.specs.Apart.{apart}
 use Rattle.ratio.specs.Degree.{one, degreeOf}
 use Rattle.ratio.specs.laws.Degree.{int-exact}
@@ -134,10 +134,3 @@ mean-near (d ∷ ds) P l h =
     let n : ℕ = length ds in
     let w = sums ds 1 (add binary64 nought (degreeOf d)) (plus noDegree d) (h .1) (omega (arith, l)) (step 0 nought noDegree d (h .0) (omega arith) none) (plus-large noDegree d (h .0)) in
     over-near (suc n) (sumOf (d ∷ ds)) (total (d ∷ ds)) P l (subst (λ (z : ℕ). Summed z (sumOf (d ∷ ds)) (total (d ∷ ds))) (one-add n) (w .0)) (w .1)
-
--- such a mean is a number, so its bits are fixed
-pub near-number : (x : Float) (q : Fraction) → WithinBillionth x q → T (not (isNan x))
-unfolding isNan
-near-number nan q h = absurd h
-near-number (inf s) q h = tt
-near-number (fin s m e) q h = tt

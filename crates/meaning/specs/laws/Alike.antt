@@ -131,21 +131,21 @@ module _ {marks : List ℕ} {r s : List Reading} (l : Alike marks r s) where
 
 -- ---- the nodes of a plain text
 
-two-flat : (p q c : Text) → List·Memᴰ c (p ∷ q ∷ []) → (temporal p || temporal q) ≡ false → temporal c ≡ false
-two-flat p q c m h = ⊎-elim (λ e. ap temporal e ∙ none-left (temporal p) (temporal q) h)
+two-propositional : (p q c : Text) → List·Memᴰ c (p ∷ q ∷ []) → (temporal p || temporal q) ≡ false → temporal c ≡ false
+two-propositional p q c m h = ⊎-elim (λ e. ap temporal e ∙ none-left (temporal p) (temporal q) h)
     (λ m. ap temporal (List·Memᴰ·eq-of-singleton m) ∙ off (or-right (temporal p) (temporal q)) h) (List·Memᴰ·cases-cons m)
 
-child-flat : (p c : Text) → List·Memᴰ c (children p) → temporal p ≡ false → temporal c ≡ false
-child-flat (atom k) c m h = absurd (List·Memᴰ·not-nil m)
-child-flat (listed q) c m h = absurd (List·Memᴰ·not-nil m)
-child-flat (or p q) c m h = two-flat p q c m h
-child-flat (and p q) c m h = two-flat p q c m h
-child-flat (neg p) c m h = ap temporal (List·Memᴰ·eq-of-singleton m) ∙ h
-child-flat (finally p) c m h = absurd (true≢false h)
-child-flat (globally p) c m h = absurd (true≢false h)
-child-flat (next p) c m h = absurd (true≢false h)
-child-flat (until p q) c m h = absurd (true≢false h)
-child-flat (weakUntil p q) c m h = absurd (true≢false h)
+child-propositional : (p c : Text) → List·Memᴰ c (children p) → temporal p ≡ false → temporal c ≡ false
+child-propositional (atom k) c m h = absurd (List·Memᴰ·not-nil m)
+child-propositional (listed q) c m h = absurd (List·Memᴰ·not-nil m)
+child-propositional (or p q) c m h = two-propositional p q c m h
+child-propositional (and p q) c m h = two-propositional p q c m h
+child-propositional (neg p) c m h = ap temporal (List·Memᴰ·eq-of-singleton m) ∙ h
+child-propositional (finally p) c m h = absurd (true≢false h)
+child-propositional (globally p) c m h = absurd (true≢false h)
+child-propositional (next p) c m h = absurd (true≢false h)
+child-propositional (until p q) c m h = absurd (true≢false h)
+child-propositional (weakUntil p q) c m h = absurd (true≢false h)
 
 two-marked : (p q c : Text) → List·Memᴰ c (p ∷ q ∷ []) → (k : ℕ) → List·Memᴰ k (afterTimes c) → List·Memᴰ k (afterTimes p ++ afterTimes q)
 two-marked p q c m k n = ⊎-elim (λ e. Memᴰ·append-left (afterTimes q) (subst (λ (t : Text). List·Memᴰ k (afterTimes t)) e n))
@@ -168,7 +168,7 @@ child-marked (weakUntil p q) c m k n = two-marked p q c m k n
 
 plain-child : {marks : List ℕ} {p c : Text} → List·Memᴰ c (children p) → Plain marks p → Plain marks c
 plain-child {marks} {p} {c} m h = record {
-  flat = child-flat p c m (h .flat);
+  propositional = child-propositional p c m (h .propositional);
   marked = λ k n. h .marked k (child-marked p c m k n);
 }
 
@@ -188,11 +188,11 @@ module _ {marks : List ℕ} {r s : List Reading} (l : Alike marks r s) where
   holds-alike (and p q) h z =
       both (holds-alike p (plain-child (List·Memᴰ·head refl) h) z) (holds-alike q (plain-child (List·Memᴰ·tail (List·Memᴰ·head refl)) h) z)
   holds-alike (neg p) h z = let a = holds-alike p (plain-child (List·Memᴰ·head refl) h) z in (λ f x. f (a .1 x), λ f x. f (a .0 x))
-  holds-alike (finally p) h z = absurd (true≢false (h .flat))
-  holds-alike (globally p) h z = absurd (true≢false (h .flat))
-  holds-alike (next p) h z = absurd (true≢false (h .flat))
-  holds-alike (until p q) h z = absurd (true≢false (h .flat))
-  holds-alike (weakUntil p q) h z = absurd (true≢false (h .flat))
+  holds-alike (finally p) h z = absurd (true≢false (h .propositional))
+  holds-alike (globally p) h z = absurd (true≢false (h .propositional))
+  holds-alike (next p) h z = absurd (true≢false (h .propositional))
+  holds-alike (until p q) h z = absurd (true≢false (h .propositional))
+  holds-alike (weakUntil p q) h z = absurd (true≢false (h .propositional))
 
 flipped : {marks : List ℕ} {r s : List Reading} → Alike marks r s → Alike marks s r
 flipped l = record {
@@ -213,7 +213,7 @@ overfull-alike {marks} {r} {s} l p h long o = record {
   inside = long;
   first = λ e. refl;
   set = o .set;
-  is-set = λ n k. then (o .is-set n k) (then (here (o .at) (o .first (h .flat)) n) (holds-alike l (o .node) (plain-node (o .of-text) h) (whole n)));
+  is-set = λ n k. then (o .is-set n k) (then (here (o .at) (o .first (h .propositional)) n) (holds-alike l (o .node) (plain-node (o .of-text) h) (whole n)));
   many = o .many;
 }
   where

@@ -8,7 +8,7 @@ use lib.Dec.{leb, eqb}
 use borrow.Author.Tests.{leb-true, le-leb, eqb-true}
 use Rattle.number.specs.Axis.{origin}
 use Rattle.meaning.specs.inner.Truth.{allOf, among}
-use Rattle.number.specs.laws.Boolean.{same, or-left, or-right, or-cases, and-left, and-right, and-make, imp-or, or-imp}
+use Rattle.number.specs.laws.Boolean.{same, or-left, or-right, or-cases, and-left, and-right, and-make, or-imp}
 use Rattle.recording.specs.Condition.{someOf}
 
 module _ {X : Type 0} where
@@ -48,13 +48,6 @@ module _ {X : Type 0} (q : X → Bool) (f : X → ℕ) (r : List X) (n : ℕ) wh
       (λ x h k. le-leb m n (omega (arith, leb-true (f x) n (and-right (q x) _ h), leb-true m (f x) (or-imp (q x) _ k (and-left (q x) _ h))))))
       (λ e. some-imp (λ x. q x && eqb (f x) m) (λ x. q x && leb (f x) n) r
       (λ x h. and-make (q x) _ (and-left (q x) _ h) (le-leb (f x) n (omega (arith, leb-true m n e, eqb-true (f x) m (and-right (q x) _ h))))) (g .one))
-
-  pub greatest-all : (m : ℕ) → Greatest q f r m → allOf (λ x. not (q x) || leb (f x) n) r ≡ leb m n
-  greatest-all m g = same _ _
-      (λ e. some-all (λ x. q x && eqb (f x) m) (λ x. not (q x) || leb (f x) n) r (g .one) e
-      (λ x h k. le-leb m n (omega (arith, eqb-true (f x) m (and-right (q x) _ h), leb-true (f x) n (or-imp (q x) _ k (and-left (q x) _ h))))))
-      (λ e. all-imp (λ x. not (q x) || leb (f x) m) (λ x. not (q x) || leb (f x) n) r
-      (λ x h. imp-or (q x) _ (λ k. le-leb (f x) n (omega (arith, leb-true m n e, leb-true (f x) m (or-imp (q x) _ h k))))) (g .all))
 
 -- the greatest and the least alone say how far the numbers spread
 pub spread : {X : Type 0} (f : X → ℕ) (r : List X) (n low high : ℕ) → Least (λ x. true) f r low → Greatest (λ x. true) f r high

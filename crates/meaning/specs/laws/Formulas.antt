@@ -5,7 +5,7 @@ use Prim.Native.Nat.{ℕ, zero, suc, _-_, _≤_, _<_, min}
 use native.Mathlib.Omega.{arith}
 use native.Mathlib.Nat.{le-refl}
 use mathlib.Core.Path.{_≡_, refl, sym, ap, _∙_}
-use mathlib.Core.Bool.{Bool, true, false, _&&_, _||_, not, cond, and-false, true≢false}
+use mathlib.Core.Bool.{Bool, true, false, _&&_, _||_, not, cond, and-false, or-false, true≢false}
 use mathlib.Core.Logic.{_↔_, _⊎_, inl, inr, ⊎-elim}
 use mathlib.Core.List.{List, [], _∷_, map}
 use lib.Dec.{ltb, leb, eqb}
@@ -27,7 +27,7 @@ use Rattle.meaning.specs.inner.Truth.{allOf, among, truth, lastCoded, co
 use Rattle.number.specs.laws.Boolean.{same, then, back, or-left, or-cases, or-none, none-left, and-right}
 use Rattle.meaning.specs.laws.Run.{starts, run-count, starts-ext, runs-ext, Convex, Up, Down, up-convex, down-convex, const-convex, const-up, and-convex, point-convex, or-up, and-up, or-down, ray-up, ray-down, convex-few, more-starts}
 use Rattle.meaning.specs.laws.Truth.{val-holds}
-use Rattle.meaning.specs.laws.Overfull.{eight-overfull, below-find, below-at}
+use Rattle.meaning.specs.laws.Overfull.{eight-overfull, below-find, below-at, below-none}
 
 -- ---- readings by index and by list
 
@@ -38,9 +38,6 @@ at-suc : (x y : Coded) (r : List Coded) (i : ℕ) → codedAt (x ∷ y ∷ r) (s
 at-suc x y r i =
     let e : min (suc i) (lastCoded (x ∷ y ∷ r)) ≡ suc (min i (lastCoded (y ∷ r))) = omega arith in
     ap (λ (i : ℕ). getD (x ∷ y ∷ r) i blank) e
-
-at-end : (x : Coded) (i : ℕ) → codedAt (x ∷ []) i ≡ x
-at-end x i = let e : min i (lastCoded (x ∷ [])) ≡ 0 = omega arith in ap (λ (i : ℕ). getD (x ∷ []) i blank) e
 
 -- the last index again is the last
 at-next : (r : List Coded) (i : ℕ) → codedAt r (min (suc i) (lastCoded r)) ≡ codedAt r (suc i)
@@ -68,10 +65,6 @@ until-same : (f g f′ g′ : ℕ → Bool) → ((j : ℕ) → f j ≡ f′ j) �
 until-same f g f′ g′ h k zero i = k i
 until-same f g f′ g′ h k (suc d) i = let a = h i in let b = k i in let c = until-same f g f′ g′ h k d (suc i) in λ j. b j || (a j && c j)
 
-or-false : (e : Bool) → e ≡ (e || false)
-or-false true = refl
-or-false false = refl
-
 or-off : (e f : Bool) → f ≡ false → (e || f) ≡ e
 or-off true f h = refl
 or-off false f h = h
@@ -82,7 +75,7 @@ and-true false = refl
 
 module _ (P : Coded → Bool) where
   some-list : (x : Coded) (r : List Coded) → finallyFrom (λ i. P (codedAt (x ∷ r) i)) (length r) 0 ≡ someOf P (x ∷ r)
-  some-list x [] = ap P (at-zero x []) ∙ or-false (P x)
+  some-list x [] = ap P (at-zero x []) ∙ sym (or-false (P x))
   some-list x (y ∷ r) =
       let a = ap P (at-zero x (y ∷ r)) in
       let b = some-shift (λ i. P (codedAt (x ∷ y ∷ r) i)) (length r) 0
@@ -474,19 +467,19 @@ inner-turn {P} {Q} t r i =
     j = min (suc i) (lastCoded r)
 
 -- times strictly increase
-abbrev Rising : List Coded → Type 0
-Rising [] = Unit {0}
-Rising (x ∷ []) = Unit {0}
-Rising (x ∷ (y ∷ r)) = (x .time < y .time) × Rising (y ∷ r)
+abbrev IncreasingCodes : List Coded → Type 0
+IncreasingCodes [] = Unit {0}
+IncreasingCodes (x ∷ []) = Unit {0}
+IncreasingCodes (x ∷ (y ∷ r)) = (x .time < y .time) × IncreasingCodes (y ∷ r)
 
-tail-rises : (x : Coded) (r : List Coded) → Rising (x ∷ r) → Rising r
+tail-rises : (x : Coded) (r : List Coded) → IncreasingCodes (x ∷ r) → IncreasingCodes r
 tail-rises x [] h = tt
 tail-rises x (y ∷ r) h = h .1
 
-rising-code : (r : List Reading) → Increasing r → Rising (map code r)
-rising-code [] h = tt
-rising-code (x ∷ []) h = tt
-rising-code (x ∷ (y ∷ r)) h = (omega (arith, h 0 (omega arith)), rising-code (y ∷ r) (λ i l. h (suc i) (omega arith)))
+increasing-codes : (r : List Reading) → Increasing r → IncreasingCodes (map code r)
+increasing-codes [] h = tt
+increasing-codes (x ∷ []) h = tt
+increasing-codes (x ∷ (y ∷ r)) h = (omega (arith, h 0 (omega arith)), increasing-codes (y ∷ r) (λ i l. h (suc i) (omega arith)))
 
 -- ---- sets that grow at their low end: one reading more in front puts in at most one number, below all others
 
@@ -494,7 +487,7 @@ abbrev Grown : (ℕ → Bool) → (ℕ → Bool) → Type 0
 Grown f g = ((n : ℕ) → g n ≡ f n) ⊎ ((t : ℕ) × ((n : ℕ) → f n ≡ true → t < n) × ((n : ℕ) → g n ≡ (eqb n t || f n)))
 
 abbrev Growing : (List Coded → ℕ → Bool) → Type 0
-Growing S = (x y : Coded) (r : List Coded) → Rising (x ∷ y ∷ r) → Grown (S (y ∷ r)) (S (x ∷ y ∷ r))
+Growing S = (x y : Coded) (r : List Coded) → IncreasingCodes (x ∷ y ∷ r) → Grown (S (y ∷ r)) (S (x ∷ y ∷ r))
 
 -- it takes no run away
 grow : (f g : ℕ → Bool) → Grown f g → (n : ℕ) → starts f n ≤ starts g n
@@ -502,7 +495,7 @@ grow f g (inl e) n = let s = starts-ext g f n (λ m h. e m) in omega (arith, s)
 grow f g (inr (t, above, e)) n = let s = starts-ext g (λ w. eqb w t || f w) n (λ m h. e m) in omega (arith, s, more-starts f t above n)
 
 -- SO AT A LATER RECORD THERE ARE NOT MORE RUNS THAN AT THE FIRST
-fewer-later : (S : List Coded → ℕ → Bool) → Growing S → (n : ℕ) (x : Coded) (r : List Coded) → Rising (x ∷ r) → (i : ℕ) → i < length (x ∷ r)
+fewer-later : (S : List Coded → ℕ → Bool) → Growing S → (n : ℕ) (x : Coded) (r : List Coded) → IncreasingCodes (x ∷ r) → (i : ℕ) → i < length (x ∷ r)
     → starts (S (drop i (x ∷ r))) n ≤ starts (S (x ∷ r)) n
 fewer-later S g n x r inc zero h = le-refl (starts (S (x ∷ r)) n)
 fewer-later S g n x [] inc (suc i) h = absurd (omega arith)
@@ -527,13 +520,13 @@ module _ (P Q : Coded → Bool) (never : Exclusive P Q) where
   from-drop x (y ∷ r) (suc i) h n = from-suc x y r i n ∙ from-drop y r i (omega arith) n
 
   -- what the records r lead to lies after the record before them
-  soon-later : (x : Coded) (r : List Coded) → Rising (x ∷ r) → (n : ℕ) → soon P Q r n ≡ true → x .time < n
+  soon-later : (x : Coded) (r : List Coded) → IncreasingCodes (x ∷ r) → (n : ℕ) → soon P Q r n ≡ true → x .time < n
   soon-later x [] inc n h = absurd (true≢false (sym h))
   soon-later x (y ∷ r) inc n h =
       or-cases (Q y && eqb n (y .time)) _ h (λ k. omega (arith, eqb-true n (y .time) (and-right (Q y) _ k), inc .0))
       (λ k. omega (arith, soon-later y r (inc .1) n (and-right (not (P y) && not (Q y)) _ k), inc .0))
 
-  turns-later : (x : Coded) (r : List Coded) → Rising (x ∷ r) → (n : ℕ) → turns P Q r n ≡ true → x .time < n
+  turns-later : (x : Coded) (r : List Coded) → IncreasingCodes (x ∷ r) → (n : ℕ) → turns P Q r n ≡ true → x .time < n
   turns-later x [] inc n h = absurd (true≢false (sym h))
   turns-later x (y ∷ r) inc n h =
       or-cases (P y && soon P Q r n) _ h (λ k. omega (arith, soon-later y r (inc .1) n (and-right (P y) _ k), inc .0))
@@ -543,13 +536,13 @@ module _ (P Q : Coded → Bool) (never : Exclusive P Q) where
   abbrev First : List Coded → Type 0
   First r = ((n : ℕ) → soon P Q r n ≡ false) ⊎ ((t : ℕ) × ((n : ℕ) → turns P Q r n ≡ true → t < n) × ((n : ℕ) → soon P Q r n ≡ eqb n t))
 
-  soon-first : (r : List Coded) → Rising r → First r
+  soon-first : (r : List Coded) → IncreasingCodes r → First r
   soon-first [] inc = inl (λ n. refl)
   soon-first (y ∷ r) inc = go (P y) (Q y) refl refl (soon-first r (tail-rises y r inc))
     where
       go : (p q : Bool) → P y ≡ p → Q y ≡ q → First r → First (y ∷ r)
       go true q u w rest = inl (λ n. rw (never y u, u))
-      go false true u w rest = inr (y .time, (λ n h. turns-later y r inc n (rw u at h)), λ n. rw (w, u) (sym (or-false (eqb n (y .time)))))
+      go false true u w rest = inr (y .time, (λ n h. turns-later y r inc n (rw u at h)), λ n. rw (w, u) (or-false (eqb n (y .time))))
       go false false u w rest = ⊎-elim (λ none. inl (λ n. rw (w, u) (none n))) (λ one. inr (one .0, (λ n h. one .1 n (rw u at h)), λ n. rw (w, u) (one .2 n))) rest
 
   turns-grow : Growing (turns P Q)
@@ -564,7 +557,7 @@ module _ (Q : Coded → Bool) where
   abbrev found : List Coded → ℕ → Bool
   found r n = someOf (λ x. Q x && eqb n (x .time)) r
 
-  found-later : (x y : Coded) (r : List Coded) → Rising (x ∷ y ∷ r) → (n : ℕ) → found (y ∷ r) n ≡ true → x .time < n
+  found-later : (x y : Coded) (r : List Coded) → IncreasingCodes (x ∷ y ∷ r) → (n : ℕ) → found (y ∷ r) n ≡ true → x .time < n
   found-later x y [] inc n h = or-cases (Q y && eqb n (y .time)) _ h (λ k. omega (arith, eqb-true n (y .time) (and-right (Q y) _ k), inc .0)) (λ k. absurd (true≢false (sym k)))
   found-later x y (z ∷ r) inc n h =
       or-cases (Q y && eqb n (y .time)) _ h (λ k. omega (arith, eqb-true n (y .time) (and-right (Q y) _ k), inc .0)) (λ k. omega (arith, found-later y z r (inc .1) n k, inc .0))
@@ -594,10 +587,6 @@ module _ (Q : Coded → Bool) where
 over-up : (m n : ℕ) → m ≤ n → ltb mostRuns m ≡ true → ltb mostRuns n ≡ true
 over-up m n h k = lt-ltb mostRuns n (omega (arith, ltb-true mostRuns m k))
 
-below-none : (f : ℕ → Bool) → ((i : ℕ) → f i ≡ false) → (n : ℕ) → someBelow f n ≡ false
-below-none f h zero = refl
-below-none f h (suc n) = or-none (h n) (below-none f h n)
-
 below-first : (f : ℕ → Bool) (n : ℕ) → ((i : ℕ) → i < suc n → f i ≡ true → f 0 ≡ true) → someBelow f (suc n) ≡ f 0
 below-first f n h = same _ _ (λ e. let s = below-find f (suc n) e in h (s .0) (s .1) (s .2)) (λ e. below-at f (suc n) 0 (omega arith) e)
 
@@ -611,10 +600,10 @@ module _ {q : Listed} {p : Text} (f : Formula q p) (x : Coded) (r : List Coded) 
     (head : largeAt (x ∷ r) p 0 ≡ false) where
   quiet : someBelow (overAt (x ∷ r) p) (length (x ∷ r)) ≡ overAt (x ∷ r) (listed q) 0
   unfolding someNode
-  quiet = below-none (overAt (x ∷ r) p) nowhere (length (x ∷ r)) ∙ sym head ∙ alone f x r
+  quiet = below-none (overAt (x ∷ r) p) (length (x ∷ r)) (λ i k. nowhere i) ∙ sym head ∙ alone f x r
 
 -- a formula F(p) where p is over nowhere, and the set of F(p) grows at its low end
-module _ {q : Listed} (p : Text) (f : Formula q (finally p)) (S : List Coded → ℕ → Bool) (g : Growing S) (x : Coded) (r : List Coded) (inc : Rising (x ∷ r))
+module _ {q : Listed} (p : Text) (f : Formula q (finally p)) (S : List Coded → ℕ → Bool) (g : Growing S) (x : Coded) (r : List Coded) (inc : IncreasingCodes (x ∷ r))
     (set : (i : ℕ) → i < length (x ∷ r) → (n : ℕ) → val (x ∷ r) n (finally p) i ≡ S (drop i (x ∷ r)) n) (inner : (i : ℕ) → overAt (x ∷ r) p i ≡ false) where
   by-set : (i : ℕ) → i < length (x ∷ r) → runsAt (x ∷ r) (finally p) i ≡ starts (S (drop i (x ∷ r))) axis
   by-set i h = run-count (λ n. val (x ∷ r) n (finally p) i) ∙ starts-ext (λ n. val (x ∷ r) n (finally p) i) (S (drop i (x ∷ r))) axis (λ n l. set i h n)
@@ -638,7 +627,7 @@ module _ {q : Listed} (p : Text) (f : Formula q (finally p)) (S : List Coded →
 
 -- a turn, so
 at-turn : {P Q : Coded → Bool} {was will : Text} → TurnText P Q was will → {q : Listed} → Formula q (finally (and was (next will)))
-    → (x : Coded) (r : List Coded) → Rising (x ∷ r) → someBelow (overAt (x ∷ r) (finally (and was (next will)))) (length (x ∷ r)) ≡ overAt (x ∷ r) (listed q) 0
+    → (x : Coded) (r : List Coded) → IncreasingCodes (x ∷ r) → someBelow (overAt (x ∷ r) (finally (and was (next will)))) (length (x ∷ r)) ≡ overAt (x ∷ r) (listed q) 0
 unfolding val
 at-turn {P} {Q} {was} {will} t f x r inc =
     at-first (and was (next will)) f (turns P Q) (turns-grow P Q (t .never)) x r inc
@@ -655,7 +644,7 @@ inner-dose k r i =
     or-none (few (λ n. codedAdds k (codedAt r i) && eqb n (codedAt r i .time)) (point (codedAdds k (codedAt r i)) (codedAt r i .time)))
     (or-none (few-const (codedAdds k (codedAt r i))) (few (λ n. eqb n (codedAt r i .time)) (point-convex (codedAt r i .time))))
 
-at-dose : (k : ℕ) (x : Coded) (r : List Coded) → Rising (x ∷ r)
+at-dose : (k : ℕ) (x : Coded) (r : List Coded) → IncreasingCodes (x ∷ r)
     → someBelow (overAt (x ∷ r) (finally (dose-text k))) (length (x ∷ r)) ≡ overAt (x ∷ r) (listed (dose k)) 0
 unfolding val
 at-dose k x r inc =
@@ -671,7 +660,7 @@ unfolding someNode
 root-few-all G p h = none-left _ _ h
 
 -- REFUSAL 8 IS THE SAME
-pub formula-eight : {q : Listed} {p : Text} → Formula q p → (x : Coded) (r : List Coded) → Rising (x ∷ r) → refused8 (x ∷ r) p ≡ refused8 (x ∷ r) (listed q)
+pub formula-eight : {q : Listed} {p : Text} → Formula q p → (x : Coded) (r : List Coded) → IncreasingCodes (x ∷ r) → refused8 (x ∷ r) p ≡ refused8 (x ∷ r) (listed q)
 unfolding refused8
 formula-eight (of-high {c = c}) x r inc =
     quiet of-high x r (λ i. over-high (x ∷ r) i c) (root-few (λ t. largeAt (x ∷ r) t 0) _ (over-high (x ∷ r) 0 c))
@@ -705,6 +694,6 @@ module _ {q : Listed} {p : Text} (f : Formula q p) where
   pub formula-overfull : (r : List Reading) → Recorded r → 0 < length r → Overfull r p ↔ Overfull r (listed q)
   formula-overfull [] h l = absurd (omega arith)
   formula-overfull (x ∷ r) h l =
-      let e = formula-eight f (code x) (map code r) (rising-code (x ∷ r) (h .increasing)) in
+      let e = formula-eight f (code x) (map code r) (increasing-codes (x ∷ r) (h .increasing)) in
       then (back (eight-overfull (x ∷ r) (h .in-range) l p))
       (then (λ k. sym e ∙ k, λ k. e ∙ k) (eight-overfull (x ∷ r) (h .in-range) l (listed q)))

@@ -17,13 +17,13 @@ use Rattle.meaning.specs.Listed.{recordAt, SomeRecord, EachRecord, TimeO
 use Rattle.meaning.specs.Meaning.{lastOf, readingAt, operand, Relates, AtomSays, Finally, Globally, Until, WeakUntil, Holds}
 use Rattle.meaning.specs.Overfull.{children, Node, itself, below, IsSet, Overfull, TooManyTops, Differences, of-gaps, of-steps, of-lag}
 use Rattle.meaning.specs.Alike.{times}
-use Rattle.meaning.specs.Named.{Part, curve, additions, atomNames, listedNames, nodeNames, Names, SamePart, Agree, Agreeing, none, more, SameMeaning}
+use Rattle.meaning.specs.Named.{Channel, curve, additions, atomNames, listedNames, nodeNames, Names, SameChannel, Agree, Agreeing, none, more, SameMeaning}
 use Rattle.meaning.specs.inner.Truth.{somePair, someStep}
 use Rattle.number.specs.laws.Boolean.{then, back, either, both}
 use Rattle.meaning.specs.laws.Alike as alike
 
--- a map of readings that changes none of these parts
-pub map-agreeing : (N : Part → Type 0) (f : Reading → Reading) → ((x : Reading) → Agree N x (f x)) → (r : List Reading) → Agreeing N r (map f r)
+-- a map of readings that changes none of these channels
+pub map-agreeing : (N : Channel → Type 0) (f : Reading → Reading) → ((x : Reading) → Agree N x (f x)) → (r : List Reading) → Agreeing N r (map f r)
 map-agreeing N f h [] = none
 map-agreeing N f h (x ∷ r) = more (h x) (map-agreeing N f h r)
 
@@ -33,51 +33,51 @@ pub node-of : {x q p : Text} → Node x q → Node q p → Node x p
 node-of n itself = n
 node-of n (below m k) = below m (node-of n k)
 
--- the parts N are among them what the text names
-abbrev pub Covers : (Part → Type 0) → Text → Type 0
-Covers N p = (n : Part) → Names p n → N n
+-- the channels N are among them what the text names
+abbrev pub Covers : (Channel → Type 0) → Text → Type 0
+Covers N p = (n : Channel) → Names p n → N n
 
-covers-node : {N : Part → Type 0} {q p : Text} → Node q p → Covers N p → Covers N q
+covers-node : {N : Channel → Type 0} {q p : Text} → Node q p → Covers N p → Covers N q
 covers-node m h n k = h n (k .0, node-of (k .1) m, k .2)
 
 -- the first child, and the second
-covers-first : {N : Part → Type 0} {p c : Text} {cs : List Text} → children p ≡ c ∷ cs → Covers N p → Covers N c
+covers-first : {N : Channel → Type 0} {p c : Text} {cs : List Text} → children p ≡ c ∷ cs → Covers N p → Covers N c
 covers-first {c = c} e h = covers-node (below (subst (List·Memᴰ c) (sym e) (List·Memᴰ·head refl)) itself) h
 
-covers-second : {N : Part → Type 0} {p c d : Text} {cs : List Text} → children p ≡ d ∷ (c ∷ cs) → Covers N p → Covers N c
+covers-second : {N : Channel → Type 0} {p c d : Text} {cs : List Text} → children p ≡ d ∷ (c ∷ cs) → Covers N p → Covers N c
 covers-second {c = c} e h = covers-node (below (subst (List·Memᴰ c) (sym e) (List·Memᴰ·tail (List·Memᴰ·head refl))) itself) h
 
--- the condition takes place alike where these parts agree
-abbrev pub Blind : (Part → Type 0) → Condition Reading → Type 0
+-- the condition takes place alike where these channels agree
+abbrev pub Blind : (Channel → Type 0) → Condition Reading → Type 0
 Blind N ρ = (b b′ : List Reading) (x x′ : Reading) (a a′ : List Reading) → Agreeing N b b′ → Agree N x x′ → Agreeing N a a′ → ρ b x a ≡ ρ b′ x′ a′
 
-module _ {N : Part → Type 0} where
+module _ {N : Channel → Type 0} where
   -- ---- readings that agree
 
   agree-itself : (x : Reading) → Agree N x x
-  agree-itself x = record { time = refl; part = λ n h. same n }
+  agree-itself x = record { time = refl; same = λ n h. same n }
     where
-      same : (n : Part) → SamePart n x x
+      same : (n : Channel) → SameChannel n x x
       same (curve c) = (refl, refl)
       same additions = refl
 
   module _ {x y : Reading} (h : Agree N x y) where
     same-falls : (c : Curve) → N (curve c) → falls c x ≡ falls c y
-    same-falls c n = ap (λ (s : ℕ). eqb s 0) (h .part (curve c) n .1)
+    same-falls c n = ap (λ (s : ℕ). eqb s 0) (h .same (curve c) n .1)
 
     same-rises : (c : Curve) → N (curve c) → rises c x ≡ rises c y
-    same-rises c n = ap (λ (s : ℕ). eqb s 2) (h .part (curve c) n .1)
+    same-rises c n = ap (λ (s : ℕ). eqb s 2) (h .same (curve c) n .1)
 
     same-crossed : N (curve A) → N (curve B) → crossed x ≡ crossed y
-    same-crossed a b = ap₂ leZ (h .part (curve A) a .0) (h .part (curve B) b .0)
+    same-crossed a b = ap₂ leZ (h .same (curve A) a .0) (h .same (curve B) b .0)
 
     same-adds : N additions → (k : ℕ) → adds k x ≡ adds k y
     same-adds n zero = refl
-    same-adds n (suc k) = ap (λ (p : ℕ). eqb p (suc k)) (h .part additions n)
+    same-adds n (suc k) = ap (λ (p : ℕ). eqb p (suc k)) (h .same additions n)
 
     -- a claim on a value, and on the time
     of-value : (c : Curve) → N (curve c) → (P : ℤ → Type 0) → P (value c x) ↔ P (value c y)
-    of-value c n P = let e = h .part (curve c) n .0 in (subst P e, subst P (sym e))
+    of-value c n P = let e = h .same (curve c) n .0 in (subst P e, subst P (sym e))
 
     of-time : (P : ℤ → Type 0) → P (pos (x .time)) ↔ P (pos (y .time))
     of-time P = (subst (λ (t : ℕ). P (pos t)) (h .time), subst (λ (t : ℕ). P (pos t)) (sym (h .time)))
@@ -85,12 +85,12 @@ module _ {N : Part → Type 0} where
     of-test : {e f : Bool} → e ≡ f → So e ↔ So f
     of-test e = (λ s. sym e ∙ s, λ s. e ∙ s)
 
-    atom-agree : (k : Atom) → ((n : Part) → List·Memᴰ n (atomNames k) → N n) → (z : ℤ) → AtomSays k x z ↔ AtomSays k y z
+    atom-agree : (k : Atom) → ((n : Channel) → List·Memᴰ n (atomNames k) → N n) → (z : ℤ) → AtomSays k x z ↔ AtomSays k y z
     atom-agree (compare (of c) ρ o) n z = of-value c (n (curve c) (List·Memᴰ·head refl)) (λ t. Relates ρ t (operand o z))
     atom-agree (compare T ρ o) n z = of-time (λ t. Relates ρ t (operand o z))
     atom-agree (A-to-B ρ) n z =
-        let a = h .part (curve A) (n (curve A) (List·Memᴰ·head refl)) .0 in
-        let b = h .part (curve B) (n (curve B) (List·Memᴰ·tail (List·Memᴰ·head refl))) .0 in (
+        let a = h .same (curve A) (n (curve A) (List·Memᴰ·head refl)) .0 in
+        let b = h .same (curve B) (n (curve B) (List·Memᴰ·tail (List·Memᴰ·head refl))) .0 in (
           λ s. subst (λ (t : ℤ). Relates ρ t (y .b)) a (subst (λ (t : ℤ). Relates ρ (x .a) t) b s),
           λ s. subst (λ (t : ℤ). Relates ρ t (x .b)) (sym a) (subst (λ (t : ℤ). Relates ρ (y .a) t) (sym b) s),
         )
@@ -98,7 +98,7 @@ module _ {N : Part → Type 0} where
     atom-agree (rise c) n z = of-test (same-rises c (n (curve c) (List·Memᴰ·head refl)))
     atom-agree (pigment k) n z = of-test (same-adds (n additions (List·Memᴰ·head refl)) k)
 
-  -- ---- conditions that look at these parts only
+  -- ---- conditions that look at these channels only
 
   module _ (P : Reading → Bool) (p : (x y : Reading) → Agree N x y → P x ≡ P y) where
     edge-blind : Blind N (edge P)
@@ -180,7 +180,7 @@ module _ {N : Part → Type 0} where
       time-agree : (ρ : Condition Reading) → Blind N ρ → TimeOf ρ r z ↔ TimeOf ρ s z
       time-agree ρ h = alike.through _ _ (ap (someOf (alike.is-time z)) (same-times ρ h)) (alike.of-times r z ρ) (alike.of-times s z ρ)
 
-      says-agree : (q : Listed) → ((n : Part) → List·Memᴰ n (listedNames q) → N n) → Says q r z ↔ Says q s z
+      says-agree : (q : Listed) → ((n : Channel) → List·Memᴰ n (listedNames q) → N n) → Says q r z ↔ Says q s z
       unfolding Says
       says-agree (high c) n = some-record (λ x. z ≤ℤ value c x) (λ x y h. of-value h c (n (curve c) (List·Memᴰ·head refl)) (λ t. z ≤ℤ t))
       says-agree (low c) n = some-record (λ x. value c x ≤ℤ z) (λ x y h. of-value h c (n (curve c) (List·Memᴰ·head refl)) (λ t. t ≤ℤ z))
@@ -230,7 +230,7 @@ module _ {P P′ : ℕ → Type 0} (p : (i : ℕ) → P i ↔ P′ i) where
     same-weakUntil : (i : ℕ) → WeakUntil P Q i ↔ WeakUntil P′ Q′ i
     same-weakUntil i = either (same-globally i) (same-until i)
 
-module _ {N : Part → Type 0} {r s : List Reading} (rs : Agreeing N r s) where
+module _ {N : Channel → Type 0} {r s : List Reading} (rs : Agreeing N r s) where
   module _ (z : ℤ) where
     holds-agree : (p : Text) → Covers N p → (i : ℕ) → Holds r z p i ↔ Holds s z p i
     unfolding Holds

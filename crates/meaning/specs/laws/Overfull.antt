@@ -18,7 +18,7 @@ use Rattle.tops.specs.Tops.{mostTops}
 use Rattle.meaning.specs.inner.Recorded.{InRange}
 use Rattle.meaning.specs.inner.Coded.{code, codedTimes}
 use Rattle.meaning.specs.inner.Truth.{val, someNode, runsAt, largeAt, overAt, someBelow, refused8, manyTops, asksTooMany, ofListed, refused9}
-use Rattle.number.specs.laws.Boolean.{same, or-left, or-right, or-cases}
+use Rattle.number.specs.laws.Boolean.{same, or-left, or-right, or-cases, or-none}
 use Rattle.meaning.specs.laws.Listed.{all-settled, stamp, event-code}
 use Rattle.meaning.specs.laws.Truth.{val-holds}
 use Rattle.meaning.specs.laws.Run.{runs-ext}
@@ -106,6 +106,10 @@ below-at f (suc n) i h e = by (decLt i n) (λ l. below-at f n i l e)
     by : Dec (i < n) → (i < n → So (someBelow f n)) → So (someBelow f (suc n))
     by (yes l) under = or-right (f n) _ (under l)
     by (no l) under = or-left (f n) _ (let q : i ≡ n = omega arith in subst (λ (m : ℕ). So (f m)) q e)
+
+pub below-none : (f : ℕ → Bool) (n : ℕ) → ((i : ℕ) → i < n → f i ≡ false) → someBelow f n ≡ false
+below-none f zero h = refl
+below-none f (suc n) h = or-none (h n (omega arith)) (below-none f n (λ i k. h i (omega arith)))
 
 -- ---- REFUSAL 8
 

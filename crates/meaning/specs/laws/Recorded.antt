@@ -8,7 +8,7 @@ use lib.Dec.{leb}
 use lib.ListN.{length, getD, length-map, List·getD-map}
 use borrow.Author.Tests.{leb-true, ltb-true, ltb-false, not-false}
 use Rattle.number.specs.laws.Least.{least-first}
-use Rattle.number.specs.Words.{word, signed, turned}
+use Rattle.number.specs.Words.{word, signed, offsetBinary}
 use Rattle.recording.specs.Reading.{Reading, Curve, A, B, value}
 use Rattle.recording.specs.Recording.{Raw, records, reading, readings, latest, inRange, fieldsOf, fields, lawful, firstBad, Accepted}
 use Rattle.meaning.specs.Listed.{recordAt}
@@ -28,7 +28,7 @@ module _ (bytes : List ℕ) (accepted : Accepted bytes) where
   in-fields i l = and-left (fields (getD xs i [])) _ (all-lawful i l)
 
   at-reading : (i : ℕ) → recordAt (readings bytes) i ≡ reading (getD xs i [])
-  unfolding reading signed turned
+  unfolding reading signed offsetBinary
   at-reading i = List·getD-map reading xs i []
 
   inside : (i : ℕ) → i < length (readings bytes) → i < length xs

@@ -3,15 +3,15 @@ use mathlib.Core.Path.{_≡_, refl}
 use mathlib.Core.List.{List, map}
 use Rattle.recording.specs.Reading.{Reading, A, B}
 use Rattle.grammar.specs.Syntax.{Text}
-use Rattle.meaning.specs.Named.{Part, curve, additions, Names, SamePart, Agree, SameMeaning}
+use Rattle.meaning.specs.Named.{Channel, curve, additions, Names, SameChannel, Agree, SameMeaning}
 use Rattle.meaning.specs.Unpigmented.{bare, Unpigmented}
 use Rattle.meaning.specs.laws.Named.{map-agreeing, agreeing-same}
 
 -- taking the pigment away changes nothing else
-bare-agrees : (N : Part → Type 0) → ¬ N additions → (x : Reading) → Agree N x (bare x)
-bare-agrees N h x = record { time = refl; part = same }
+bare-agrees : (N : Channel → Type 0) → ¬ N additions → (x : Reading) → Agree N x (bare x)
+bare-agrees N h x = record { time = refl; same = same }
   where
-    same : (n : Part) → N n → SamePart n x (bare x)
+    same : (n : Channel) → N n → SameChannel n x (bare x)
     same (curve A) k = (refl, refl)
     same (curve B) k = (refl, refl)
     same additions k = absurd (h k)

@@ -2,7 +2,7 @@
 use Prim.Native.Nat.{ℕ, zero, suc, _+_, _<_}
 use native.Mathlib.Omega.{arith}
 use native.Mathlib.Decide.{decLt}
-use mathlib.Core.Path.{_≡_, sym, ap, _∙_, subst}
+use mathlib.Core.Path.{_≡_, refl, sym, ap, _∙_, subst}
 use mathlib.Core.Bool.{So}
 use mathlib.Core.Logic.{_↔_}
 use lib.Dec.{leb, ltb, eqb}
@@ -11,6 +11,8 @@ use lib.Signed.{leZ, ltZ, _≤ℤ_, _<ℤ_}
 use borrow.Author.Tests.{leb-true, le-leb, lt-leb, lt-ltb, le-ltb, ltb-true, eqb-true, eq-eqb}
 use Rattle.number.specs.Axis.{origin, whole}
 use Rattle.number.specs.laws.Boolean.{same, then, so-test}
+use Rattle.recording.specs.Reading.{Reading, Curve, A, B, value}
+use Rattle.meaning.specs.inner.Coded.{index, code, codedValue}
 
 abbrev pub Stands : ℤ → ℕ → ℕ → Type 0
 Stands (pos n) p q = p ≡ q + n
@@ -25,6 +27,17 @@ stands-sub p q = by (decLt p q)
 
 pub stands-whole : (n : ℕ) → Stands (whole n) n origin
 stands-whole n = stands-sub n origin
+
+pub index-stands : (z : ℤ) (n : ℕ) → Stands z n origin → index z ≡ n
+index-stands (pos k) n h = omega arith
+index-stands (negsuc k) n h = omega arith
+
+pub index-whole : (n : ℕ) → index (whole n) ≡ n
+index-whole n = index-stands (whole n) n (stands-whole n)
+
+pub coded-value : (c : Curve) (x : Reading) → codedValue c (code x) ≡ index (value c x)
+coded-value A x = refl
+coded-value B x = refl
 
 move : (z : ℤ) (p q p′ q′ : ℕ) → Stands z p q → p + q′ ≡ p′ + q → Stands z p′ q′
 move (pos n) p q p′ q′ h e = omega arith

@@ -13,7 +13,7 @@ use Rattle.recording.specs.Condition.{Condition, pick, pickFrom, when, on}
 use Rattle.recording.specs.Reading.{curveOf}
 use Rattle.recording.specs.Recording.{Raw, records, reading, readings, recordingLines, noRecord, mostRecords}
 use Rattle.recording.specs.Output.{counted, outputLine}
-use Rattle.recording.specs.laws.Record.{length-flat, length-records}
+use Rattle.recording.specs.laws.Record.{length-concat, length-records}
 use Rattle.recording.specs.laws.Outcome.{result-none, none-append}
 use Rattle.kept.specs.Kept.{keptFor}
 use Rattle.thin.specs.Thin.{keptBytes, thinOf}
@@ -57,7 +57,7 @@ pub kept-most : (marks bytes : List ℕ) → length (keptBytes marks bytes) ≤ 
 unfolding keptBytes
 kept-most marks bytes =
     let ρ : Condition Raw = on reading (keptFor marks) in
-    let a = length-flat (pick ρ (records bytes)) (kept-sixteens marks bytes) in
+    let a = length-concat (pick ρ (records bytes)) (kept-sixteens marks bytes) in
     let b = pick-most ρ [] (records bytes) in
     let c = length-records bytes in
     omega arith

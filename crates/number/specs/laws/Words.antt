@@ -13,7 +13,7 @@ use lib.Signed.{ltZ, leZ}
 use lib.Dec.{leb, ltb}
 use borrow.Author.Tests.{lt-ltb, le-ltb}
 use Rattle.number.specs.Axis.{axis, origin, whole}
-use Rattle.number.specs.Words.{word, wordBytes, turned, signed, bits}
+use Rattle.number.specs.Words.{word, wordBytes, offsetBinary, signed, bits}
 use Rattle.number.specs.laws.Order.{less-or-not, ltb-same, leb-not-ltb}
 
 -- the first four bytes
@@ -94,5 +94,5 @@ shift p k q l e =
 
 -- A NUMBER OF THE AXIS IS READ BACK FROM ITS BITS
 pub signed-bits : (n : ℕ) → n < axis → signed (bits (whole n)) ≡ whole n
-unfolding signed turned
+unfolding signed offsetBinary
 signed-bits n h = rw (bits-whole n h) (shift (((n + 2294967296) % 4294967296 + 2147483648) % 4294967296) 2147483648 n origin (omega arith))

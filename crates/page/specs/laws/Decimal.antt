@@ -13,7 +13,7 @@ use Rattle.io.specs.Digits.{digits, Fewest}
 use Rattle.number.specs.Least.{least}
 use Rattle.number.specs.laws.Least.{least-is, least-first}
 use Rattle.number.specs.laws.Order.{less-or-not}
-use Rattle.number.specs.Words.{turned, signed}
+use Rattle.number.specs.Words.{offsetBinary, signed}
 use Rattle.page.specs.Decimal.{places, decimal, signedDecimal}
 
 pub digits-length : (k n : ℕ) → length (digits 10 k n) ≡ k
@@ -70,23 +70,23 @@ decimal-fits n k h =
 abbrev pub middle : ℕ
 middle = 2147483648
 
-module _ (w t : ℕ) (is : t ≡ turned w) where
+module _ (w t : ℕ) (is : t ≡ offsetBinary w) where
   pub signed-below : t < middle → signedDecimal (signed w) ≡ (45 ∷ []) ++ decimal (middle - t)
   unfolding signedDecimal signed
   signed-below h =
-      let e : suc (middle - suc (turned w)) ≡ middle - t = omega arith in
-      rw (lt-ltb (turned w) middle (omega arith)) (ap (λ (n : ℕ). 45 ∷ decimal n) e)
+      let e : suc (middle - suc (offsetBinary w)) ≡ middle - t = omega arith in
+      rw (lt-ltb (offsetBinary w) middle (omega arith)) (ap (λ (n : ℕ). 45 ∷ decimal n) e)
 
   pub signed-above : middle ≤ t → signedDecimal (signed w) ≡ decimal (t - middle)
   unfolding signedDecimal signed
-  signed-above h = rw (le-ltb (turned w) middle (omega arith)) (ap (λ (k : ℕ). decimal (k - middle)) (sym is))
+  signed-above h = rw (le-ltb (offsetBinary w) middle (omega arith)) (ap (λ (k : ℕ). decimal (k - middle)) (sym is))
 
-turned-small : (w : ℕ) → turned w < 4294967296
-unfolding turned
-turned-small w = omega arith
+offset-binary-small : (w : ℕ) → offsetBinary w < 4294967296
+unfolding offsetBinary
+offset-binary-small w = omega arith
 
 pub signed-fits : (w : ℕ) → length (signedDecimal (signed w)) ≤ 11
 signed-fits w =
-    ⊎-elim (λ h. omega (arith, ap length (signed-below w (turned w) refl h), decimal-fits (middle - turned w) 9 (omega arith)))
-    (λ h. omega (arith, ap length (signed-above w (turned w) refl h), decimal-fits (turned w - middle) 9 (omega (arith, turned-small w))))
-    (less-or-not (turned w) middle)
+    ⊎-elim (λ h. omega (arith, ap length (signed-below w (offsetBinary w) refl h), decimal-fits (middle - offsetBinary w) 9 (omega arith)))
+    (λ h. omega (arith, ap length (signed-above w (offsetBinary w) refl h), decimal-fits (offsetBinary w - middle) 9 (omega (arith, offset-binary-small w))))
+    (less-or-not (offsetBinary w) middle)

@@ -19,11 +19,7 @@ pub kept-within : (blocks n : ℕ) → n ≤ 16 * blocks → keptLength blocks n
 unfolding keptLength
 kept-within blocks n h = rw (le-ltb (16 * blocks) n h)
 
--- THE SAME REMAINDER, and past the limit exactly where n is
-pub kept-remainder : (blocks n : ℕ) → keptLength blocks n % 16 ≡ n % 16
-kept-remainder blocks n =
-    ⊎-elim (λ h. omega (arith, kept-over blocks n h)) (λ h. omega (arith, kept-within blocks n h)) (less-or-not (16 * blocks) n)
-
+-- past the limit exactly where n is
 pub kept-limit : (blocks n : ℕ) → (16 * blocks < keptLength blocks n) ↔ (16 * blocks < n)
 kept-limit blocks n = (
   λ l. ⊎-elim (λ h. h) (λ h. omega (arith, kept-within blocks n h)) (less-or-not (16 * blocks) n),

@@ -11,7 +11,7 @@ use borrow.Author.Tests.{le-leb, lt-leb, eq-eqb, ne-eqb, le-ltb}
 use Rattle.number.specs.Axis.{axis}
 use Rattle.number.specs.Least.{least}
 use Rattle.number.specs.laws.Order.{less-more-equal}
-use Rattle.number.specs.Words.{turned, signed, wordBytes}
+use Rattle.number.specs.Words.{offsetBinary, signed, wordBytes}
 use Rattle.refusal.specs.Outcome.{result, NoneMeets}
 use Rattle.recording.specs.Reading.{A}
 use Rattle.recording.specs.Recording as recording
@@ -56,7 +56,7 @@ abbrev either : ℕ → Bool
 either n = eqb n 2000000030 || (eqb n 2000000070 || false)
 
 tops-are : (n : ℕ) → val (coded R1) n (listed (peaks A)) 0 ≡ either n
-unfolding val truth recording.reading signed turned
+unfolding val truth recording.reading signed offsetBinary
 tops-are n = refl
 
 -- by the four cuts
@@ -106,7 +106,7 @@ eight =
     ∙ le-ltb mostRuns (runCount (λ n. val (coded R1) n (listed (peaks A)) 0)) (omega (arith, two, ap (λ (p : Text). runCount (λ n. val (coded R1) n p 0)) reads))
 
 none-asking : NoneMeets (askingLines R1 asked)
-unfolding recording.reading signed turned recording.fieldsOf recording.fields recording.lawful recording.firstBad least tooDeep parsed parse unsignedAt numberAt operandAt comparisonAt timedAt argumentsAt namedAt headedAt leafAt
+unfolding recording.reading signed offsetBinary recording.fieldsOf recording.fields recording.lawful recording.firstBad least tooDeep parsed parse unsignedAt numberAt operandAt comparisonAt timedAt argumentsAt namedAt headedAt leafAt
 none-asking = (refl, (refl, (refl, (refl, (refl, (refl, (refl, tt)))))))
 
 ten : ltb setRoom (length (setBytes (answer R1 asked))) ≡ false

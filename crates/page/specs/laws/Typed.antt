@@ -41,10 +41,6 @@ newline-dropped s =
     let e : length s ≡ length (s ++ 10 ∷ []) - 1 = omega (arith, length-append s (10 ∷ [])) in
     sym (line-typed (s ++ 10 ∷ []) (length (s ++ 10 ∷ [])) refl (last-byte s 10)) ∙ take-at s (10 ∷ []) (length (s ++ 10 ∷ []) - 1) e
 
-pub other-kept : (s : List ℕ) (b : ℕ) → (b ≡ 10 → ⊥) → withoutNewline (s ++ b ∷ []) ≡ s ++ b ∷ []
-other-kept s b h =
-    sym (plain-typed (s ++ b ∷ []) (length (s ++ b ∷ [])) refl (λ e. h (sym (last-byte s b) ∙ e))) ∙ take-length (s ++ b ∷ [])
-
 -- at most one byte goes
 pub typed-length : (s : List ℕ) → length s ≤ length (withoutNewline s) + 1
 unfolding withoutNewline

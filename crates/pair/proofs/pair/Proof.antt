@@ -8,7 +8,7 @@ use lib.ListN.{length}
 use mir.Syntax.{w64}
 use mir.ValLaws.{toZ-ofZ}
 use Rattle.refusal.specs.Outcome.{judged}
-use Rattle.recording.specs.Output.{found}
+use Rattle.recording.specs.Output.{checkOutcome}
 use Rattle.recording.specs.Recording.{recordingLines, readings, Accepted}
 use Rattle.recording.specs.laws.Outcome.{result-none}
 use Rattle.recording.specs.declared.Checked.{Checked}
@@ -19,10 +19,10 @@ use Rattle.pair.proofs.pair.Statement.{statement}
 use Rattle.pair.proofs.pair.Tie as tie
 use Rattle.recording.specs.Reading.{curveOf}
 
-accepted : (bytes : List ℕ) (r : Checked) (n : ℕ) → found r ≡ judged (recordingLines bytes) (length bytes / 16) → r ≡ checked.Records n
+accepted : (bytes : List ℕ) (r : Checked) (n : ℕ) → checkOutcome r ≡ judged (recordingLines bytes) (length bytes / 16) → r ≡ checked.Records n
     → Accepted bytes × (n ≡ length bytes / 16)
 accepted bytes r n h e =
-    let k = result-none (recordingLines bytes) (length bytes / 16) n (sym h ∙ ap found e) in
+    let k = result-none (recordingLines bytes) (length bytes / 16) n (sym h ∙ ap checkOutcome e) in
     (k .0, sym (k .1))
 
 check-requires : tie.Need-check-requires
@@ -60,7 +60,7 @@ returns-2 c =
     let bytes : List ℕ = args .rec .now in
     let told = c .before .checked2 .given in
     answer-refused (firstPair (readings bytes) (curveOf (args .curve)) (args .target)) (recordingLines bytes) (acceptedLines bytes (args .curve) (args .target)) (told .0 .0) (length bytes / 16)
-    (sym (ap found (told .1)) ∙ t .check .ensures)
+    (sym (ap checkOutcome (told .1)) ∙ t .check .ensures)
 
 pub pair-spec : {M : Type 1} → statement M
 pair-spec =

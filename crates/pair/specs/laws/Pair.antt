@@ -24,7 +24,7 @@ use Rattle.tops.specs.Tops.{recordedTime, eventTimes, topTimes}
 use Rattle.targets.specs.laws.Target.{sub-above, sub-below}
 use Rattle.tops.specs.inner.Scan.{Scanned}
 use Rattle.tops.specs.laws.Event.{event-times-ascend}
-use Rattle.tops.specs.laws.Pick.{Ascending, indexOf, index-rising, index-found, Found, numberOf as rankOf, number-rising, number-found, Numbered}
+use Rattle.tops.specs.laws.Pick.{Ascending, pickedIndex, index-rising, index-found, Found, rankOf, number-rising, number-found, Numbered}
 use Rattle.pair.specs.declared.TopPair.{TopPair}
 use Rattle.pair.specs.declared.TopPair.the-variants as answer
 use Rattle.pair.specs.Pair.{timeAt, Fits, Given, times, none, pairsOf, firstApart, firstPair, OfTops, Foremost, FirstFitting, outcomeOf}
@@ -89,13 +89,13 @@ module _ (r : List Reading) (c : Curve) (g : ℤ) where
   places-fit k l a =
       let l-in = subst (λ (m : ℕ). l < m) count-tops (a .inside) in
       let o = a .order in
-      let f : Found nothing (top c) [] r (indexOf (top c) [] r k) (getD (pick (top c) r) k nothing) = index-found nothing (top c) [] r k (omega arith) in
-      let s : Found nothing (top c) [] r (indexOf (top c) [] r l) (getD (pick (top c) r) l nothing) = index-found nothing (top c) [] r l l-in in
-      let first : getD ts k 0 ≡ timeAt r (indexOf (top c) [] r k) = time-of-place k ∙ ap recordedTime (sym (f .same)) in
-      let second : getD ts l 0 ≡ timeAt r (indexOf (top c) [] r l) = time-of-place l ∙ ap recordedTime (sym (s .same)) in
+      let f : Found nothing (top c) [] r (pickedIndex (top c) [] r k) (getD (pick (top c) r) k nothing) = index-found nothing (top c) [] r k (omega arith) in
+      let s : Found nothing (top c) [] r (pickedIndex (top c) [] r l) (getD (pick (top c) r) l nothing) = index-found nothing (top c) [] r l l-in in
+      let first : getD ts k 0 ≡ timeAt r (pickedIndex (top c) [] r k) = time-of-place k ∙ ap recordedTime (sym (f .same)) in
+      let second : getD ts l 0 ≡ timeAt r (pickedIndex (top c) [] r l) = time-of-place l ∙ ap recordedTime (sym (s .same)) in
       record {
-        i = indexOf (top c) [] r k;
-        j = indexOf (top c) [] r l;
+        i = pickedIndex (top c) [] r k;
+        j = pickedIndex (top c) [] r l;
         fits = record {
           order = index-rising (top c) [] r k l o l-in;
           inside = s .inside;

@@ -32,7 +32,7 @@ use Rattle.report.specs.Report.{MeanDegree, noMean, meanDegree, Naming, namingL
 use Rattle.report.specs.inner.Running.{Addition, stopped, last, figuresIn, answerIn}
 use Rattle.report.specs.inner.Running as inner
 use Rattle.report_state.specs.State.{additionIn, addAfter}
-use Rattle.report_state.specs.Call.{meanTold, answerTold, Reports, indexOf, Starts, Adds}
+use Rattle.report_state.specs.Call.{meanTold, answerTold, Reports, namedIndex, Starts, Adds}
 use Rattle.report_state.specs.laws.Start.{named-mapped, start-short, start-ends}
 use Rattle.report_state.specs.laws.Add.{Fine, in-fine}
 use Rattle.reply.specs.laws.Place.{plain-place}
@@ -264,10 +264,10 @@ module _ (n : Naming) where
     result-or-refusal = judged-number (naming (n .count) (n .text) (n .target) (length old)) (order (naming (n .count) (n .text) (n .target) (length old))) (answerTold (named (length old) n)) r (w .returned)
         (naming-half (length old)) (told-answer (naming (n .count) (n .text) (n .target) (length old)) (order (naming (n .count) (n .text) (n .target) (length old))) (named (length old) n) (naming-told (length old)));
     too-short-stays = λ h. w .state ∙ start-short n old h;
-    refusal-only-ends = λ k. ends (indexOf n (length old)) refl k;
+    refusal-only-ends = λ k. ends (namedIndex n (length old)) refl k;
   }
     where
-      ends : (o : Outcome ℕ) → indexOf n (length old) ≡ o → ¬ (numberIn r ≡ 0) → drop 4 new ≡ drop 4 old
+      ends : (o : Outcome ℕ) → namedIndex n (length old) ≡ o → ¬ (numberIn r ≡ 0) → drop 4 new ≡ drop 4 old
       ends (result v) e k = absurd (k (ap numberIn (w .returned ∙ ap (λ (a : Outcome Answer). packed (answerTold a)) (named-mapped n old ∙ ap (mapped (λ (j : ℕ). taken)) e))))
       ends (refused i p) e k = ap (drop 4) (w .state) ∙ start-ends n old i p e
 

@@ -10,9 +10,9 @@ use lib.ListN.{length, take}
 use borrow.Author.Tests.{ltb-false, le-ltb, lt-ltb}
 use Rattle.number.specs.laws.Boolean.{clash}
 use Rattle.refusal.specs.Outcome.{Outcome, result, refused}
-use Rattle.recording.specs.Recording.{Raw, flat, recordingLines, Accepted}
+use Rattle.recording.specs.Recording.{Raw, concat, recordingLines, Accepted}
 use Rattle.recording.specs.Output.{counted, outputAfter, outputLine}
-use Rattle.recording.specs.laws.Record.{length-flat, records-flat}
+use Rattle.recording.specs.laws.Record.{length-concat, records-concat}
 use Rattle.recording.specs.laws.Acceptance.{Good, accepted-sound, sound-accepted}
 use Rattle.recording.specs.laws.Outcome.{judged-none, append-none}
 use Rattle.marks.specs.Marks.{marksOf, marksLine, AcceptedMarks}
@@ -29,7 +29,7 @@ use Rattle.live.specs.laws.Step.{start-by}
 use Rattle.live.specs.laws.InHalf.{step-in-half, step-numbered, start-in-half, start-numbered, held-in-half, held-numbered}
 use Rattle.live.specs.laws.Behind.{step-behind}
 use Rattle.refinement.specs.laws.Represents.{Represents, Follows, Taken}
-use Rattle.refinement.specs.laws.Run.{kept-flat, kept-sixteen}
+use Rattle.refinement.specs.laws.Run.{kept-concat, kept-sixteen}
 use Rattle.refinement.specs.laws.State.{the-marks, the-held}
 use Rattle.refinement.specs.laws.Follow.{step-followed, read-followed, start-followed, short-none, other-none, none-answers, none-read-out, same-marks, some-bytes}
 use Rattle.boundary.specs.Boundary.{Writes}
@@ -72,11 +72,11 @@ read-answered h live f out y w =
     }
 
 -- the run is an accepted recording
-taken-accepted : (ks : List ℕ) (run : List Raw) → Taken ks run → Accepted (flat run)
+taken-accepted : (ks : List ℕ) (run : List Raw) → Taken ks run → Accepted (concat run)
 taken-accepted ks run t =
-    let l = length-flat run (t .sixteens) in
+    let l = length-concat run (t .sixteens) in
     let few = t .few in
-    sound-accepted (flat run) (record { whole = omega arith; few = omega arith; good = subst (Good 0) (sym (records-flat run (t .sixteens))) (t .good) })
+    sound-accepted (concat run) (record { whole = omega arith; few = omega arith; good = subst (Good 0) (sym (records-concat run (t .sixteens))) (t .good) })
 
 run-held : (h : History) (live : List ℕ) → Follows h live → AcceptedMarks (h .marks) → RunHeld h live
 run-held h live f fine = ⊎-elim holds (λ b. absurd (clash (b .0) (fine .0))) f
@@ -85,8 +85,8 @@ run-held h live f fine = ⊎-elim holds (λ b. absurd (clash (b .0) (fine .0))) 
     holds r =
         let ks : List ℕ = marksOf (h .marks) in
         let t = r .taken in
-        let e = ap length (kept-flat ks (h .run) (t .sixteens)) in
-        let l = length-flat (keptOf ks (h .run)) (kept-sixteen ks (h .run) (t .sixteens)) in
+        let e = ap length (kept-concat ks (h .run) (t .sixteens)) in
+        let l = length-concat (keptOf ks (h .run)) (kept-sixteen ks (h .run) (t .sixteens)) in
         let m = t .held in
         record { marks = the-marks h live r; kept = the-held h live r; few = omega arith; accepted = taken-accepted ks (h .run) t }
 
@@ -142,20 +142,20 @@ thinned-on marks join piece fine whole room a long =
     (sound-accepted bytes (sound-thinned ks join piece whole (accepted-sound (join ++ piece) a))) (fine .0, (le-ltb room (length (keptBytes ks bytes)) (omega arith), tt)))
     ∙ ap result e
 
-held-like : (h : History) → AcceptedMarks (h .marks) → Accepted (flat (h .run)) → HeldLikeRun h
+held-like : (h : History) → AcceptedMarks (h .marks) → Accepted (concat (h .run)) → HeldLikeRun h
 held-like h fine a =
     record {
-      in-place = selected-place (h .marks) (flat (h .run)) (keptRun h) fine a (kept-selection (marksOf (h .marks)) (flat (h .run)));
+      in-place = selected-place (h .marks) (concat (h .run)) (keptRun h) fine a (kept-selection (marksOf (h .marks)) (concat (h .run)));
       thins-on = λ piece {out} {r} {written} b long w. on piece out r written b long w;
     }
   where
-    on : (piece out : List ℕ) (r : ℕ) (written : List ℕ) → Accepted (flat (h .run) ++ piece) → length (keptBytes (marksOf (h .marks)) (flat (h .run) ++ piece)) ≤ length out
+    on : (piece out : List ℕ) (r : ℕ) (written : List ℕ) → Accepted (concat (h .run) ++ piece) → length (keptBytes (marksOf (h .marks)) (concat (h .run) ++ piece)) ≤ length out
         → ThinCall (keptRun h ++ piece) (h .marks) out r written
-        → (numberIn r ≡ 0) × (take (lowIn r) written ≡ keptBytes (marksOf (h .marks)) (flat (h .run) ++ piece))
+        → (numberIn r ≡ 0) × (take (lowIn r) written ≡ keptBytes (marksOf (h .marks)) (concat (h .run) ++ piece))
     on piece out r written b long w =
-        let k : List ℕ = keptBytes (marksOf (h .marks)) (flat (h .run) ++ piece) in
+        let k : List ℕ = keptBytes (marksOf (h .marks)) (concat (h .run) ++ piece) in
         let o : Outcome (List ℕ) = thinOf (keptRun h ++ piece) (h .marks) (length out) in
-        let e : o ≡ result k = thinned-on (h .marks) (flat (h .run)) piece fine (accepted-sound (flat (h .run)) a .whole) (length out) b long in
+        let e : o ≡ result k = thinned-on (h .marks) (concat (h .run)) piece fine (accepted-sound (concat (h .run)) a .whole) (length out) b long in
         let i : InHalf (counted (result k)) = subst (λ (p : Outcome (List ℕ)). InHalf (counted p)) e (thin-in-half (keptRun h ++ piece) (h .marks) (length out)) in
         let w′ : Writes (result k) out r written = subst (λ (p : Outcome (List ℕ)). Writes p out r written) e w in
         let z : numberIn r ≡ 0 = ap numberIn (w′ .returned) ∙ number-result (length k) i in

@@ -12,7 +12,7 @@ use lib.ListN.{length}
 use borrow.Author.Tests.{leb-true, ltb-true, le-ltb}
 use Rattle.number.specs.Axis.{origin, axis, whole}
 use Rattle.number.specs.Least.{least}
-use Rattle.number.specs.Words.{turned, signed}
+use Rattle.number.specs.Words.{offsetBinary, signed}
 use Rattle.refusal.specs.Outcome.{NoneMeets}
 use Rattle.recording.specs.Output.{outputLine}
 use Rattle.recording.specs.laws.Outcome.{judged-pass, append-none}
@@ -47,7 +47,7 @@ use Rattle.meaning.specs.laws.R1Lines.{marked-lines}
 use Rattle.meaning.specs.laws.R2Lines.{lines-hold}
 use Rattle.meaning.specs.laws.Run.{starts, run-count, Convex, const-convex, point-convex, convex-runs, convex-few}
 use Rattle.meaning.specs.laws.Recorded.{accepted-recorded}
-use Rattle.meaning.specs.inner.Truth.{allOf, codedAt, lastCoded, untilFrom, val, someNode, overAt, someBelow, refused8, refused9}
+use Rattle.meaning.specs.inner.Truth.{allOf, codedAt, lastCoded, untilFrom, val, someNode, overAt, refused8, refused9}
 use Rattle.meaning.specs.laws.Truth.{val-holds}
 use Rattle.meaning.specs.laws.Whole.{Stands, stands-whole, le-index}
 use Rattle.question.specs.Question.{theText, read, answer, askingLines, setLines, questionOf}
@@ -57,6 +57,7 @@ use Rattle.thin.specs.laws.R1Calls.{R1-accepted}
 use Rattle.thin.specs.laws.Examples.{R2-accepted}
 use Rattle.promises.specs.laws.FormulasAsked.{same-val, same-eight}
 use Rattle.meaning.specs.Formulas.{of-dose}
+use Rattle.meaning.specs.laws.Overfull.{below-none}
 use Rattle.promises.specs.MarkedLines.{MarkedLine, markedLines, R2Lines, R3Lines, bytesOfRuns, bytesOfMarks, writtenIn, Asked, Thinned, LineHolds}
 use Rattle.recording.specs.Condition.{someOf}
 
@@ -234,10 +235,6 @@ until-starts f g (suc d) i = go (f i) (until-starts f g d (suc i))
     go false h =
         omega (arith, starts-or (λ n. eqb n (g i)) (λ n. false) axis, convex-starts (λ n. eqb n (g i)) (point-convex (g i)), convex-starts (λ n. false) (const-convex false))
 
-nowhere : (f : ℕ → Bool) → ((i : ℕ) → f i ≡ false) → (n : ℕ) → someBelow f n ≡ false
-nowhere f h zero = refl
-nowhere f h (suc n) = or-none (h n) (nowhere f h n)
-
 -- U(A>=k,A=v)
 abbrev untilText : ℕ → Text
 untilText k = until (atom (compare (of A) ge (number k))) (atom (compare (of A) eq v))
@@ -255,7 +252,7 @@ until-over r k i h =
 
 until-eight : (k : ℕ) → refused8 (coded R1) (untilText k) ≡ false
 unfolding refused8
-until-eight k = nowhere (overAt (coded R1) (untilText k)) (λ i. until-over (coded R1) k i (leb-true _ _ refl)) (length (coded R1))
+until-eight k = below-none (overAt (coded R1) (untilText k)) (length (coded R1)) (λ i h. until-over (coded R1) k i (leb-true _ _ refl))
 
 -- X(X(P=7)), which has no v
 twoOn-over : (r : List Coded) (i : ℕ) → overAt r r3.twoOn i ≡ false
@@ -267,7 +264,7 @@ twoOn-over r i =
 
 twoOn-eight : refused8 (coded R3) r3.twoOn ≡ false
 unfolding refused8
-twoOn-eight = nowhere (overAt (coded R3) r3.twoOn) (twoOn-over (coded R3)) (length (coded R3))
+twoOn-eight = below-none (overAt (coded R3) r3.twoOn) (length (coded R3)) (λ i h. twoOn-over (coded R3) i)
 
 -- ---- thinning
 
@@ -296,21 +293,21 @@ any P [] a x m = absurd (List·Memᴰ·not-nil m)
 any P (y ∷ l) a x m = ⊎-elim (λ e. subst P (sym e) (a .0)) (any P l (a .1) x) (List·Memᴰ·cases-cons m)
 
 R1-readings : recording.readings R1 ≡ r1.R1
-unfolding recording.reading signed turned
+unfolding recording.reading signed offsetBinary
 R1-readings = refl
 
 told : Each (Holding (recording.readings R1)) r1.marked
 told = each (Holding (recording.readings R1)) r1.marked (λ l m. subst (λ (r : List Reading). Holding r l) (sym R1-readings) (marked-lines l m))
 
 R2-readings : recording.readings R2 ≡ r2.R2
-unfolding recording.reading signed turned
+unfolding recording.reading signed offsetBinary
 R2-readings = refl
 
 told-2 : Each (Holding (recording.readings R2)) r2.lines
 told-2 = each (Holding (recording.readings R2)) r2.lines (λ l m. subst (λ (r : List Reading). Holding r l) (sym R2-readings) (lines-hold l m))
 
 R3-readings : recording.readings R3 ≡ r3.R3
-unfolding recording.reading signed turned
+unfolding recording.reading signed offsetBinary
 R3-readings = refl
 
 told-3 : Each (Holding (recording.readings R3)) r3.lines
@@ -333,7 +330,7 @@ line-3 = asked R3 R3-accepted refl
 
 -- THE MARKED LINES OF R1 HOLD
 pub marked-hold : (l : MarkedLine) → List·Memᴰ l markedLines → LineHolds R1 l
-unfolding tooDeep least parsed parse unsignedAt numberAt operandAt comparisonAt timedAt argumentsAt namedAt headedAt leafAt lowCuts highCuts refused9 someNode marksOf keptBytes recording.reading signed turned
+unfolding tooDeep least parsed parse unsignedAt numberAt operandAt comparisonAt timedAt argumentsAt namedAt headedAt leafAt lowCuts highCuts refused9 someNode marksOf keptBytes recording.reading signed offsetBinary
 marked-hold =
     any (LineHolds R1) markedLines (
       line-1 (told .0) (bytes "high(A)") refl (refl, (refl, (refl, tt))) refl refl refl (listed-eight R1 (high A)),
@@ -384,7 +381,7 @@ marked-hold =
 
 -- THE LINES OF R2 HOLD
 pub R2-hold : (l : MarkedLine) → List·Memᴰ l R2Lines → LineHolds R2 l
-unfolding tooDeep least parsed parse unsignedAt numberAt operandAt comparisonAt timedAt argumentsAt namedAt headedAt leafAt lowCuts highCuts refused9 someNode marksOf keptBytes recording.reading signed turned
+unfolding tooDeep least parsed parse unsignedAt numberAt operandAt comparisonAt timedAt argumentsAt namedAt headedAt leafAt lowCuts highCuts refused9 someNode marksOf keptBytes recording.reading signed offsetBinary
 R2-hold =
     any (LineHolds R2) R2Lines (
       line-2 (told-2 .0) (bytes "peaks(A)") refl (refl, (refl, (refl, tt))) refl refl refl (listed-eight R2 (peaks A)),
@@ -405,7 +402,7 @@ R2-hold =
 
 -- THE LINES OF R3 HOLD
 pub R3-hold : (l : MarkedLine) → List·Memᴰ l R3Lines → LineHolds R3 l
-unfolding tooDeep least parsed parse unsignedAt numberAt pigmentAt pigmentLeafAt operandAt comparisonAt timedAt argumentsAt namedAt headedAt leafAt lowCuts highCuts refused9 someNode marksOf keptBytes recording.reading signed turned
+unfolding tooDeep least parsed parse unsignedAt numberAt pigmentAt pigmentLeafAt operandAt comparisonAt timedAt argumentsAt namedAt headedAt leafAt lowCuts highCuts refused9 someNode marksOf keptBytes recording.reading signed offsetBinary
 R3-hold =
     any (LineHolds R3) R3Lines (
       line-3 (told-3 .0) (bytes "dose(7)") refl (refl, (refl, (refl, tt))) refl refl refl (listed-eight R3 (dose 7)),

@@ -19,7 +19,7 @@ use Rattle.kept.specs.laws.Unpigmented.{limit-unpigmented}
 use Rattle.marks.specs.Marks.{marksOf, marksLine}
 use Rattle.thin.specs.Thin.{keptBytes, thinOf}
 use Rattle.thin.specs.laws.KeptBytes.{old-keptBytes}
-use Rattle.promises.specs.OldRecordings.{Old, fieldsBefore, firstBadBefore, linesBefore, keptBefore, thinBefore, AsBefore}
+use Rattle.promises.specs.OldRecordings.{Old, firstBadBefore, linesBefore, keptBefore, thinBefore, AsBefore}
 
 -- by index and from record to record
 

@@ -41,8 +41,8 @@ operator-written (a-W r s) e = (87, List·Memᴰ·tail (List·Memᴰ·tail (List
 operator-written (an-atom a) e = absurd (false≢true e)
 operator-written (a-listed q) e = absurd (false≢true e)
 
-pub unwritten-flat : (text : List ℕ) (t : Text) → ReadsWhole text t → ((b : ℕ) → List·Memᴰ b (bytes "FGXUW") → ¬ List·Memᴰ b text) → temporal t ≡ false
-unwritten-flat text t r no-letter = go (temporal t) refl
+pub unwritten-propositional : (text : List ℕ) (t : Text) → ReadsWhole text t → ((b : ℕ) → List·Memᴰ b (bytes "FGXUW") → ¬ List·Memᴰ b text) → temporal t ≡ false
+unwritten-propositional text t r no-letter = go (temporal t) refl
   where
     go : (b : Bool) → temporal t ≡ b → temporal t ≡ false
     go true e = let w = operator-written (r .0) e in absurd (no-letter (w .0) (w .1) (w .2))

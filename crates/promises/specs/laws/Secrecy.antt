@@ -1,4 +1,4 @@
--- SECRECY holds: a laboratory text names the public parts only, so it means the same of both recordings, and of every selection in the place of either.
+-- SECRECY holds: a laboratory text names the public channels only, so it means the same of both recordings, and of every selection in the place of either.
 use Prim.Native.Nat.{ℕ, zero, suc, _*_, _+_, _≤_, _<_}
 use native.Mathlib.Omega.{arith}
 use mathlib.Core.Path.{_≡_, refl, sym, ap, ap₂, subst, _∙_, fun-ext}
@@ -21,7 +21,7 @@ use Rattle.tops.specs.Tops.{recordedTime, eventTimes, topTimes, mostTops}
 use Rattle.grammar.specs.Syntax.{Text}
 use Rattle.text.specs.Told.{textLines}
 use Rattle.meaning.specs.Alike.{Same}
-use Rattle.meaning.specs.Named.{Part, curve, additions, Names, Agreeing}
+use Rattle.meaning.specs.Named.{Channel, curve, additions, Names, Agreeing}
 use Rattle.meaning.specs.laws.Named.{length-agreeing, same-times, top-blind, agreeing-same}
 use Rattle.meaning.specs.inner.Coded.{index}
 use Rattle.question.specs.Question.{read, answer, setLines}
@@ -48,7 +48,7 @@ use Rattle.promises.specs.laws.Demand1.{told-counted, told-numbered, wri
 
 -- ---- what a laboratory text names is public
 
-public : (marks : List ℕ) (p : Text) → LaboratoryText marks p → (n : Part) → Names p n → Public n
+public : (marks : List ℕ) (p : Text) → LaboratoryText marks p → (n : Channel) → Names p n → Public n
 public marks p t (curve A) h = the-batch
 public marks p t (curve B) h = absurd (t .no-B h)
 public marks p t additions h = the-additions

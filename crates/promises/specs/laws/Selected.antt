@@ -27,7 +27,7 @@ use Rattle.mill.specs.laws.Calls.{thin-in-half, question-in-half}
 use Rattle.promises.specs.Table.{Request, question, degree, pair, order, acceptedOrder, band, ordering}
 use Rattle.promises.specs.laws.Table.{AsTable}
 use Rattle.promises.specs.laws.CallLines.{InPlace}
-use Rattle.promises.specs.laws.Operator.{unwritten-flat}
+use Rattle.promises.specs.laws.Operator.{unwritten-propositional}
 use Rattle.promises.specs.StandIn.{StandIn}
 use Rattle.thin.specs.Selection.{Selection}
 use Rattle.thin.specs.laws.Selection.{selection-thinned}
@@ -41,7 +41,7 @@ use Rattle.promises.specs.laws.Demand2.{stood-told, stood-fixed, written
 -- ---- DEMAND 3: kept readings in the place of the recording
 
 asked-plain : (marks text : List ℕ) → AskedOfKept marks text → (t : Text) → ReadsWhole text t → Plain (marksOf marks) t
-asked-plain marks text l t r = record { flat = unwritten-flat text t r (l .none-written); marked = l .marked t r }
+asked-plain marks text l t r = record { propositional = unwritten-propositional text t r (l .none-written); marked = l .marked t r }
 
 -- a stand-in is in the recording's place for every such text
 pub in-place : (marks full held text : List ℕ) → StandIn (marksOf marks) full held → AskedOfKept marks text → InPlace full held text

@@ -9,7 +9,7 @@ use lib.IntN.{pos}
 use lib.Signed.{leZ-yes}
 use Rattle.number.specs.Axis.{axis}
 use Rattle.number.specs.Least.{least}
-use Rattle.number.specs.Words.{turned, signed}
+use Rattle.number.specs.Words.{offsetBinary, signed}
 use Rattle.refusal.specs.Outcome.{refused, NoneMeets}
 use Rattle.recording.specs.Condition.{someOf}
 use Rattle.recording.specs.Reading.{Reading, A, B, value, nothing}
@@ -22,7 +22,7 @@ use Rattle.grammar.specs.inner.Lexer.{unsignedAt, numberAt, operandAt, comparis
 use Rattle.grammar.specs.inner.Parse.{parse, parsed}
 use Rattle.text.specs.Told.{textLines}
 use Rattle.meaning.specs.Ranges.{_to_, Lo, Hi}
-use Rattle.meaning.specs.Named.{Part, SamePart, Agree, none, more}
+use Rattle.meaning.specs.Named.{Channel, SameChannel, Agree, none, more}
 use Rattle.meaning.specs.inner.Recorded.{InRange}
 use Rattle.meaning.specs.inner.Coded.{Coded, code, codedValue, codedAfter}
 use Rattle.meaning.specs.inner.Truth.{truth, val, someNode, refused9}
@@ -89,30 +89,30 @@ r7-kept = at-rest 0 11 0 ∷ at-rest 10 19 0 ∷ at-rest 30 15 3 ∷ at-rest 40 
 
 -- at one time with one A, whatever the two Bs
 agree : (t x y z : ℕ) → Agree Public (at-rest t x y) (at-rest t x z)
-agree t x y z = record { time = refl; part = same }
+agree t x y z = record { time = refl; same = same }
   where
-    same : (n : Part) → Public n → SamePart n (at-rest t x y) (at-rest t x z)
+    same : (n : Channel) → Public n → SameChannel n (at-rest t x y) (at-rest t x z)
     same n the-batch = (refl, refl)
     same n the-additions = refl
 
 accepted : Accepted R6
-unfolding reading signed turned fieldsOf fields lawful firstBad least
+unfolding reading signed offsetBinary fieldsOf fields lawful firstBad least
 accepted = (refl, (refl, (refl, tt)))
 
 other-accepted : Accepted R7
-unfolding reading signed turned fieldsOf fields lawful firstBad least
+unfolding reading signed offsetBinary fieldsOf fields lawful firstBad least
 other-accepted = (refl, (refl, (refl, tt)))
 
 kept-accepted : Accepted R6-kept
-unfolding reading signed turned fieldsOf fields lawful firstBad least
+unfolding reading signed offsetBinary fieldsOf fields lawful firstBad least
 kept-accepted = (refl, (refl, (refl, tt)))
 
 other-kept-accepted : Accepted R7-kept
-unfolding reading signed turned fieldsOf fields lawful firstBad least
+unfolding reading signed offsetBinary fieldsOf fields lawful firstBad least
 other-kept-accepted = (refl, (refl, (refl, tt)))
 
 differ-in-B : AllButB R6 R7
-unfolding reading signed turned
+unfolding reading signed offsetBinary
 differ-in-B = record {
   accepted = accepted;
   other-accepted = other-accepted;
@@ -156,38 +156,38 @@ other-low-after = record { one = refl; all = refl }
 -- ---- the lines
 
 one-high-A : Holding (readings R6-kept) (listed (high A) is ((Lo to pos 19) ∷ []))
-unfolding reading signed turned val truth
+unfolding reading signed offsetBinary val truth
 one-high-A = told r6-kept in-range (listed (high A) is ((Lo to pos 19) ∷ [])) ((refl, refl), tt)
     (λ n h. greatest-some (λ x. true) (codedValue A) one-coded n (at 19) high-A ∙ up-to n (at 19)) (leZ-yes tt)
 
 two-high-A : Holding (readings R7-kept) (listed (high A) is ((Lo to pos 19) ∷ []))
-unfolding reading signed turned val truth
+unfolding reading signed offsetBinary val truth
 two-high-A = told r7-kept other-in-range (listed (high A) is ((Lo to pos 19) ∷ [])) ((refl, refl), tt)
     (λ n h. greatest-some (λ x. true) (codedValue A) other-coded n (at 19) other-high-A ∙ up-to n (at 19)) (leZ-yes tt)
 
 one-high-B : Holding (readings R6-kept) (listed (high B) is ((Lo to pos 4) ∷ []))
-unfolding reading signed turned val truth
+unfolding reading signed offsetBinary val truth
 one-high-B = told r6-kept in-range (listed (high B) is ((Lo to pos 4) ∷ [])) ((refl, refl), tt)
     (λ n h. greatest-some (λ x. true) (codedValue B) one-coded n (at 4) high-B ∙ up-to n (at 4)) (leZ-yes tt)
 
 two-high-B : Holding (readings R7-kept) (listed (high B) is ((Lo to pos 3) ∷ []))
-unfolding reading signed turned val truth
+unfolding reading signed offsetBinary val truth
 two-high-B = told r7-kept other-in-range (listed (high B) is ((Lo to pos 3) ∷ [])) ((refl, refl), tt)
     (λ n h. greatest-some (λ x. true) (codedValue B) other-coded n (at 3) other-high-B ∙ up-to n (at 3)) (leZ-yes tt)
 
 one-lowafter : Holding (readings R6-kept) (listed (lowafter A (at 10)) is ((pos 14 to Hi) ∷ []))
-unfolding reading signed turned val truth
+unfolding reading signed offsetBinary val truth
 one-lowafter = told r6-kept in-range (listed (lowafter A (at 10)) is ((pos 14 to Hi) ∷ [])) ((refl, refl), tt)
     (λ n h. least-some (codedAfter (at 10)) (codedValue A) one-coded n (at 14) low-after ∙ from-on n (at 14) h) (leZ-yes tt)
 
 two-lowafter : Holding (readings R7-kept) (listed (lowafter A (at 10)) is ((pos 15 to Hi) ∷ []))
-unfolding reading signed turned val truth
+unfolding reading signed offsetBinary val truth
 two-lowafter = told r7-kept other-in-range (listed (lowafter A (at 10)) is ((pos 15 to Hi) ∷ [])) ((refl, refl), tt)
     (λ n h. least-some (codedAfter (at 10)) (codedValue A) other-coded n (at 15) other-low-after ∙ from-on n (at 15) h) (leZ-yes tt)
 
 -- THE TWO RECORDINGS ARE AS TOLD
 pub two-recordings : TwoRecordings
-unfolding tooDeep least parsed parse unsignedAt numberAt operandAt comparisonAt timedAt argumentsAt namedAt headedAt leafAt lowCuts highCuts refused9 someNode marksOf keptBytes reading signed turned notForLaboratory fieldsOf fields lawful firstBad
+unfolding tooDeep least parsed parse unsignedAt numberAt operandAt comparisonAt timedAt argumentsAt namedAt headedAt leafAt lowCuts highCuts refused9 someNode marksOf keptBytes reading signed offsetBinary notForLaboratory fieldsOf fields lawful firstBad
 two-recordings = record {
   but-for-B = differ-in-B;
   keep = refl;

@@ -20,7 +20,7 @@ use Rattle.question.specs.declared.answered.Verdict.{Verdict}
 use Rattle.question.specs.declared.answered.Verdict.the-variants.{Fine, Refused}
 
 -- a table of nodes that stands for a text, and an accepted recording with a record
-pub record Ready (table : List ℕ) (count : ℕ) (bytes : List ℕ) : Type 0 where
+pub record Answerable (table : List ℕ) (count : ℕ) (bytes : List ℕ) : Type 0 where
   pub accepted : Accepted bytes
   pub record-there : 0 < length (coded bytes)
   pub falling : Falling table count

@@ -17,7 +17,7 @@ use Rattle.meaning.specs.inner.Coded.{coded}
 use Rattle.meaning.specs.inner.Truth.{val, refused8, refused9}
 use Rattle.evaluation.specs.inner.Evaluation.{textOf, Asking}
 use Rattle.question.specs.Question.{setLines}
-use Rattle.question.specs.inner.Answered.{Ready, Gives}
+use Rattle.question.specs.inner.Answered.{Answerable, Gives}
 use Rattle.question.specs.declared.answered.Verdict.{Verdict}
 use Rattle.question.specs.declared.answered.Verdict.the-variants.{Fine, Refused}
 
@@ -57,7 +57,7 @@ module _ (bytes : List ℕ) (p : Text) (words : List ℕ) where
     gives-set eight h =
         record { refusal = λ y q. refused-fine y (sym q); none = λ q. (nine, (eight, tt)); set = λ q. h }
 
-module _ (table : List ℕ) (count : ℕ) (bytes : List ℕ) (ready : Ready table count bytes) where
+module _ (table : List ℕ) (count : ℕ) (bytes : List ℕ) (ready : Answerable table count bytes) where
   pub asking : refused9 (coded bytes) (textOf table count) ≡ false → Asking table count bytes
   asking nine =
       record {

@@ -36,7 +36,7 @@ use Rattle.evaluation.specs.inner.Evaluation.{textOf}
 use Rattle.evaluation.specs.laws.Evaluate.{coded-length}
 use Rattle.question.specs.Question.{theText, read, answer, askingLines, setLines, answerOf, writtenOf, questionOf}
 use Rattle.question.specs.inner.Prepare.{preparedOf, Prepares}
-use Rattle.question.specs.inner.Answered.{Ready, Gives}
+use Rattle.question.specs.inner.Answered.{Answerable, Gives}
 use Rattle.question.specs.declared.prepare.Prepared.{Prepared}
 use Rattle.question.specs.declared.prepare.Prepared.the-variants as prepared
 use Rattle.question.specs.declared.answered.Verdict.{Verdict}
@@ -112,7 +112,7 @@ module _ (bytes text table : List ℕ) where
         by (yes z) = absurd (false≢true (sym (parts .1 .0) ∙ eq-eqb (length (records bytes)) 0 z))
         by (no z) = omega (arith, coded-length bytes, length-records bytes)
 
-    pub prepared-ready : 4 * mostNodes ≤ length table → Ready table n bytes
+    pub prepared-ready : 4 * mostNodes ≤ length table → Answerable table n bytes
     prepared-ready room =
         record {
           accepted = parts .0;

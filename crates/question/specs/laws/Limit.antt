@@ -23,7 +23,8 @@ use Rattle.leaves.specs.inner.Leaf.{leafOf}
 use Rattle.leaves.specs.laws.Stamp.{event-stamps}
 use Rattle.number.specs.laws.Boolean.{and-left, and-right}
 use Rattle.evaluation.specs.laws.Step.{four}
-use Rattle.evaluation.specs.laws.Tree.{tree-step, build-leaf, falls-first, falls-second, kind-known}
+use Rattle.text.specs.laws.Table.{tree-step}
+use Rattle.evaluation.specs.laws.Tree.{build-leaf, falls-first, falls-second, kind-known}
 use Rattle.evaluation.specs.laws.Node.{here-leaf, here-one, here-two}
 
 -- the number of tops

@@ -13,7 +13,7 @@ use Rattle.refusal.specs.declared.Refusal.{Refusal}
 use Rattle.recording.specs.Recording.{records, recordingLines, noRecord}
 use Rattle.recording.specs.laws.Record.{length-records}
 use Rattle.recording.specs.laws.Outcome.{judged-pass, judged-skip, judged-first, result-none, refusal-stands, no-result}
-use Rattle.recording.specs.Output.{found}
+use Rattle.recording.specs.Output.{checkOutcome}
 use Rattle.recording.specs.declared.Checked.{Checked}
 use Rattle.recording.specs.declared.Checked.the-variants as checked
 use Rattle.grammar.specs.inner.Parse.{parsed}
@@ -39,14 +39,14 @@ module _ (bytes text table : List ℕ) where
   refusing x e = record { outcome = sym e; tabled = λ n q. refused-nodes x n q }
 
   -- the recording is refused
-  pub prepare-refused : (c : Checked) (x : Refusal) → found c ≡ judged (recordingLines bytes) (length bytes / 16) → c ≡ checked.Refused x → Prepares bytes text table (Refused x)
+  pub prepare-refused : (c : Checked) (x : Refusal) → checkOutcome c ≡ judged (recordingLines bytes) (length bytes / 16) → c ≡ checked.Refused x → Prepares bytes text table (Refused x)
   prepare-refused c x e q =
-      refusing x (refusal-stands (recordingLines bytes) (noRecord bytes ∷ textLines text) (length bytes / 16) (nodesOf (parsed text)) (numberOf x) (placeOf x) (sym e ∙ ap found q))
+      refusing x (refusal-stands (recordingLines bytes) (noRecord bytes ∷ textLines text) (length bytes / 16) (nodesOf (parsed text)) (numberOf x) (placeOf x) (sym e ∙ ap checkOutcome q))
 
-  module _ (c : Checked) (n : ℕ) (e : found c ≡ judged (recordingLines bytes) (length bytes / 16)) (q : c ≡ checked.Records n) where
+  module _ (c : Checked) (n : ℕ) (e : checkOutcome c ≡ judged (recordingLines bytes) (length bytes / 16)) (q : c ≡ checked.Records n) where
     -- the recording is accepted, and has n records
     pub accepted-is : NoneMeets (recordingLines bytes) × (length bytes / 16 ≡ n)
-    accepted-is = result-none (recordingLines bytes) (length bytes / 16) n (sym e ∙ ap found q)
+    accepted-is = result-none (recordingLines bytes) (length bytes / 16) n (sym e ∙ ap checkOutcome q)
 
     count-is : length (records bytes) ≡ n
     count-is = length-records bytes ∙ accepted-is .1

@@ -1,5 +1,5 @@
 -- An answered set has no more runs than a set may have: with more, its own node would be refused by 8.
-use Prim.Native.Nat.{ℕ, zero, suc, _*_, _≤_, _<_}
+use Prim.Native.Nat.{ℕ, _*_, _≤_, _<_}
 use native.Mathlib.Omega.{arith}
 use native.Mathlib.Decide.{ℕ-discrete}
 use mathlib.Core.Path.{_≡_, refl, sym, ap, _∙_}
@@ -8,7 +8,7 @@ use mathlib.Core.Bool.{Bool, true, false, cond, _||_, true≢false}
 use lib.ListN.{length}
 use lib.Dec.{eqb}
 use borrow.Author.Tests.{ltb-false, eq-eqb}
-use Rattle.number.specs.laws.Boolean.{none-left, none-right}
+use Rattle.number.specs.laws.Boolean.{off, none-left}
 use Rattle.refusal.specs.Outcome.{result, NoneMeets}
 use Rattle.recording.specs.Recording.{records, recordingLines, noRecord}
 use Rattle.recording.specs.Output.{outputLine}
@@ -21,6 +21,7 @@ use Rattle.text.specs.Told.{textLines}
 use Rattle.meaning.specs.inner.Coded.{Coded, coded}
 use Rattle.grammar.specs.Size.{temporal}
 use Rattle.meaning.specs.inner.Truth.{someNode, overAt, someBelow, largeAt, refused8}
+use Rattle.meaning.specs.laws.Overfull.{below-at}
 use Rattle.evaluation.specs.laws.Evaluate.{coded-length}
 use Rattle.question.specs.Question.{read, answer, askingLines, setLines, questionOf}
 
@@ -38,18 +39,13 @@ root-off G (next p) e = none-left (G (next p)) _ e
 root-off G (until p q) e = none-left (G (until p q)) _ e
 root-off G (weakUntil p q) e = none-left (G (weakUntil p q)) _ e
 
-first-off : (f : ℕ → Bool) (n : ℕ) → 0 < n → someBelow f n ≡ false → f 0 ≡ false
-first-off f zero h e = absurd (omega arith)
-first-off f (suc zero) h e = none-left (f 0) false e
-first-off f (suc (suc n)) h e = first-off f (suc n) (omega arith) (none-right (f (suc n)) (someBelow f (suc n)) e)
-
 -- not refused by 8, a text has few runs at the first record
 pub few-first : (r : List Coded) (p : Text) → 0 < length r → refused8 r p ≡ false → largeAt r p 0 ≡ false
 unfolding refused8
 few-first r p h e = root-off (λ q. largeAt r q 0) p (by (temporal p) e)
   where
     by : (b : Bool) → cond b (someBelow (overAt r p) (length r)) (overAt r p 0) ≡ false → overAt r p 0 ≡ false
-    by true e = first-off (overAt r p) (length r) h e
+    by true e = off (below-at (overAt r p) (length r) 0 h) e
     by false e = e
 
 pub some-record : (bytes : List ℕ) → noRecord bytes .meets ≡ false → 0 < length (coded bytes)

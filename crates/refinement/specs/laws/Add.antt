@@ -9,8 +9,8 @@ use lib.Dec.{ltb, eqb}
 use borrow.Author.Tests.{ltb-false, eq-eqb, not-false}
 use Rattle.number.specs.laws.Order.{ltb-same}
 use Rattle.refusal.specs.Outcome.{result, refused, Line, line, judged, NoneMeets}
-use Rattle.recording.specs.Recording.{Raw, records, flat, lawful, firstBad, mostRecords}
-use Rattle.recording.specs.laws.Record.{length-flat}
+use Rattle.recording.specs.Recording.{Raw, records, concat, lawful, firstBad, mostRecords}
+use Rattle.recording.specs.laws.Record.{length-concat}
 use Rattle.marks.specs.Marks.{marksOf}
 use Rattle.thin.specs.Thin.{keptBytes}
 use Rattle.copying.specs.Put.{put}
@@ -42,13 +42,13 @@ module _ (h : History) (s x : List ℕ) (r : Represents h s) where
   partial-history e = ap₂ (λ (a b : Bool). cond a (refused 11 0) (cond (not b) (refused 1 0) (judged grownLines (taken h (add x))))) (r .fine .0) e
 
   module _ (lx : length x ≡ 16) where
-    joined : heldIn s 0 ++ x ≡ flat (keptOf (marksOf (h .marks)) (h .run)) ++ x
+    joined : heldIn s 0 ++ x ≡ concat (keptOf (marksOf (h .marks)) (h .run)) ++ x
     joined = ap (λ (b : List ℕ). b ++ x) (the-run h s r .held)
 
     as-records : records (heldIn s 0 ++ x) ≡ keptOf (marksOf (h .marks)) (h .run) ++ x ∷ []
     as-records = ap records joined ∙ records-behind (marksOf (h .marks)) (h .run) x (r .taken .sixteens) lx
 
-    kept-with : keptWith s x ≡ flat (keptOf (marksOf (h .marks)) (h .run ++ x ∷ []))
+    kept-with : keptWith s x ≡ concat (keptOf (marksOf (h .marks)) (h .run ++ x ∷ []))
     kept-with =
         ap₂ (λ (m b : List ℕ). keptBytes (marksOf m) b) (the-marks h s r) joined ∙ kept-behind (marksOf (h .marks)) (h .run) x (r .taken .sixteens) lx
 
@@ -71,7 +71,7 @@ module _ (h : History) (s x : List ℕ) (r : Represents h s) where
     nineteen =
         let ys : List Raw = keptOf (marksOf (h .marks)) (h .run ++ x ∷ []) in
         let e = ap length kept-with in
-        let l = length-flat ys (kept-sixteen (marksOf (h .marks)) (h .run ++ x ∷ []) (grown-sixteens (marksOf (h .marks)) (h .run) x (r .taken .sixteens) lx)) in
+        let l = length-concat ys (kept-sixteen (marksOf (h .marks)) (h .run ++ x ∷ []) (grown-sixteens (marksOf (h .marks)) (h .run) x (r .taken .sixteens) lx)) in
         ltb-same (16 * mostHeld) (length (keptWith s x)) mostHeld (length ys) (λ a. omega arith) (λ a. omega arith)
 
     -- the state's lines are the history's

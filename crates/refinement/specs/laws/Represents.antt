@@ -6,7 +6,7 @@ use mathlib.Core.Logic.{_⊎_}
 use mathlib.Core.List.{List, _++_}
 use lib.ListN.{length}
 use Rattle.number.specs.Words.{wordBytes}
-use Rattle.recording.specs.Recording.{Raw, flat, mostRecords}
+use Rattle.recording.specs.Recording.{Raw, concat, mostRecords}
 use Rattle.recording.specs.laws.Record.{Sixteens}
 use Rattle.recording.specs.laws.Acceptance.{Good}
 use Rattle.marks.specs.Marks.{marksOf, marksLine, AcceptedMarks}
@@ -21,7 +21,7 @@ Has s at bytes = part at (length bytes) s ≡ bytes
 
 -- a run: the number of its readings, the number of the kept ones, and the kept ones
 abbrev pub runOf : List ℕ → List Raw → List ℕ
-runOf marks run = headOf (length run) (length (keptOf marks run)) ++ flat (keptOf marks run)
+runOf marks run = headOf (length run) (length (keptOf marks run)) ++ concat (keptOf marks run)
 
 -- a moment: its run, or none
 abbrev pub momentOf : List ℕ → Moment → List ℕ

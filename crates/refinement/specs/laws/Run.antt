@@ -13,8 +13,8 @@ use Rattle.number.specs.Words.{word}
 use Rattle.number.specs.laws.Boolean.{and-left, and-right, clash}
 use Rattle.number.specs.laws.Order.{less-or-not}
 use Rattle.recording.specs.Condition.{Condition, pick, on}
-use Rattle.recording.specs.Recording.{Raw, records, flat, reading, fields, lawful, firstBad, mostRecords}
-use Rattle.recording.specs.laws.Record.{Sixteens, sixteens-pick, length-flat, flat-append, records-flat, records-append}
+use Rattle.recording.specs.Recording.{Raw, records, concat, reading, fields, lawful, firstBad, mostRecords}
+use Rattle.recording.specs.laws.Record.{Sixteens, sixteens-pick, length-concat, concat-append, records-concat, records-append}
 use Rattle.recording.specs.laws.Acceptance.{Good, good-lawful, good-join, next, first-bad}
 use Rattle.kept.specs.Kept.{keptFor}
 use Rattle.kept.specs.Selection.{flags}
@@ -73,14 +73,14 @@ module _ (marks : List ℕ) where
   kept-sixteen xs h = sixteens-pick (on reading (keptFor marks)) [] xs h
 
   -- their bytes are what thinning keeps of the run's bytes
-  pub kept-flat : (xs : List Raw) → Sixteens xs → keptBytes marks (flat xs) ≡ flat (keptOf marks xs)
+  pub kept-concat : (xs : List Raw) → Sixteens xs → keptBytes marks (concat xs) ≡ concat (keptOf marks xs)
   unfolding keptBytes
-  kept-flat xs h = ap (λ (r : List Raw). flat (pick (on reading (keptFor marks)) r)) (records-flat xs h)
+  kept-concat xs h = ap (λ (r : List Raw). concat (pick (on reading (keptFor marks)) r)) (records-concat xs h)
 
   pub run-length : (xs : List Raw) → Sixteens xs → length (runOf marks xs) ≡ 16 + 16 * length (keptOf marks xs)
   run-length xs h =
-      let l = length-flat (keptOf marks xs) (kept-sixteen xs h) in
-      length-append (headOf (length xs) (length (keptOf marks xs))) (flat (keptOf marks xs)) ∙ omega arith
+      let l = length-concat (keptOf marks xs) (kept-sixteen xs h) in
+      length-append (headOf (length xs) (length (keptOf marks xs))) (concat (keptOf marks xs)) ∙ omega arith
 
   pub kept-good : (xs : List Raw) → Good 0 xs → Good 0 (keptOf marks xs)
   kept-good xs g = subst (Good 0) (sym (pick-flags (on reading (keptFor marks)) [] xs)) (good-select (flags (on reading (keptFor marks)) xs) xs 0 g)
@@ -92,18 +92,18 @@ module _ (marks : List ℕ) where
       ∙ ap (λ (n : ℕ). fields x && leb n (word x 0)) (next-pick (on reading (keptFor marks)) (on-last-below reading (keptFor marks) (last-kept marks)) xs [] 0)
       ∙ sym (lawful-behind xs x)
 
-  flat-snoc : (xs : List Raw) (x : Raw) → flat (xs ++ x ∷ []) ≡ flat xs ++ x
-  flat-snoc xs x = flat-append xs (x ∷ []) ∙ ap (λ (b : List ℕ). flat xs ++ b) (append-nil x)
+  concat-snoc : (xs : List Raw) (x : Raw) → concat (xs ++ x ∷ []) ≡ concat xs ++ x
+  concat-snoc xs x = concat-append xs (x ∷ []) ∙ ap (λ (b : List ℕ). concat xs ++ b) (append-nil x)
 
   module _ (xs : List Raw) (x : Raw) (h : Sixteens xs) (lx : length x ≡ 16) where
     -- the kept readings, with one behind them, as records
-    pub records-behind : records (flat (keptOf marks xs) ++ x) ≡ keptOf marks xs ++ x ∷ []
+    pub records-behind : records (concat (keptOf marks xs) ++ x) ≡ keptOf marks xs ++ x ∷ []
     records-behind =
         let k : Sixteens (keptOf marks xs) = kept-sixteen xs h in
-        let l = length-flat (keptOf marks xs) k in
-        let m = length-flat (x ∷ []) (lx, tt) in
-        records-append (flat (keptOf marks xs)) x (omega arith)
-        ∙ ap₂ _++_ (records-flat (keptOf marks xs) k) (ap records (sym (append-nil x)) ∙ records-flat (x ∷ []) (lx, tt))
+        let l = length-concat (keptOf marks xs) k in
+        let m = length-concat (x ∷ []) (lx, tt) in
+        records-append (concat (keptOf marks xs)) x (omega arith)
+        ∙ ap₂ _++_ (records-concat (keptOf marks xs) k) (ap records (sym (append-nil x)) ∙ records-concat (x ∷ []) (lx, tt))
 
     pub grown-sixteens : Sixteens (xs ++ x ∷ [])
     grown-sixteens = go xs h
@@ -113,11 +113,11 @@ module _ (marks : List ℕ) where
         go (y ∷ ys) t = (t .0, go ys (t .1))
 
     -- THINNED AGAIN, they are the kept readings of the run with it
-    pub kept-behind : keptBytes marks (flat (keptOf marks xs) ++ x) ≡ flat (keptOf marks (xs ++ x ∷ []))
+    pub kept-behind : keptBytes marks (concat (keptOf marks xs) ++ x) ≡ concat (keptOf marks (xs ++ x ∷ []))
     kept-behind =
-        let l = length-flat xs h in
-        ap (λ (b : List ℕ). keptBytes marks (b ++ x)) (sym (kept-flat xs h)) ∙ kept-join marks (flat xs) x (omega arith) ∙ ap (keptBytes marks) (sym (flat-snoc xs x))
-        ∙ kept-flat (xs ++ x ∷ []) grown-sixteens
+        let l = length-concat xs h in
+        ap (λ (b : List ℕ). keptBytes marks (b ++ x)) (sym (kept-concat xs h)) ∙ kept-join marks (concat xs) x (omega arith) ∙ ap (keptBytes marks) (sym (concat-snoc xs x))
+        ∙ kept-concat (xs ++ x ∷ []) grown-sixteens
 
     -- a reading that is not refused is taken
     pub taken-more : Taken marks xs → lawful (xs ++ x ∷ []) (length xs) ≡ true → length (xs ++ x ∷ []) ≤ mostRecords
@@ -132,11 +132,11 @@ module _ (marks : List ℕ) where
         }
 
     -- the bytes of the run with it
-    pub run-behind : headOf (length xs + 1) (length (flat (keptOf marks (xs ++ x ∷ []))) / 16) ++ flat (keptOf marks (xs ++ x ∷ [])) ≡ runOf marks (xs ++ x ∷ [])
+    pub run-behind : headOf (length xs + 1) (length (concat (keptOf marks (xs ++ x ∷ []))) / 16) ++ concat (keptOf marks (xs ++ x ∷ [])) ≡ runOf marks (xs ++ x ∷ [])
     run-behind =
         let ys : List Raw = keptOf marks (xs ++ x ∷ []) in
-        let l = length-flat ys (kept-sixteen (xs ++ x ∷ []) grown-sixteens) in
+        let l = length-concat ys (kept-sixteen (xs ++ x ∷ []) grown-sixteens) in
         let a = length-append xs (x ∷ []) in
         let n : length xs + 1 ≡ length (xs ++ x ∷ []) = omega arith in
-        let m : length (flat ys) / 16 ≡ length ys = omega arith in
-        ap₂ (λ (i j : ℕ). headOf i j ++ flat ys) n m
+        let m : length (concat ys) / 16 ≡ length ys = omega arith in
+        ap₂ (λ (i j : ℕ). headOf i j ++ concat ys) n m

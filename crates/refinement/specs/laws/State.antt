@@ -8,8 +8,8 @@ use lib.ListN.{length}
 use lib.Dec.{leb}
 use borrow.Author.Tests.{le-leb, lt-leb, le-ltb, eq-eqb}
 use Rattle.number.specs.Words.{word}
-use Rattle.recording.specs.Recording.{Raw, flat, mostRecords}
-use Rattle.recording.specs.laws.Record.{length-flat}
+use Rattle.recording.specs.Recording.{Raw, concat, mostRecords}
+use Rattle.recording.specs.laws.Record.{length-concat}
 use Rattle.marks.specs.Marks.{marksOf, marksLine}
 use Rattle.thin.specs.Thin.{keptBytes}
 use Rattle.copying.specs.Put.{part}
@@ -19,14 +19,14 @@ use Rattle.live_state.specs.laws.State.{fine-length, bad-marks-by, no-state-by}
 use Rattle.live.specs.History.{History, Moment, unset, set, isSet, keptOf}
 use Rattle.refinement.specs.laws.Represents.{Has, runOf, momentOf, Taken, TakenAt, Represents}
 use Rattle.refinement.specs.laws.Parts.{TwoWords, two-words, head-words, behind-head}
-use Rattle.refinement.specs.laws.Run.{kept-sixteen, kept-flat, run-length}
+use Rattle.refinement.specs.laws.Run.{kept-sixteen, kept-concat, run-length}
 
 -- ---- a run that stands at j
 
 pub record Read (marks : List ℕ) (run : List Raw) (s : List ℕ) (j : ℕ) : Type 0 where
   pub count : readCount s j ≡ length run
   pub held-count : heldCount s j ≡ length (keptOf marks run)
-  pub held : heldIn s j ≡ flat (keptOf marks run)
+  pub held : heldIn s j ≡ concat (keptOf marks run)
   pub bytes : runBytes s j ≡ runOf marks run
   pub stands : runStands s j ≡ true
 
@@ -36,16 +36,16 @@ run-read marks run s j t e =
     let ks : List Raw = keptOf marks run in
     let few = t .few in
     let held = t .held in
-    let w : TwoWords s (runAt j) (length run) (length ks) = head-words s (runAt j) (length run) (length ks) (flat ks) (omega arith) (omega arith) e in
-    let l = length-flat ks (kept-sixteen marks run (t .sixteens)) in
+    let w : TwoWords s (runAt j) (length run) (length ks) = head-words s (runAt j) (length run) (length ks) (concat ks) (omega arith) (omega arith) e in
+    let l = length-concat ks (kept-sixteen marks run (t .sixteens)) in
     let r = run-length marks run (t .sixteens) in
     let h : heldCount s j ≡ length ks = w .second in
-    let n : 16 * heldCount s j ≡ length (flat ks) = omega arith in
+    let n : 16 * heldCount s j ≡ length (concat ks) = omega arith in
     let m : 16 + 16 * heldCount s j ≡ length (runOf marks run) = omega arith in
     record {
       count = w .first;
       held-count = h;
-      held = ap (λ (k : ℕ). part (runAt j + 16) k s) n ∙ behind-head s (runAt j) (length run) (length ks) (flat ks) e;
+      held = ap (λ (k : ℕ). part (runAt j + 16) k s) n ∙ behind-head s (runAt j) (length run) (length ks) (concat ks) e;
       bytes = ap (λ (k : ℕ). part (runAt j) k s) m ∙ e;
       stands = ap₂ _&&_ (le-leb (readCount s j) mostRecords (let c = w .first in omega arith)) (le-leb (heldCount s j) mostHeld (omega arith));
     }
@@ -87,5 +87,5 @@ module _ (h : History) (s : List ℕ) (r : Represents h s) where
       (bad-marks-by s false false (le-ltb 32 (word s 4) (omega arith)) (ap (λ (m : List ℕ). marksLine m .meets) the-marks ∙ r .fine .0)) (the-run .stands)
 
   -- WHAT IS HELD: the kept readings of the history's run
-  pub the-held : heldIn s 0 ≡ keptBytes (marksOf (h .marks)) (flat (h .run))
-  the-held = the-run .held ∙ sym (kept-flat (marksOf (h .marks)) (h .run) (r .taken .sixteens))
+  pub the-held : heldIn s 0 ≡ keptBytes (marksOf (h .marks)) (concat (h .run))
+  the-held = the-run .held ∙ sym (kept-concat (marksOf (h .marks)) (h .run) (r .taken .sixteens))

@@ -20,7 +20,7 @@ use Rattle.meaning.specs.inner.Coded.{index}
 use Rattle.targets.specs.Target.{Placed}
 use Rattle.targets.specs.declared.OnAxis.the-variants.{Index, Off}
 use Rattle.degree.specs.Degree.{targetLine}
-use Rattle.degree.specs.laws.Call.{index-whole}
+use Rattle.meaning.specs.laws.Whole.{index-whole}
 use Rattle.report.specs.Report.{Naming, mostBatches, reportBytes, badCount, namingLines}
 use Rattle.report.specs.inner.Naming.{naming, targetLines}
 

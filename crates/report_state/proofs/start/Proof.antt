@@ -9,15 +9,15 @@ use mir.ValLaws.{toZ-ofZ}
 use Rattle.report.specs.declared.Named.{Named}
 use Rattle.report.specs.inner.Running.{namedOf}
 use Rattle.report.specs.inner.Naming.{naming}
-use Rattle.report_state.specs.Call.{indexOf}
+use Rattle.report_state.specs.Call.{namedIndex}
 use Rattle.report_state.specs.laws.Start.{start-room, start-place, start-begun, start-refused}
 use borrow.Author.Needs.{needs}
 use Rattle.report_state.proofs.start.Statement.{statement}
 use Rattle.report_state.proofs.start.Tie as tie
 
 -- the promise, of the target itself
-asked : (n : ℕ) (text : List ℕ) (g h : ℤ) (room : ℕ) (x : Named) → h ≡ g → namedOf x ≡ indexOf (naming n text h) room → namedOf x ≡ indexOf (naming n text g) room
-asked n text g h room x e a = subst (λ (z : ℤ). namedOf x ≡ indexOf (naming n text z) room) e a
+asked : (n : ℕ) (text : List ℕ) (g h : ℤ) (room : ℕ) (x : Named) → h ≡ g → namedOf x ≡ namedIndex (naming n text h) room → namedOf x ≡ namedIndex (naming n text g) room
+asked n text g h room x e a = subst (λ (z : ℤ). namedOf x ≡ namedIndex (naming n text z) room) e a
 
 name-requires : tie.Need-name-requires
 name-requires c κs = search needs

@@ -19,16 +19,15 @@ use Rattle.degree.specs.inner.Reach.{mapped}
 use Rattle.reply.specs.Reply.{packed}
 use Rattle.report.specs.Report.{Naming, reportBytes, namingLines, named, openedBy, Answer, taken, told, onward, Stage, closed, underWay, answered, stageAfter, answers}
 use Rattle.report.specs.Report as report
-use Rattle.report.specs.inner.Running.{runningOf, Addition, none, stopped, last, counted, withBatch, addedTo, answerIn}
+use Rattle.report.specs.inner.Running.{runningOf, Addition, last, counted, withBatch, addedTo, answerIn}
 use Rattle.report.specs.inner.Running as inner
 use Rattle.report.specs.inner.Naming.{targetLines}
 use Rattle.report.specs.laws.Steps.{small-more, length-more, counted-more, answer-told}
 use Rattle.report.specs.laws.Fold.{fold-near}
 use Rattle.report.specs.declared.Report.{Report}
 use Rattle.report_state.specs.State.{wordsBytes, figureWords, namedBytes, closedBytes, startAfter, additionIn, addAfter, stateless}
-use Rattle.report_state.specs.Call.{answerTold, metAfter, emptyAfter, distancesAfter, meanAfter, indexOf, Reports}
+use Rattle.report_state.specs.Call.{answerTold, metAfter, emptyAfter, distancesAfter, meanAfter, namedIndex, Reports}
 use Rattle.report_state.specs.Calls.{Made, start, add, plain, Returned, CallsMade, ReturnedAs, AllReturnedAs, AsTheFold}
-use Rattle.report_state.specs.inner.Kept.{Writable}
 use Rattle.report_state.specs.laws.Words.{words-length}
 use Rattle.report_state.specs.laws.Read.{too-short}
 use Rattle.report_state.specs.laws.Start.{named-mapped}
@@ -49,12 +48,6 @@ length-put ws b e h =
     by : (p q n k : ℕ) → p ≡ 4 * k → q ≡ n - 44 → k ≡ 11 → 44 ≤ n → p + q ≡ n
     by p q n k a c e h = omega arith
 
-length-add : (a : Addition) (b : List ℕ) → Writable a b → length (addAfter a b) ≡ length b
-length-add none b w = refl
-length-add (stopped n p) b w = length-closed b (omega (arith, w))
-length-add (inner.taken r) b w = length-put (figureWords r) b refl (w .0)
-length-add (last r) b w = length-closed b (omega (arith, w))
-
 length-named : (n : ℕ) (text : List ℕ) (v : ℕ) (b : List ℕ) → 52 + length text ≤ length b → length (namedBytes n text v b) ≡ length b
 length-named n text v b h =
     let d = length-drop (52 + length text) b in
@@ -73,7 +66,7 @@ pub record Onward (old new : List ℕ) (s : Stage) : Type 0 where
   pub same-length : length new ≡ length old
 
 module _ (n : Naming) (b : List ℕ) where
-  accepted-begun : (v : ℕ) → indexOf n (length b) ≡ result v → Onward b (startAfter n (result v) b) (underWay n [])
+  accepted-begun : (v : ℕ) → namedIndex n (length b) ≡ result v → Onward b (startAfter n (result v) b) (underWay n [])
   accepted-begun v e =
       let k = result-none (namingLines n (length b)) (index (n .target)) v e in
       let m = none-append (textLines (n .text)) (targetLines (n .target) (length b)) (k .0 .1) in
@@ -102,10 +95,10 @@ module _ (n : Naming) (b : List ℕ) where
       by false e = record { carries = closed-carries b; same-length = length-closed b (omega (arith, ltb-false (length b) reportBytes e)) }
 
   -- A NAMING, whatever the bytes held
-  pub start-onward : Onward b (startAfter n (indexOf n (length b)) b) (openedBy n (named (length b) n))
-  start-onward = by (indexOf n (length b)) refl
+  pub start-onward : Onward b (startAfter n (namedIndex n (length b)) b) (openedBy n (named (length b) n))
+  start-onward = by (namedIndex n (length b)) refl
     where
-      by : (o : Outcome ℕ) → indexOf n (length b) ≡ o → Onward b (startAfter n o b) (openedBy n (named (length b) n))
+      by : (o : Outcome ℕ) → namedIndex n (length b) ≡ o → Onward b (startAfter n o b) (openedBy n (named (length b) n))
       by (result v) e = subst (λ (a : Outcome Answer). Onward b (startAfter n (result v) b) (openedBy n a)) (sym (named-mapped n b ∙ ap (mapped (λ (j : ℕ). taken)) e)) (accepted-begun v e)
       by (refused k p) e = subst (λ (a : Outcome Answer). Onward b (startAfter n (refused k p) b) (openedBy n a)) (sym (named-mapped n b ∙ ap (mapped (λ (j : ℕ). taken)) e)) (ended k p)
 
@@ -168,7 +161,7 @@ calls-fold [] (x ∷ xs) room b s l h m = absurd m
 calls-fold (c ∷ cs) [] room b s l h m = absurd m
 calls-fold (start n ∷ cs) (x ∷ xs) room b s l h m =
     let o = start-onward n b in
-    let new : x .state ≡ startAfter n (indexOf n (length b)) b = m .0 .state in
+    let new : x .state ≡ startAfter n (namedIndex n (length b)) b = m .0 .state in
     let long : length (x .state) ≡ room = ap length new ∙ o .same-length ∙ l in
     let carried : Carries (x .state) (openedBy n (named room n)) =
     subst (λ (j : ℕ). Carries (x .state) (openedBy n (named j n))) l (subst (λ (c : List ℕ). Carries c (openedBy n (named (length b) n))) (sym new) (o .carries)) in
@@ -190,7 +183,7 @@ pub start-fold : (b : List ℕ) (n : Naming) (cs : List Made) (xs : List Returne
 start-fold b n cs [] m = absurd m
 start-fold b n cs (x ∷ xs) m =
     let o = start-onward n b in
-    let new : x .state ≡ startAfter n (indexOf n (length b)) b = m .0 .state in
+    let new : x .state ≡ startAfter n (namedIndex n (length b)) b = m .0 .state in
     record {
       answered = (
         m .0 .returned,
@@ -205,7 +198,7 @@ start-fold b n cs (x ∷ xs) m =
 pub some-calls : (b : List ℕ) (cs : List Made) → (xs : List Returned) × CallsMade b cs xs
 some-calls b [] = ([], tt)
 some-calls b (start n ∷ cs) =
-    let after : List ℕ = startAfter n (indexOf n (length b)) b in
+    let after : List ℕ = startAfter n (namedIndex n (length b)) b in
     let rest = some-calls after cs in
     (record { returned = packed (answerTold (named (length b) n)); state = after; met = 0; empty = 0; distances = 0; mean = 0 } ∷ rest .0, (record { returned = refl; state = refl }, rest .1))
 some-calls b (add recording m e d y ∷ cs) =

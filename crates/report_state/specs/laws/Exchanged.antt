@@ -12,7 +12,7 @@ use Rattle.report.specs.Report.{Naming, named, openedBy, Answer, onward, Stage,
 use Rattle.report.specs.Report as report
 use Rattle.report.specs.inner.Running.{runningOf, Addition, addedTo}
 use Rattle.report_state.specs.State.{startAfter, additionIn, addAfter}
-use Rattle.report_state.specs.Call.{indexOf, Starts, Adds}
+use Rattle.report_state.specs.Call.{Starts, Adds}
 use Rattle.report_state.specs.Calls.{Made, start, add, Returned, CallsMade, Exchanged}
 use Rattle.report_state.specs.laws.Tell.{same-told}
 use Rattle.report_state.specs.laws.Carried.{Under, Carries, under-added}

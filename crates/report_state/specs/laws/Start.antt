@@ -30,7 +30,7 @@ use Rattle.report.specs.declared.Named.{Named}
 use Rattle.report.specs.declared.Named.the-variants as variant
 use Rattle.report.specs.declared.Report.{Report}
 use Rattle.report_state.specs.State.{figureWords, wordsBytes, namedBytes, closedBytes, startAfter}
-use Rattle.report_state.specs.Call.{answerTold, indexOf, Starts}
+use Rattle.report_state.specs.Call.{answerTold, namedIndex, Starts}
 use Rattle.report_state.specs.inner.Kept.{endedBytes}
 use Rattle.report_state.specs.laws.Words.{words-length}
 
@@ -61,10 +61,10 @@ module _ (n : Naming) (old : List ℕ) where
   abbrev room : ℕ
   room = length old
 
-  pub named-mapped : named room n ≡ mapped (λ (v : ℕ). taken) (indexOf n room)
+  pub named-mapped : named room n ≡ mapped (λ (v : ℕ). taken) (namedIndex n room)
   named-mapped = sym (judged-mapped (λ (v : ℕ). taken) (namingLines n room) (index (n .target)))
 
-  module _ (x : Named) (h : namedOf x ≡ indexOf n room) where
+  module _ (x : Named) (h : namedOf x ≡ namedIndex n room) where
     pub start-room : (v : ℕ) → x ≡ variant.Index v → (reportBytes ≤ length old) × (length (n .text) ≤ mostBytes)
     start-room v e =
         let k = result-none (namingLines n room) (index (n .target)) v (sym h ∙ ap namedOf e) .0 in
@@ -78,7 +78,7 @@ module _ (n : Naming) (old : List ℕ) where
 
     pub start-begun : (v : ℕ) (new : List ℕ) → x ≡ variant.Index v → new ≡ namedBytes (n .count) (n .text) v old → Starts n old 0 new
     start-begun v new e p =
-        let o : indexOf n room ≡ result v = sym h ∙ ap namedOf e in
+        let o : namedIndex n room ≡ result v = sym h ∙ ap namedOf e in
         record {
           returned = sym (ap (λ (a : Outcome Answer). packed (answerTold a)) (named-mapped ∙ ap (mapped (λ (v : ℕ). taken)) o));
           state = p ∙ sym (ap (λ (a : Outcome ℕ). startAfter n a old) o);
@@ -86,17 +86,17 @@ module _ (n : Naming) (old : List ℕ) where
 
     pub start-refused : (y : Refusal) (r : ℕ) (new : List ℕ) → x ≡ variant.Refused y → r ≡ packed (refused (numberOf y) (placeOf y)) → new ≡ endedBytes old → Starts n old r new
     start-refused y r new e q p =
-        let o : indexOf n room ≡ refused (numberOf y) (placeOf y) = sym h ∙ ap namedOf e in
+        let o : namedIndex n room ≡ refused (numberOf y) (placeOf y) = sym h ∙ ap namedOf e in
         record {
           returned = q ∙ sym (ap (λ (a : Outcome Answer). packed (answerTold a)) (named-mapped ∙ ap (mapped (λ (v : ℕ). taken)) o));
           state = p ∙ sym (ap (λ (a : Outcome ℕ). startAfter n a old) o);
         }
 
   -- bytes that are too short stay
-  pub start-short : length old < reportBytes → startAfter n (indexOf n room) old ≡ old
-  start-short h = by (indexOf n room) refl
+  pub start-short : length old < reportBytes → startAfter n (namedIndex n room) old ≡ old
+  start-short h = by (namedIndex n room) refl
     where
-      by : (o : Outcome ℕ) → indexOf n room ≡ o → startAfter n o old ≡ old
+      by : (o : Outcome ℕ) → namedIndex n room ≡ o → startAfter n o old ≡ old
       by (result v) e =
           let k = result-none (namingLines n room) (index (n .target)) v e .0 in
           let m = none-append (textLines (n .text)) (targetLines (n .target) room) (k .1) in
@@ -104,7 +104,7 @@ module _ (n : Naming) (old : List ℕ) where
       by (refused k p) e = ap (λ (t : Bool). cond t old (closedBytes old)) (lt-ltb room reportBytes h)
 
   -- a refusal changes no byte behind the first four
-  pub start-ends : (k p : ℕ) → indexOf n room ≡ refused k p → drop 4 (startAfter n (indexOf n room) old) ≡ drop 4 old
+  pub start-ends : (k p : ℕ) → namedIndex n room ≡ refused k p → drop 4 (startAfter n (namedIndex n room) old) ≡ drop 4 old
   start-ends k p e = ap (λ (o : Outcome ℕ). drop 4 (startAfter n o old)) e ∙ by (ltb room reportBytes)
     where
       by : (t : Bool) → drop 4 (cond t old (closedBytes old)) ≡ drop 4 old

@@ -6,7 +6,7 @@ use Prim.Native.Nat.{ℕ, _/_}
 use lib.ListN.{length}
 use Rattle.refusal.specs.Outcome.{judged}
 use Rattle.refusal.specs.Numbers.{numberOf, placeOf}
-use Rattle.recording.specs.Output.{found}
+use Rattle.recording.specs.Output.{checkOutcome}
 use Rattle.recording.specs.Recording.{readings, recordingLines, Accepted}
 use Rattle.recording.specs.laws.Outcome.{judged-pass, result-none, refusal-stands}
 use Rattle.recording.specs.declared.Checked.{Checked}
@@ -17,10 +17,10 @@ use Rattle.sheet.specs.Call.{sheetLines, orderOf}
 use Rattle.sheet.proofs.order.Statement.{statement}
 use Rattle.sheet.proofs.order.Tie as tie
 
-accepted : (bytes : List ℕ) (r : Checked) (n : ℕ) → found r ≡ judged (recordingLines bytes) (length bytes / 16) → r ≡ checked.Records n
+accepted : (bytes : List ℕ) (r : Checked) (n : ℕ) → checkOutcome r ≡ judged (recordingLines bytes) (length bytes / 16) → r ≡ checked.Records n
     → Accepted bytes × (n ≡ length bytes / 16)
 accepted bytes r n h e =
-    let k = result-none (recordingLines bytes) (length bytes / 16) n (sym h ∙ ap found e) in
+    let k = result-none (recordingLines bytes) (length bytes / 16) n (sym h ∙ ap checkOutcome e) in
     (k .0, sym (k .1))
 
 check-requires : tie.Need-check-requires
@@ -55,7 +55,7 @@ returns-2 c =
     let a = t .before .before .before .args in
     let told = c .before .checked2 .given in
     sym (refusal-stands (recordingLines (a .rec .now)) (sheetLines (a .rec .now) (a .sheet .now)) (length (a .rec .now) / 16) (finding (sheetOf (a .sheet .now)) (readings (a .rec .now)))
-    (numberOf (told .0 .0)) (placeOf (told .0 .0)) (sym (t .check .ensures) ∙ ap found (told .1)))
+    (numberOf (told .0 .0)) (placeOf (told .0 .0)) (sym (t .check .ensures) ∙ ap checkOutcome (told .1)))
 
 pub order-spec : {M : Type 1} → statement M
 order-spec =

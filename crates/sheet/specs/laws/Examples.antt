@@ -4,7 +4,7 @@ use mathlib.Core.Path.{_≡_, refl}
 use mathlib.Core.List.{[], _∷_}
 use lib.IntN.{pos}
 use Rattle.number.specs.Least.{least}
-use Rattle.number.specs.Words.{signed, turned}
+use Rattle.number.specs.Words.{signed, offsetBinary}
 use Rattle.refusal.specs.Outcome.{result, refused, judged}
 use Rattle.recording.specs.Reading.{Reading}
 use Rattle.recording.specs.Recording.{reading, fields, fieldsOf, lawful, firstBad}
@@ -57,19 +57,19 @@ own-broken = refl
 -- ---- the call
 
 pub R3-met : orderOf R3 (7 ∷ 16 ∷ []) ≡ result allMet
-unfolding orderOf judged sheetOf finding least reading signed turned fields fieldsOf lawful firstBad
+unfolding orderOf judged sheetOf finding least reading signed offsetBinary fields fieldsOf lawful firstBad
 R3-met = refl
 
 pub R3-broken : orderOf R3 (7 ∷ 16 ∷ 16 ∷ 7 ∷ []) ≡ result (brokenAt 20 1)
-unfolding orderOf judged sheetOf finding least reading signed turned fields fieldsOf lawful firstBad
+unfolding orderOf judged sheetOf finding least reading signed offsetBinary fields fieldsOf lawful firstBad
 R3-broken = refl
 
 -- an odd length, and the numbers 0 and 17
 pub bad-sheets : (orderOf R3 (7 ∷ []) ≡ refused 13 0) × (orderOf R3 (0 ∷ 7 ∷ []) ≡ refused 13 0) × (orderOf R3 (7 ∷ 17 ∷ []) ≡ refused 13 0)
-unfolding orderOf judged sheetOf finding least reading signed turned fields fieldsOf lawful firstBad
+unfolding orderOf judged sheetOf finding least reading signed offsetBinary fields fieldsOf lawful firstBad
 bad-sheets = (refl, refl, refl)
 
 -- 4 comes before 13
 pub empty-recording : orderOf [] (7 ∷ []) ≡ refused 4 0
-unfolding orderOf judged sheetOf finding least reading signed turned fields fieldsOf lawful firstBad
+unfolding orderOf judged sheetOf finding least reading signed offsetBinary fields fieldsOf lawful firstBad
 empty-recording = refl

@@ -69,10 +69,6 @@ module _ (r : List Reading) (l : Precedence) (i : ℕ) where
           (less-or-not (firstAddition (l .a) r) (length r))) (b .early)))
 
 module _ (r : List Reading) (sheet : List Precedence) where
-  -- a line is broken by the addition at record i exactly where there is a first such line
-  breaking : ℕ → Bool
-  breaking i = ltb (lineBroken sheet r i) (length sheet)
-
   line-least : (i k : ℕ) → BreaksLine r sheet i k → lineBroken sheet r i ≤ k
   line-least i k b =
       ⊎-elim

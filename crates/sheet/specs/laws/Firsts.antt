@@ -10,7 +10,7 @@ use lib.Dec.{leb}
 use lib.ListN.{length, getD, set, replicate, length-set, length-map, List·getD-map, length-replicate, getD-replicate}
 use lib.Seq.{getD-set-same, getD-set-other}
 use borrow.Author.Tests.{eq-eqb, ne-eqb, leb-true, le-leb}
-use Rattle.number.specs.Words.{word, signed, turned}
+use Rattle.number.specs.Words.{word, signed, offsetBinary}
 use Rattle.number.specs.laws.Boolean.{and-right, and-make}
 use Rattle.number.specs.laws.Least.{least-is, least-none}
 use Rattle.number.specs.laws.Order.{less-or-not, less-more-equal}
@@ -37,7 +37,7 @@ good-fields (x ∷ xs) from g (suc i) h = good-fields xs (suc (word x 0)) (g .2)
 module _ (bytes : List ℕ) (accepted : Accepted bytes) (i : ℕ) (h : i < length bytes / 16) where
   -- a record as it is read
   pub reading-at : reading (rawAt bytes i) ≡ getD (readings bytes) i nothing
-  unfolding reading signed turned
+  unfolding reading signed offsetBinary
   reading-at = ap reading (sym (getD-chunks (length bytes / 16) bytes i h)) ∙ sym (List·getD-map reading (records bytes) i [])
 
   -- its pigment and its time, by the bytes

@@ -1,4 +1,4 @@
--- What the check finds depends on the times of the additions of each pigment only: recordings with rising times and the same of these have the same finding.
+-- What the check finds depends on the times of the additions of each pigment only: recordings with increasing times and the same of these have the same finding.
 use Prim.Native.Nat.{ℕ, zero, suc, _≤_, _<_, suc-le-suc}
 use native.Mathlib.Omega.{arith}
 use native.Mathlib.Nat.{le-of-suc-le-suc}
@@ -7,7 +7,7 @@ use mathlib.Core.Bool.{Bool, true, false, true≢false}
 use mathlib.Core.Logic.{inl, inr, ⊎-elim}
 use mathlib.Core.List.{List, [], _∷_, map, List·Memᴰ, List·Memᴰ·head, List·Memᴰ·tail, List·Memᴰ·not-nil, List·Memᴰ·cases-cons}
 use lib.ListN.{length, getD, length-map, List·getD-map}
-use Rattle.number.specs.Words.{signed, turned}
+use Rattle.number.specs.Words.{signed, offsetBinary}
 use Rattle.number.specs.laws.Order.{less-or-not, less-more-equal}
 use Rattle.recording.specs.Condition.{when, pick, pickFrom}
 use Rattle.recording.specs.Reading.{Reading, adds, added, nothing}
@@ -63,14 +63,14 @@ module _ (k t : ℕ) where
 -- ---- two recordings with the same times
 
 -- times strictly increase
-abbrev Rising : List Reading → Type 0
-Rising r = (i j : ℕ) → i < j → j < length r → timeAt r i < timeAt r j
+abbrev Increasing : List Reading → Type 0
+Increasing r = (i j : ℕ) → i < j → j < length r → timeAt r i < timeAt r j
 
 -- an addition at the same time in the other recording
 abbrev Carries : List Reading → List Reading → Type 0
 Carries r s = (k i : ℕ) → Addition r k i → AddedAt s k (timeAt r i)
 
-module _ (r s : List Reading) (up : Rising r) (rise : Rising s) (there : Carries r s) (back : Carries s r) where
+module _ (r s : List Reading) (up : Increasing r) (rise : Increasing s) (there : Carries r s) (back : Carries s r) where
   -- by times as by places
   no-later : (i j : ℕ) → i < length r → i ≤ j → j < length r → timeAt r i ≤ timeAt r j
   no-later i j n h m = ⊎-elim (λ l. let t = up i j l m in omega arith) (⊎-elim (λ l. absurd (omega arith)) (λ e. let t = ap (timeAt r) e in omega arith)) (less-more-equal i j)
@@ -99,7 +99,7 @@ module _ (r s : List Reading) (up : Rising r) (rise : Rising s) (there : Carries
           let t = no-later i (y .i) (b .addition .inside) h (y .addition .inside) in
           omega arith
 
-module _ (r s : List Reading) (up : Rising r) (rise : Rising s) (there : Carries r s) (back : Carries s r) (sheet : List Precedence) where
+module _ (r s : List Reading) (up : Increasing r) (rise : Increasing s) (there : Carries r s) (back : Carries s r) (sheet : List Precedence) where
   line-there : (i k : ℕ) → BreaksLine r sheet i k → (j : ℕ) × BreaksLine s sheet j k × (timeAt s j ≡ timeAt r i)
   line-there i k b = let c = carried r s up rise there back (getD sheet k noLine) i (b .breaks) in (c .0, record { inside = b .inside; breaks = c .1 }, c .2)
 
@@ -135,9 +135,9 @@ module _ (r s : List Reading) (up : Rising r) (rise : Rising s) (there : Carries
 
 -- ---- of recordings
 
-rising : (bytes : List ℕ) → Accepted bytes → Rising (readings bytes)
-unfolding reading signed turned
-rising bytes a i j h n =
+increasing : (bytes : List ℕ) → Accepted bytes → Increasing (readings bytes)
+unfolding reading signed offsetBinary
+increasing bytes a i j h n =
     let l = length-map (records bytes) reading in
     let t = good-rising (records bytes) 0 (accepted-sound bytes a .good) i j h (omega arith) in
     let e = ap (λ (x : Reading). x .time) (List·getD-map reading (records bytes) i []) in
@@ -152,4 +152,4 @@ pub same-finding : (sheet : List Precedence) (full held : List ℕ) → Accepted
     → ((k : ℕ) → map (λ (x : Reading). x .time) (pick (added k) (readings held)) ≡ map (λ (x : Reading). x .time) (pick (added k) (readings full)))
     → finding sheet (readings held) ≡ finding sheet (readings full)
 same-finding sheet full held a h e =
-    same-true (readings held) (readings full) (rising held h) (rising full a) (carries (readings held) (readings full) e) (carries (readings full) (readings held) (λ k. sym (e k))) sheet
+    same-true (readings held) (readings full) (increasing held h) (increasing full a) (carries (readings held) (readings full) e) (carries (readings full) (readings held) (λ k. sym (e k))) sheet

@@ -1,8 +1,8 @@
 -- The first word of the table that stands there, test by test.
 use borrow.Author.Needs.{needs}
 use Rattle.words.proofs.WordLaws.{test}
-use Rattle.words.proofs.curve.Statement.{statement}
-use Rattle.words.proofs.curve.Tie as tie
+use Rattle.words.proofs.curve_letter.Statement.{statement}
+use Rattle.words.proofs.curve_letter.Tie as tie
 
 slice-aggregate-spelled : tie.Need-slice-aggregate-spelled
 slice-aggregate-spelled c = search needs
@@ -31,6 +31,6 @@ returns-2 c = rw (test (c .before .before .before .before .spelled .ensures) (c 
 returns-3 : tie.Need-returns-3
 returns-3 c = rw (test (c .before .before .before .before .spelled .ensures) (c .before .before .before .if1 .left), test (c .before .spelled2 .ensures) (c .if2 .left))
 
-pub curve-spec : {M : Type 1} → statement M
-curve-spec =
+pub curve-letter-spec : {M : Type 1} → statement M
+curve-letter-spec =
     tie.close (tie.spec slice-aggregate-spelled spelled-requires add-t8 returns slice-aggregate-spelled-2 spelled-requires-2 add-t12 returns-2 returns-3)
