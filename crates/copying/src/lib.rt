@@ -1,7 +1,9 @@
 // Copying bytes: from one slice to another, and within one.
 ghost use mathlib.Core.Path.{_≡_};
 ghost use Prim.Native.Nat.{_+_, _*_, _≤_};
+ghost use mathlib.Core.List.{_++_};
 ghost use lib.ListN.{length};
+ghost use Rattle.number.specs.Words.{wordBytes};
 ghost use Rattle.copying.specs.Put.{part, put, Apart};
 
 // Copies n bytes of s, from `from` on, over those of the output from `to` on.
@@ -38,4 +40,15 @@ pub fn copy_within(s: &mut [u8], from: usize, n: usize, to: usize)
         recording::put16(s, to + 16 * i, recording::take16(s, from + 16 * i));
         i += 1;
     }
+}
+
+// Writes four numbers, of four bytes each, from `at` on.
+pub fn put_words(out: &mut [u8], at: usize, a: u32, b: u32, c: u32, d: u32)
+    requires { ⌜ at + 16 ≤ length (now out) ⌝ }
+    ensures { λ r. ⌜ now (out .exit) ≡ put at (wordBytes a ++ wordBytes b ++ wordBytes c ++ wordBytes d) (now (out .entry)) ⌝ }
+{
+    number::put_word(out, at, a);
+    number::put_word(out, at + 4, b);
+    number::put_word(out, at + 8, c);
+    number::put_word(out, at + 12, d);
 }

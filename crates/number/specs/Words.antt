@@ -1,6 +1,6 @@
 -- Document 01: numbers of 32 bits in bytes, little-endian, unsigned and signed (two's complement).
 use Prim.Native.Nat.{ℕ, suc, _+_, _-_, _*_, _/_, _%_}
-use mathlib.Core.List.{List, [], _∷_}
+use mathlib.Core.List.{List, [], _∷_, _++_}
 use lib.ListN.{getD}
 use lib.IntN.{ℤ, pos, negsuc, subℕ}
 
@@ -12,6 +12,11 @@ word bytes at =
 -- the four bytes of a number
 abbrev pub wordBytes : ℕ → List ℕ
 wordBytes n = n % 256 ∷ n / 256 % 256 ∷ n / 65536 % 256 ∷ n / 16777216 % 256 ∷ []
+
+-- numbers in a row, four bytes each
+abbrev pub wordsBytes : List ℕ → List ℕ
+wordsBytes [] = []
+wordsBytes (n ∷ ns) = wordBytes n ++ wordsBytes ns
 
 -- 32 bits in offset binary: their order is that of the signed numbers, 0 is the least
 unfoldable pub offsetBinary : ℕ → ℕ

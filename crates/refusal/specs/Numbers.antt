@@ -1,7 +1,7 @@
 -- Document 01, the table of refusals, and document 02, which adds to it: the number and the place of each.
 use Prim.Native.Nat.{ℕ}
 use Rattle.refusal.specs.declared.Refusal.{Refusal}
-use Rattle.refusal.specs.declared.Refusal.the-variants.{PartialRecord, TooManyRecords, BadRecord, NoRecord, TextLength, NoReading, TextTooLarge, TooManyRuns, TooManyTops, ShortOutput, BadMarks, BadTarget, BadSheet, NotForLaboratory, NoReport, BadBand, NotBandQuestion, BadMoment, TooManyKept}
+use Rattle.refusal.specs.declared.Refusal.the-variants.{PartialRecord, TooManyRecords, BadRecord, NoRecord, TextLength, NoReading, TextTooLarge, TooManyRuns, TooManyTops, ShortOutput, BadMarks, BadTarget, BadSheet, NotForLaboratory, NoReport, BadBand, NotBandQuestion, BadMoment, TooManyKept, BadSummary}
 
 abbrev pub numberOf : Refusal → ℕ
 numberOf PartialRecord = 1
@@ -23,6 +23,7 @@ numberOf BadBand = 16
 numberOf NotBandQuestion = 17
 numberOf BadMoment = 18
 numberOf TooManyKept = 19
+numberOf BadSummary = 20
 
 -- the index of the record for number 3, else 0
 abbrev pub placeOf : Refusal → ℕ
@@ -45,3 +46,4 @@ placeOf BadBand = 0
 placeOf NotBandQuestion = 0
 placeOf BadMoment = 0
 placeOf TooManyKept = 0
+placeOf BadSummary = 0

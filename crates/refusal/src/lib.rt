@@ -41,6 +41,8 @@ pub enum Refusal {
     BadMoment,
     // The run with the new reading would hold over 128 kept readings.
     TooManyKept,
+    // The summary is not in entries of 32 bytes, or has over 2,048 of them.
+    BadSummary,
 }
 
 // The refusal's number in the table.
@@ -67,6 +69,7 @@ pub fn number(r: Refusal) -> u32
         Refusal::NotBandQuestion => 17,
         Refusal::BadMoment => 18,
         Refusal::TooManyKept => 19,
+        Refusal::BadSummary => 20,
     }
 }
 
@@ -94,5 +97,6 @@ pub fn place(r: Refusal) -> usize
         Refusal::NotBandQuestion => 0,
         Refusal::BadMoment => 0,
         Refusal::TooManyKept => 0,
+        Refusal::BadSummary => 0,
     }
 }

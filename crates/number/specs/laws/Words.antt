@@ -1,6 +1,6 @@
 -- A number read from the bytes that it was written as, and the signed numbers of the axis.
-use Prim.Native.Nat.{ℕ, suc, _+_, _-_, _*_, _/_, _%_, _≤_, _<_}
-use mathlib.Core.Path.{_≡_, refl, sym, ap, ap₂, _∙_}
+use Prim.Native.Nat.{ℕ, zero, suc, _+_, _-_, _*_, _/_, _%_, _≤_, _<_}
+use mathlib.Core.Path.{_≡_, refl, sym, ap, ap₂, _∙_, subst}
 use mathlib.Core.Bool.{Bool, true, false, cond, not}
 use mathlib.Core.List.{List, [], _∷_, _++_}
 use mathlib.Core.Logic.{⊎-elim}
@@ -13,7 +13,7 @@ use lib.Signed.{ltZ, leZ}
 use lib.Dec.{leb, ltb}
 use borrow.Author.Tests.{lt-ltb, le-ltb}
 use Rattle.number.specs.Axis.{axis, origin, whole}
-use Rattle.number.specs.Words.{word, wordBytes, offsetBinary, signed, bits}
+use Rattle.number.specs.Words.{word, wordBytes, wordsBytes, offsetBinary, signed, bits}
 use Rattle.number.specs.laws.Order.{less-or-not, ltb-same, leb-not-ltb}
 
 -- the first four bytes
@@ -34,6 +34,32 @@ word-behind p q at =
     let b2 = byte 2 in
     let b3 = byte 3 in
     cc
+
+-- the number with index i of a row
+pub word-row : (ns : List ℕ) (i : ℕ) → i < length ns → getD ns i 0 < 4294967296 → word (wordsBytes ns) (4 * i) ≡ getD ns i 0
+word-row [] i h s = absurd (omega arith)
+word-row (n ∷ ns) zero h s = word-front n (wordsBytes ns) s
+word-row (n ∷ ns) (suc i) h s =
+    let e : 4 * suc i ≡ length (wordBytes n) + 4 * i = omega arith in
+    ap (word (wordsBytes (n ∷ ns))) e ∙ word-behind (wordBytes n) (wordsBytes ns) (4 * i) ∙ word-row ns i (omega arith) s
+
+pub length-row : (ns : List ℕ) → length (wordsBytes ns) ≡ 4 * length ns
+length-row [] = refl
+length-row (n ∷ ns) =
+    let h = length-row ns in
+    length-append (wordBytes n) (wordsBytes ns) ∙ omega arith
+
+-- the 32 bits of a number in offset binary, and the number read back from them
+pub offset-binary-bits : (m : ℕ) → m < 4294967296 → offsetBinary m ≡ bits (subℕ m 2147483648)
+unfolding offsetBinary
+offset-binary-bits m h = ⊎-elim (λ g. rw (lt-ltb m 2147483648 g) (omega arith)) (λ g. rw (le-ltb m 2147483648 g) (omega arith)) (less-or-not m 2147483648)
+
+pub bits-back : (m : ℕ) → m < 4294967296 → (bits (subℕ m 2147483648) < 4294967296) × (signed (bits (subℕ m 2147483648)) ≡ subℕ m 2147483648)
+unfolding signed offsetBinary
+bits-back m h =
+    let e : offsetBinary m ≡ bits (subℕ m 2147483648) = offset-binary-bits m h in
+    let b : offsetBinary (offsetBinary m) ≡ m = omega arith in
+    (subst (λ (n : ℕ). n < 4294967296) e (omega arith), ap signed (sym e) ∙ ap (λ (n : ℕ). subℕ n 2147483648) b)
 
 -- elements put right behind those that are put already
 pub put-behind : (a w before out : List ℕ) (k j : ℕ) → length a ≡ k → out ≡ a ++ drop k before
