@@ -8,3 +8,4 @@ pub mod Limit
 pub mod Unpigmented
 pub mod Mark
 pub mod Flag
+pub mod Seen
