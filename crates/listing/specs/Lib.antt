@@ -1,0 +1,4 @@
+pub mod Listing
+pub mod Call
+pub mod Opened
+pub mod laws
