@@ -13,9 +13,9 @@ use Rattle.number.specs.Words.{word}
 use Rattle.number.specs.laws.Boolean.{and-left, and-right, clash}
 use Rattle.number.specs.laws.Order.{less-or-not}
 use Rattle.recording.specs.Condition.{Condition, pick, on}
-use Rattle.recording.specs.Recording.{Raw, records, concat, reading, fields, lawful, firstBad, mostRecords}
+use Rattle.recording.specs.Recording.{Raw, records, concat, reading, fields, lawful, firstBad, mostRecords, Accepted}
 use Rattle.recording.specs.laws.Record.{Sixteens, sixteens-pick, length-concat, concat-append, records-concat, records-append}
-use Rattle.recording.specs.laws.Acceptance.{Good, good-lawful, good-join, next, first-bad}
+use Rattle.recording.specs.laws.Acceptance.{Good, good-lawful, good-join, next, first-bad, sound-accepted}
 use Rattle.kept.specs.Kept.{keptFor}
 use Rattle.kept.specs.Selection.{flags}
 use Rattle.kept.specs.laws.Stability.{pick-flags}
@@ -140,3 +140,10 @@ module _ (marks : List ℕ) where
         let n : length xs + 1 ≡ length (xs ++ x ∷ []) = omega arith in
         let m : length (concat ys) / 16 ≡ length ys = omega arith in
         ap₂ (λ (i j : ℕ). headOf i j ++ concat ys) n m
+
+-- the run is an accepted recording
+pub taken-accepted : (ks : List ℕ) (run : List Raw) → Taken ks run → Accepted (concat run)
+taken-accepted ks run t =
+    let l = length-concat run (t .sixteens) in
+    let few = t .few in
+    sound-accepted (concat run) (record { whole = omega arith; few = omega arith; good = subst (Good 0) (sym (records-concat run (t .sixteens))) (t .good) })
