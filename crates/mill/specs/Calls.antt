@@ -13,7 +13,10 @@ use Rattle.sheet.specs.Call.{orderOf}
 use Rattle.lab.specs.Lab.{labQuestionOf, labDegreeOf, labPairOf}
 use Rattle.report.specs.inner.Naming.{naming}
 use Rattle.report_state.specs.Call.{Starts, Adds}
+use Rattle.entry.specs.Call.{entryOf}
+use Rattle.listing.specs.Call.{findOf}
 use Rattle.live.specs.Call.{addOf, saveOf, restoreOf, heldOf, StepTold, StartTold}
+use Rattle.live_entry.specs.Call.{heldEntryOf}
 use Rattle.boundary.specs.Boundary.{Writes, Degrees, Pairs, InBands, Orders}
 
 abbrev pub QuestionCall : (recording text out : List ℕ) (r : ℕ) (after : List ℕ) → Type 0
@@ -68,3 +71,14 @@ LiveRestoreCall live name r after = StepTold (restoreOf live name) live r after
 -- of the output, `out` before and `after` after
 abbrev pub LiveKeptCall : (live out : List ℕ) (r : ℕ) (after : List ℕ) → Type 0
 LiveKeptCall live out r after = Writes (heldOf live (length out)) out r after
+
+-- the entry of the run (document 02, Paper 12)
+abbrev pub LiveEntryCall : (live out : List ℕ) (r : ℕ) (after : List ℕ) → Type 0
+LiveEntryCall live out r after = Writes (heldEntryOf live (length out)) out r after
+
+-- the calls of a summary (document 02, Paper 12)
+abbrev pub EntryCall : (recording out : List ℕ) (r : ℕ) (after : List ℕ) → Type 0
+EntryCall recording out r after = Writes (entryOf recording (length out)) out r after
+
+abbrev pub FindCall : (summary : List ℕ) (curve : ℕ) (level : ℤ) (out : List ℕ) (r : ℕ) (after : List ℕ) → Type 0
+FindCall summary curve level out r after = Writes (findOf summary curve level (length out)) out r after

@@ -1,5 +1,5 @@
 // The C boundary of the library.
-ghost use Rattle.mill.specs.Calls.{QuestionCall, DegreeCall, PairCall, ThinCall, BandCall, OrderCall, LabQuestionCall, LabDegreeCall, LabPairCall, ReportStartCall, ReportAddCall, LiveStartCall, LiveAddCall, LiveSaveCall, LiveRestoreCall, LiveKeptCall};
+ghost use Rattle.mill.specs.Calls.{QuestionCall, DegreeCall, PairCall, ThinCall, BandCall, OrderCall, LabQuestionCall, LabDegreeCall, LabPairCall, ReportStartCall, ReportAddCall, LiveStartCall, LiveAddCall, LiveSaveCall, LiveRestoreCall, LiveKeptCall, LiveEntryCall, EntryCall, FindCall};
 
 // THE QUESTION CALL. Returns how many bytes of the output the answered set takes, or the refusal.
 #[no_mangle]
@@ -189,5 +189,32 @@ pub extern "C" fn mill_live_kept(live: &[u8], out: &mut [u8]) -> u64
     ensures { λ r. ⌜ LiveKeptCall (now (live .entry)) (now (out .entry)) r (now (out .exit)) ⌝ }
 {
     let written = live::kept(live, out);
+    reply::written(written)
+}
+
+// THE ENTRY OF THE RUN. Returns 32, the bytes of the output that it takes, or the refusal. The run is only read.
+#[no_mangle]
+pub extern "C" fn mill_live_entry(live: &[u8], out: &mut [u8]) -> u64
+    ensures { λ r. ⌜ LiveEntryCall (now (live .entry)) (now (out .entry)) r (now (out .exit)) ⌝ }
+{
+    let written = live_entry::entry_of_run(live, out);
+    reply::written(written)
+}
+
+// THE ENTRY CALL. Returns 32, the bytes of the output that the entry takes, or the refusal.
+#[no_mangle]
+pub extern "C" fn mill_entry(rec: &[u8], out: &mut [u8]) -> u64
+    ensures { λ r. ⌜ EntryCall (now (rec .entry)) (now (out .entry)) r (now (out .exit)) ⌝ }
+{
+    let written = entry::entry(rec, out);
+    reply::written(written)
+}
+
+// THE FIND CALL. Returns how many bytes of the output the numbers of the entries take, or the refusal.
+#[no_mangle]
+pub extern "C" fn mill_find(entries: &[u8], curve: u32, level: i64, out: &mut [u8]) -> u64
+    ensures { λ r. ⌜ FindCall (now (entries .entry)) curve level (now (out .entry)) r (now (out .exit)) ⌝ }
+{
+    let written = listing::find(entries, curve, level, out);
     reply::written(written)
 }

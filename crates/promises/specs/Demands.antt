@@ -1,13 +1,13 @@
 -- THE THREE DEMANDS, sentence by sentence, of the calls of the C boundary: of the 64-bit number that a call returns and of the memory that it leaves,
 -- for every call that meets its contract (mill/specs/Calls: QuestionCall, DegreeCall, PairCall, ThinCall, BandCall, OrderCall,
--- LabQuestionCall, LabDegreeCall, LabPairCall). Each call of the library is proved to meet it, for every input, with no condition. That `Demands` holds is `demands` (laws/Demands).
+-- LabQuestionCall, LabDegreeCall, LabPairCall, ReportStartCall, ReportAddCall, EntryCall, FindCall; those of a live run: LiveRuns, LiveEntry). Each call of the library is proved to meet it, for every input, with no condition. That `Demands` holds is `demands` (laws/Demands).
 use Prim.Native.Nat.{ℕ, _*_, _/_, _%_, _≤_, _<_}
 use mathlib.Core.Path.{_≡_}
 use mathlib.Core.Bool.{Bool, true}
 use mathlib.Core.Logic.{_⊎_, _↔_}
 use mathlib.Core.List.{List, [], _∷_, map, List·Memᴰ}
 use lib.IntN.{ℤ, pos}
-use lib.ListN.{length, take, drop}
+use lib.ListN.{length, drop}
 use Rattle.number.specs.Axis.{whole, OfAxis}
 use lib.Signed.{_≤ℤ_}
 use Rattle.number.specs.Words.{signed}
@@ -37,11 +37,15 @@ use Rattle.thin.specs.Model.{Call, model}
 use Rattle.thin.specs.Selection.{Selection}
 use Rattle.thin.specs.Cut.{wholeFrom, CutBetween, LongEnough, allWritten}
 use Rattle.report.specs.Report.{reportBytes}
+use Rattle.listing.specs.Listing.{mostEntries, entryCount}
+use Rattle.listing.specs.Opened.{SaidToReach, Reaches}
 use Rattle.reply.specs.Reply.{half, numberIn, lowIn}
 use Rattle.boundary.specs.Boundary.{Degrees}
-use Rattle.mill.specs.Calls.{QuestionCall, DegreeCall, PairCall, ThinCall, BandCall, OrderCall, LabQuestionCall, LabDegreeCall, LabPairCall, ReportStartCall, ReportAddCall}
+use Rattle.mill.specs.Calls.{QuestionCall, DegreeCall, PairCall, ThinCall, BandCall, OrderCall, LabQuestionCall, LabDegreeCall, LabPairCall, ReportStartCall, ReportAddCall, EntryCall, FindCall}
 use Rattle.promises.specs.CallsMade.{Returned, readOff, CallsMade, PinnedCalls, heldAt, takenFrom}
-use Rattle.promises.specs.Table.{Request, question, degree, pair, thin, order, acceptedOrder, NoneMet, FirstMet, band, ordering, lab-question, lab-degree, lab-pair, naming}
+use Rattle.promises.specs.Output.{Wrote}
+use Rattle.promises.specs.Summary.{EntryWritten, NumbersWritten, SummaryMade}
+use Rattle.promises.specs.Table.{Request, question, degree, pair, thin, order, acceptedOrder, NoneMet, FirstMet, band, ordering, lab-question, lab-degree, lab-pair, naming, entry, find}
 
 -- ---- DEMAND 1
 
@@ -103,6 +107,9 @@ pub record Demand1 : Type 0 where
   pub of-report-add : {report recording : List ℕ} {met empty distances mean r : ℕ} {after : List ℕ} {met-after empty-after distances-after mean-after : ℕ}
       → ReportAddCall report recording met empty distances mean r after met-after empty-after distances-after mean-after
       → HandedIn r (met ∷ empty ∷ distances ∷ mean ∷ []) (met-after ∷ empty-after ∷ distances-after ∷ mean-after ∷ []) report after
+  pub of-entry : {recording out : List ℕ} {r : ℕ} {after : List ℕ} → EntryCall recording out r after → OneAnswer (entry recording (length out)) r out after
+  pub of-find : {summary : List ℕ} {curve : ℕ} {level : ℤ} {out : List ℕ} {r : ℕ} {after : List ℕ} → FindCall summary curve level out r after
+      → OneAnswer (find summary curve level (length out)) r out after
 
 -- ---- DEMAND 2
 
@@ -116,10 +123,11 @@ pub record Fixed (recording text written : List ℕ) : Type 0 where
   pub members : (z : ℤ) → OfAxis z → inBytes written z ↔ Holds (readings recording) z tree 0
   pub runs : (f : ℕ → Bool) → IsSet f (readings recording) tree 0 → written ≡ setBytes f
 
--- the set is written to the front of the output; behind it stands what stood there
+-- what the call wrote is that set
 pub record SetWritten (recording text out : List ℕ) (r : ℕ) (after : List ℕ) : Type 0 where
-  pub set : Fixed recording text (take (lowIn r) after)
-  pub behind : drop (lowIn r) after ≡ drop (lowIn r) out
+  pub written : List ℕ
+  pub set : Fixed recording text written
+  pub wrote : Wrote written out r after
 
 -- z lies in the run that a bit and two places tell of: the bit is set, and z is from the one to the other, each a signed number of 32 bits
 abbrev pub InRun : (bit low high : ℕ) → ℤ → Type 0
@@ -165,7 +173,8 @@ pub record PairTold (recording : List ℕ) (curve : ℕ) (target : ℤ) (earlier
 
 -- DEMAND 2, of what the question call wrote, and of what the degree call told (`Near`: by the same reading, of the target as the number at index v of the axis),
 -- the pair call (`PairTold`), the band call (`BandTold`) and the order call (`OrderTold`). Document 02, Paper 7, of a laboratory's call: "One that neither 11 nor 14 refuses answers as the
--- plain call does", whatever it is handed
+-- plain call does", whatever it is handed. Paper 12, of the entry call: a true entry of the recording (`TrueEntry`); of the find call: the numbers of the entries whose greatest
+-- value of the curve is at least the level, and, of entries made from at most 2,048 recordings, of the recordings in which the curve is somewhere at least the level
 pub record Demand2 : Type 0 where
   pub set-written : {recording text out : List ℕ} {r : ℕ} {after : List ℕ} → QuestionCall recording text out r after → numberIn r ≡ 0
       → SetWritten recording text out r after
@@ -180,6 +189,12 @@ pub record Demand2 : Type 0 where
       → PairTold recording curve target earlier later r earlier-after later-after
   pub order-told : {recording sheet : List ℕ} {time line r time-after line-after : ℕ} → OrderCall recording sheet time line r time-after line-after → numberIn r ≡ 0
       → OrderTold recording sheet time line r time-after line-after
+  pub entry-told : (recording : List ℕ) {out : List ℕ} {r : ℕ} {after : List ℕ} → EntryCall recording out r after → numberIn r ≡ 0 → EntryWritten (readings recording) out r after
+  pub listing-told : (summary : List ℕ) (curve : ℕ) (level : ℤ) {out : List ℕ} {r : ℕ} {after : List ℕ} → FindCall summary curve level out r after → numberIn r ≡ 0
+      → NumbersWritten (SaidToReach (curveOf curve) level summary) (entryCount summary) out r after
+  pub listing-as-opened : (recordings : List (List ℕ)) (summary : List ℕ) → SummaryMade recordings summary → length recordings ≤ mostEntries
+      → (curve : ℕ) (level : ℤ) {out : List ℕ} {r : ℕ} {after : List ℕ} → FindCall summary curve level out r after → numberIn r ≡ 0
+      → NumbersWritten (Reaches (curveOf curve) level recordings) (length recordings) out r after
   pub lab-question-plain : (recording marks text : List ℕ) {out : List ℕ} {r : ℕ} {after : List ℕ} → LabQuestionCall recording marks text out r after
       → ¬ (numberIn r ≡ 11) → ¬ (numberIn r ≡ 14) → QuestionCall recording text out r after
   pub lab-degree-plain : (recording marks text : List ℕ) (target : ℤ) {distance value r distance-after value-after : ℕ}
@@ -204,7 +219,7 @@ pub record AskedOfKept (marks text : List ℕ) : Type 0 where
 -- refusal that the table fixes of it, by the lines `ks`
 pub record RightOf (full text out ks : List ℕ) (r : ℕ) (after : List ℕ) : Type 0 where
   pub refusal : ByTheTable (question full text (length out)) ks r
-  pub set : numberIn r ≡ 0 → Fixed full text (take (lowIn r) after)
+  pub set : numberIn r ≡ 0 → SetWritten full text out r after
 
 module _ (marks : List ℕ) (cs : List Call) (xs : List Returned) where
   -- "For every list of thinning calls, refused ones included": each answers, and leaves its output, as the book of 01 does
@@ -219,9 +234,9 @@ module _ (marks : List ℕ) (cs : List Call) (xs : List Returned) where
     pub held : heldAt [] xs ≡ keptBytes (marksOf marks) (wholeFrom [] cs)
 
 -- "the same set, the one that 2 fixes, in the same bytes, or the same refusal, the one that the table of 01 fixes, from kept as from full"
-pub record LikeFull (recording text out : List ℕ) (r r′ : ℕ) (after after′ : List ℕ) : Type 0 where
+pub record LikeFull (recording text out out′ : List ℕ) (r r′ : ℕ) (after after′ : List ℕ) : Type 0 where
   pub same : r ≡ r′
-  pub same-bytes : numberIn r ≡ 0 → take (lowIn r) after ≡ take (lowIn r) after′
+  pub same-bytes : numberIn r ≡ 0 → (written : List ℕ) × Wrote written out r after × Wrote written out′ r′ after′
   pub right : RightOf recording text out (1 ∷ 2 ∷ 3 ∷ acceptedOrder) r after
 
 -- `held` is in the place of the recording: what a call returns and leaves on it, it returns and leaves on the recording, of a text that may be asked of
@@ -237,9 +252,10 @@ pub record InPlaceOf (marks recording held : List ℕ) : Type 0 where
       → BandCall recording text e low high lowest highest r low-after high-after lowest-after highest-after
   pub order-sheet : (sheet : List ℕ) {time line r time-after line-after : ℕ} → OrderCall held sheet time line r time-after line-after
       → OrderCall recording sheet time line r time-after line-after
+  pub entry : {out : List ℕ} {r : ℕ} {after : List ℕ} → EntryCall held out r after → EntryCall recording out r after
   pub thinning : {out : List ℕ} {r : ℕ} {after : List ℕ} → ThinCall held marks out r after → ThinCall recording marks out r after
   pub thins-back : {out : List ℕ} {r : ℕ} {after : List ℕ} → length (keptBytes (marksOf marks) recording) ≤ length out → ThinCall held marks out r after
-      → (numberIn r ≡ 0) × (take (lowIn r) after ≡ keptBytes (marksOf marks) recording)
+      → Wrote (keptBytes (marksOf marks) recording) out r after
 
 -- DEMAND 3, its three sentences. Document 02, Paper 10: "every selection in order from an accepted recording that includes its kept readings" is in its
 -- place, of which the kept readings are the least; and readings put back between two calls of a list change nothing in what is held, nor in what comes out
@@ -251,11 +267,11 @@ pub record Demand3 (marks : List ℕ) : Type 0 where
       → LongEnough (marksOf marks) [] cs → CutWhole marks cs xs
   pub kept-as-full : AcceptedMarks marks → {recording text : List ℕ} → Accepted recording → AskedOfKept marks text
       → {out out′ : List ℕ} → length out ≡ length out′ → {r r′ : ℕ} {after after′ : List ℕ} → QuestionCall (keptBytes (marksOf marks) recording) text out r after
-      → QuestionCall recording text out′ r′ after′ → LikeFull recording text out r r′ after after′
+      → QuestionCall recording text out′ r′ after′ → LikeFull recording text out out′ r r′ after after′
   pub least-selection : (recording : List ℕ) → Selection (marksOf marks) recording (keptBytes (marksOf marks) recording)
   pub selected-as-full : AcceptedMarks marks → {recording held text : List ℕ} → Accepted recording → Selection (marksOf marks) recording held → AskedOfKept marks text
       → {out out′ : List ℕ} → length out ≡ length out′ → {r r′ : ℕ} {after after′ : List ℕ} → QuestionCall held text out r after
-      → QuestionCall recording text out′ r′ after′ → LikeFull recording text out r r′ after after′
+      → QuestionCall recording text out′ r′ after′ → LikeFull recording text out out′ r r′ after after′
   pub selected-in-place : AcceptedMarks marks → {recording held : List ℕ} → Accepted recording → Selection (marksOf marks) recording held → InPlaceOf marks recording held
   pub pinned : AcceptedMarks marks → (cs : List Call) (xs : List Returned) → PinnedCalls marks [] cs xs
       → heldAt [] xs ≡ keptBytes (marksOf marks) (takenFrom [] cs xs)

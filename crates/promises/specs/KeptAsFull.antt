@@ -12,6 +12,7 @@ use Rattle.band.specs.Call.{bandOf}
 use Rattle.marks.specs.Marks.{marksOf}
 use Rattle.pair.specs.Pair.{pairOf}
 use Rattle.sheet.specs.Call.{orderOf}
+use Rattle.entry.specs.Call.{entryOf}
 
 -- A text that may be asked of kept readings: where none of 5, 6 and 7 refuses it, it writes none of F, G, X, U and W, and its after-times
 -- are among the marks. The marks are given by their bytes, as a thinning call takes them.
@@ -32,3 +33,5 @@ pub record SameAnswers (marks held full : List ℕ) : Type 0 where
   pub band : (text : List ℕ) → Askable marks text → (e : ℤ) → bandOf held text e ≡ bandOf full text e
   -- met, the same time and line, or the same refusal
   pub ordering : (sheet : List ℕ) → orderOf held sheet ≡ orderOf full sheet
+  -- the same entry, or the same refusal
+  pub entry : (room : ℕ) → entryOf held room ≡ entryOf full room

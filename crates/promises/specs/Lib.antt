@@ -1,5 +1,7 @@
 pub mod Table
 pub mod CallsMade
+pub mod Output
+pub mod Summary
 pub mod Demands
 pub mod Reports
 pub mod KeptAsFull
@@ -10,4 +12,5 @@ pub mod FormulasAsked
 pub mod MarkedLines
 pub mod OldRecordings
 pub mod LiveRuns
+pub mod LiveEntry
 pub mod laws

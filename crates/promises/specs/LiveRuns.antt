@@ -4,19 +4,20 @@ use Prim.Native.Nat.{ℕ, _*_, _≤_, _<_}
 use mathlib.Core.Path.{_≡_}
 use mathlib.Core.Bool.{true}
 use mathlib.Core.List.{List, [], _∷_, _++_, List·Memᴰ}
-use lib.ListN.{length, take}
+use lib.ListN.{length}
 use Rattle.number.specs.Words.{word}
 use Rattle.refusal.specs.Outcome.{Outcome, refused}
 use Rattle.recording.specs.Recording.{concat, Accepted}
 use Rattle.recording.specs.Output.{counted, outputAfter}
 use Rattle.marks.specs.Marks.{marksOf, marksLine, AcceptedMarks}
 use Rattle.thin.specs.Thin.{keptBytes}
-use Rattle.reply.specs.Reply.{numberIn, lowIn, unpacked}
+use Rattle.reply.specs.Reply.{numberIn, unpacked}
 use Rattle.live_state.specs.Limits.{mostHeld}
 use Rattle.live_state.specs.State.{signature, liveBytes, marksIn, heldIn, noState}
 use Rattle.live.specs.History.{History, begun, Step, add, save, restore, after, told, answer, keptRun, readOut}
 use Rattle.live.specs.Call.{startOf, stepOf, heldOf, Behind}
 use Rattle.mill.specs.Calls.{ThinCall, LiveStartCall, LiveAddCall, LiveSaveCall, LiveRestoreCall, LiveKeptCall}
+use Rattle.promises.specs.Output.{Wrote}
 use Rattle.promises.specs.Demands.{InPlaceOf}
 
 -- ---- the calls as they are made
@@ -100,7 +101,7 @@ pub record HeldLikeRun (h : History) : Type 0 where
   pub in-place : InPlaceOf (h .marks) (concat (h .run)) (keptRun h)
   pub thins-on : (piece : List ℕ) {out : List ℕ} {r : ℕ} {written : List ℕ} → Accepted (concat (h .run) ++ piece)
       → length (keptBytes (marksOf (h .marks)) (concat (h .run) ++ piece)) ≤ length out → ThinCall (keptRun h ++ piece) (h .marks) out r written
-      → (numberIn r ≡ 0) × (take (lowIn r) written ≡ keptBytes (marksOf (h .marks)) (concat (h .run) ++ piece))
+      → Wrote (keptBytes (marksOf (h .marks)) (concat (h .run) ++ piece)) out r written
 
 -- ---- DEMAND 1, of these calls
 
@@ -108,6 +109,11 @@ pub record HeldLikeRun (h : History) : Type 0 where
 pub record OneLiveAnswer (outcome : Outcome ℕ) (r : ℕ) (before left : List ℕ) : Type 0 where
   pub answer : unpacked r ≡ outcome
   pub refusal-writes-nothing : ¬ (numberIn r ≡ 0) → left ≡ before
+
+-- a read-out, which writes an output: one answer, and all that it leaves there
+pub record OneReadAnswer (outcome : Outcome (List ℕ)) (r : ℕ) (out written : List ℕ) : Type 0 where
+  pub one : OneLiveAnswer (counted outcome) r out written
+  pub writes : written ≡ outputAfter outcome out
 
 -- THE ONE EXCEPTION: a start that is refused by 11 is remembered, in a buffer that is long enough for a state: what stood there is no state any more
 pub record OneStartAnswer (marks buffer : List ℕ) (r : ℕ) (live : List ℕ) : Type 0 where
@@ -125,7 +131,7 @@ pub record NoStates : Type 0 where
 pub record LiveDemand1 : Type 0 where
   pub of-start : {marks buffer live : List ℕ} {r : ℕ} → LiveStartCall marks buffer r live → OneStartAnswer marks buffer r live
   pub of-step : (live : List ℕ) (s : Step) (y : LiveReturned) → StepMade live s y → OneLiveAnswer (told (stepOf live s)) (y .returned) live (y .left)
-  pub of-kept : (live : List ℕ) {out : List ℕ} {r : ℕ} {written : List ℕ} → LiveKeptCall live out r written → OneLiveAnswer (counted (heldOf live (length out))) r out written
+  pub of-kept : (live : List ℕ) {out : List ℕ} {r : ℕ} {written : List ℕ} → LiveKeptCall live out r written → OneReadAnswer (heldOf live (length out)) r out written
   pub behind : (live : List ℕ) (s : Step) (y : LiveReturned) → StepMade live s y → Behind live (y .left)
   pub no-states : NoStates
 

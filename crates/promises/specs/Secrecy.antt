@@ -5,15 +5,16 @@ use Prim.Native.Nat.{ℕ}
 use mathlib.Core.Path.{_≡_}
 use mathlib.Core.List.{List}
 use lib.IntN.{ℤ}
-use lib.ListN.{length, take}
+use lib.ListN.{length}
 use Rattle.recording.specs.Reading.{A}
 use Rattle.recording.specs.Recording.{readings, Accepted}
 use Rattle.meaning.specs.Named.{Channel, curve, additions, Agreeing}
 use Rattle.marks.specs.Marks.{marksOf}
 use Rattle.thin.specs.Thin.{keptBytes}
 use Rattle.thin.specs.Selection.{Selection}
-use Rattle.reply.specs.Reply.{numberIn, lowIn}
+use Rattle.reply.specs.Reply.{numberIn}
 use Rattle.mill.specs.Calls.{LabQuestionCall, LabDegreeCall, LabPairCall}
+use Rattle.promises.specs.Output.{Wrote}
 
 -- what is no secret, beside the times: A with its slopes, and the pigments
 pub data Public : Channel → Type 0 where
@@ -30,7 +31,7 @@ pub record AllButB (recording other : List ℕ) : Type 0 where
 -- the outputs held the same before, they hold the same after, to the last byte
 pub record SameBytes (out out′ : List ℕ) (r r′ : ℕ) (after after′ : List ℕ) : Type 0 where
   pub number : r ≡ r′
-  pub written : numberIn r ≡ 0 → take (lowIn r) after ≡ take (lowIn r) after′
+  pub written : numberIn r ≡ 0 → (bytes : List ℕ) × Wrote bytes out r after × Wrote bytes out′ r′ after′
   pub memory : out ≡ out′ → after ≡ after′
 
 -- and of two calls that write two places: the same number; the same in both places where they are written, which 1 tells; where the places held the same before,

@@ -8,9 +8,9 @@ use lib.IntN.{ℤ, pos}
 use lib.ListN.{length}
 use lib.Signed.{_≤ℤ_}
 use Rattle.number.specs.Axis.{OfAxis}
-use Rattle.refusal.specs.Numbers.{numberOf, placeOf}
+use Rattle.refusal.specs.Numbers.{numberOf}
 use Rattle.refusal.specs.declared.Refusal.{Refusal}
-use Rattle.refusal.specs.declared.Refusal.the-variants.{PartialRecord, TooManyRecords, BadRecord, NoRecord, TextLength, NoReading, TextTooLarge, TooManyRuns, TooManyTops, ShortOutput, BadMarks, BadTarget, BadSheet, NotForLaboratory, NoReport, BadBand, NotBandQuestion, BadMoment, TooManyKept}
+use Rattle.refusal.specs.declared.Refusal.the-variants.{PartialRecord, TooManyRecords, BadRecord, NoRecord, TextLength, NoReading, TextTooLarge, TooManyRuns, TooManyTops, ShortOutput, BadMarks, BadTarget, BadSheet, NotForLaboratory, NoReport, BadBand, NotBandQuestion, BadMoment, TooManyKept, BadSummary}
 use Rattle.recording.specs.Condition.{pick}
 use Rattle.recording.specs.Reading.{top, curveOf}
 use Rattle.recording.specs.Recording.{Raw, records, readings, lawful, mostRecords, mostPigments}
@@ -26,6 +26,8 @@ use Rattle.marks.specs.Marks.{marksOf, mostMarks, latestMark}
 use Rattle.sheet.specs.Sheet.{mostLines}
 use Rattle.report.specs.Report.{mostBatches, reportBytes}
 use Rattle.lab.specs.Lab.{LaboratoryText}
+use Rattle.entry.specs.Entry.{entryBytes}
+use Rattle.listing.specs.Listing.{mostEntries, entryCount, listing}
 
 -- what a call is handed; of an output its length
 pub data Request : Type 0 where
@@ -39,6 +41,8 @@ pub data Request : Type 0 where
   lab-degree : (recording marks text : List ℕ) (target : ℤ) → Request
   lab-pair : (recording : List ℕ) (curve : ℕ) (target : ℤ) → Request
   naming : (count : ℕ) (text : List ℕ) (target : ℤ) (room : ℕ) → Request
+  entry : (recording : List ℕ) (room : ℕ) → Request
+  find : (summary : List ℕ) (curve : ℕ) (level : ℤ) (room : ℕ) → Request
 
 abbrev pub recordingIn : Request → List ℕ
 recordingIn (question r t n) = r
@@ -51,6 +55,8 @@ recordingIn (lab-question r m t n) = r
 recordingIn (lab-degree r m t g) = r
 recordingIn (lab-pair r c g) = r
 recordingIn (naming c t g n) = []
+recordingIn (entry r n) = r
+recordingIn (find s c l n) = []
 
 -- the text; a call that takes none has no line about it
 abbrev pub textIn : Request → List ℕ
@@ -64,6 +70,8 @@ textIn (lab-question r m t n) = t
 textIn (lab-degree r m t g) = t
 textIn (lab-pair r c g) = []
 textIn (naming c t g n) = t
+textIn (entry r n) = []
+textIn (find s c l n) = []
 
 -- record i is the first out of its rules
 pub record FirstBroken (xs : List Raw) (i : ℕ) : Type 0 where
@@ -95,6 +103,8 @@ TopsOver (lab-question r m t n) = ReadWith t (OverTops (readings r))
 TopsOver (lab-degree r m t g) = ReadWith t (OverTops (readings r))
 TopsOver (lab-pair r c g) = mostTops < length (pick (top (curveOf c)) (readings r))
 TopsOver (naming c t g n) = ⊥
+TopsOver (entry r n) = ⊥
+TopsOver (find s c l n) = ⊥
 
 -- 10: the output is shorter than the result, or the bytes for a report under way than one
 abbrev pub OutputShort : Request → Type 0
@@ -108,6 +118,8 @@ OutputShort (lab-question r m t n) = ReadWith t (SetLonger r n)
 OutputShort (lab-degree r m t g) = ⊥
 OutputShort (lab-pair r c g) = ⊥
 OutputShort (naming c t g n) = n < reportBytes
+OutputShort (entry r n) = n < entryBytes
+OutputShort (find s c l n) = n < length (listing (curveOf c) l s)
 
 -- 11: the marks are not 4 bytes each, over 8, or too large
 abbrev pub MarksOff : List ℕ → Type 0
@@ -124,8 +136,10 @@ MarksBad (lab-question r m t n) = MarksOff m
 MarksBad (lab-degree r m t g) = MarksOff m
 MarksBad (lab-pair r c g) = ⊥
 MarksBad (naming c t g n) = ⊥
+MarksBad (entry r n) = ⊥
+MarksBad (find s c l n) = ⊥
 
--- 12: the target is off the axis, or the curve number is not 0 or 1
+-- 12: the target, or the level, is off the axis, or the curve number is not 0 or 1
 abbrev pub TargetBad : Request → Type 0
 TargetBad (question r t n) = ⊥
 TargetBad (degree r t g) = ¬ OfAxis g
@@ -137,6 +151,8 @@ TargetBad (lab-question r m t n) = ⊥
 TargetBad (lab-degree r m t g) = ¬ OfAxis g
 TargetBad (lab-pair r c g) = (1 < c) ⊎ ¬ OfAxis g
 TargetBad (naming c t g n) = ¬ OfAxis g
+TargetBad (entry r n) = ⊥
+TargetBad (find s c l n) = (1 < c) ⊎ ¬ OfAxis l
 
 -- 13: the sheet has an odd length, over 32 lines, or a number that is not 1 to 16
 abbrev pub SheetBad : Request → Type 0
@@ -150,6 +166,8 @@ SheetBad (lab-question r m t n) = ⊥
 SheetBad (lab-degree r m t g) = ⊥
 SheetBad (lab-pair r c g) = ⊥
 SheetBad (naming c t g n) = ⊥
+SheetBad (entry r n) = ⊥
+SheetBad (find s c l n) = ⊥
 
 -- 14: what a laboratory asks is no laboratory text under these marks, or a pair of tops of B
 abbrev pub NotLaboratory : Request → Type 0
@@ -163,6 +181,8 @@ NotLaboratory (lab-question r m t n) = ReadWith t (λ p. ¬ LaboratoryText (mark
 NotLaboratory (lab-degree r m t g) = ReadWith t (λ p. ¬ LaboratoryText (marksOf m) p)
 NotLaboratory (lab-pair r c g) = c ≡ 1
 NotLaboratory (naming c t g n) = ⊥
+NotLaboratory (entry r n) = ⊥
+NotLaboratory (find s c l n) = ⊥
 
 -- 15: a named count of 0 or over 1,000. (Of a recording that is handed in, 15 is what the fold says: Reports)
 abbrev pub CountBad : Request → Type 0
@@ -176,6 +196,8 @@ CountBad (lab-question r m t n) = ⊥
 CountBad (lab-degree r m t g) = ⊥
 CountBad (lab-pair r c g) = ⊥
 CountBad (naming c t g n) = (c ≡ 0) ⊎ (mostBatches < c)
+CountBad (entry r n) = ⊥
+CountBad (find s c l n) = ⊥
 
 -- 16: the band is not 0 to 1,000,000 units
 abbrev pub BandBad : Request → Type 0
@@ -189,6 +211,8 @@ BandBad (lab-question r m t n) = ⊥
 BandBad (lab-degree r m t g) = ⊥
 BandBad (lab-pair r c g) = ⊥
 BandBad (naming c t g n) = ⊥
+BandBad (entry r n) = ⊥
+BandBad (find s c l n) = ⊥
 
 -- the text is one question on extremes alone; brackets are no node of it
 abbrev pub OneExtreme : Text → Type 0
@@ -206,6 +230,23 @@ NotOneExtreme (lab-question r m t n) = ⊥
 NotOneExtreme (lab-degree r m t g) = ⊥
 NotOneExtreme (lab-pair r c g) = ⊥
 NotOneExtreme (naming c t g n) = ⊥
+NotOneExtreme (entry r n) = ⊥
+NotOneExtreme (find s c l n) = ⊥
+
+-- 20: the summary is not in entries of 32 bytes, or has over 2,048 of them
+abbrev pub SummaryBad : Request → Type 0
+SummaryBad (question r t n) = ⊥
+SummaryBad (degree r t g) = ⊥
+SummaryBad (pair r c g) = ⊥
+SummaryBad (thin r m n) = ⊥
+SummaryBad (band r t e) = ⊥
+SummaryBad (ordering r s) = ⊥
+SummaryBad (lab-question r m t n) = ⊥
+SummaryBad (lab-degree r m t g) = ⊥
+SummaryBad (lab-pair r c g) = ⊥
+SummaryBad (naming c t g n) = ⊥
+SummaryBad (entry r n) = ⊥
+SummaryBad (find s c l n) = ¬ (length s % entryBytes ≡ 0) ⊎ (mostEntries < entryCount s)
 
 -- THE TABLE: the condition of each line is met by the request
 abbrev pub Met : Request → Refusal → Type 0
@@ -226,6 +267,7 @@ Met q NotForLaboratory = NotLaboratory q
 Met q NoReport = CountBad q
 Met q BadBand = BandBad q
 Met q NotBandQuestion = NotOneExtreme q
+Met q BadSummary = SummaryBad q
 -- 18 and 19 are of the steps of a live run, whose page is LiveRuns
 Met q BadMoment = ⊥
 Met q TooManyKept = ⊥
@@ -246,6 +288,8 @@ order (lab-question r m t n) = 1 ∷ 2 ∷ 3 ∷ 4 ∷ 5 ∷ 6 ∷ 7 ∷ 11 ∷ 
 order (lab-degree r m t g) = 1 ∷ 2 ∷ 3 ∷ 4 ∷ 5 ∷ 6 ∷ 7 ∷ 11 ∷ 14 ∷ 12 ∷ 9 ∷ 8 ∷ []
 order (lab-pair r c g) = 1 ∷ 2 ∷ 3 ∷ 4 ∷ 12 ∷ 14 ∷ 9 ∷ []
 order (naming c t g n) = 15 ∷ 5 ∷ 6 ∷ 7 ∷ 12 ∷ 10 ∷ []
+order (entry r n) = 1 ∷ 2 ∷ 3 ∷ 4 ∷ 10 ∷ []
+order (find s c l n) = 20 ∷ 12 ∷ 10 ∷ []
 
 -- no line of these numbers is met
 abbrev pub NoneMet : Request → List ℕ → Type 0

@@ -11,6 +11,7 @@ pub mod OldRecordings
 pub mod Operator
 pub mod Demand1
 pub mod Demand2
+pub mod Summary
 pub mod Lists
 pub mod Selected
 pub mod Reports
@@ -22,3 +23,4 @@ pub mod Demands
 pub mod AskedOfKept
 pub mod BandToday
 pub mod LiveRuns
+pub mod LiveEntry

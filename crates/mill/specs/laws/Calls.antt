@@ -8,7 +8,7 @@ use mathlib.Core.List.{List, [], _∷_, _++_}
 use lib.IntN.{ℤ}
 use lib.ListN.{length}
 use borrow.Author.Tests.{ltb-false}
-use Rattle.refusal.specs.Outcome.{Outcome, result, refused, Line, judged}
+use Rattle.refusal.specs.Outcome.{Outcome, result, refused, Line}
 use Rattle.recording.specs.Condition.{Condition, pick, pickFrom, when, on}
 use Rattle.recording.specs.Reading.{curveOf}
 use Rattle.recording.specs.Recording.{Raw, records, reading, readings, recordingLines, noRecord, mostRecords}
@@ -35,10 +35,16 @@ use Rattle.sheet.specs.Sheet.{sheetOf}
 use Rattle.sheet.specs.Finding.{Finding, allMet, brokenAt}
 use Rattle.sheet.specs.inner.Found.{finding}
 use Rattle.sheet.specs.Call.{sheetLines, orderOf}
+use Rattle.entry.specs.inner.Reckoned.{reckoned}
+use Rattle.entry.specs.Call.{entryLines, entryOf}
+use Rattle.entry.specs.laws.Reckoned.{length-reckoned}
+use Rattle.listing.specs.Listing.{listing}
+use Rattle.listing.specs.Call.{badSummary, levelLines, findOf}
+use Rattle.listing.specs.laws.Call.{listing-few}
 use Rattle.lab.specs.Lab.{labQuestionOf, labDegreeOf, labPairOf}
 use Rattle.lab.specs.laws.Plain.{PlainOr14, PlainOr11Or14, question-plain, degree-plain, pair-plain}
 use Rattle.reply.specs.Reply.{InHalf}
-use Rattle.reply.specs.laws.Place.{place-below}
+use Rattle.reply.specs.laws.Place.{plain-place, place-below}
 use Rattle.boundary.specs.Boundary.{valueTold, pairTold, filled, bandTold, findingTold}
 use Rattle.boundary.specs.inner.Fits.{NumbersIn, EndsIn}
 
@@ -94,6 +100,28 @@ question-in-half bytes text room = go (questionOf bytes text room) refl
         place-below bytes (noRecord bytes ∷ textLines text ++ (setLines bytes (read text) ++ (outputLine room set ∷ []))) set n p
         (refl, (refl, (refl, (refl, (refl, (refl, (refl, tt))))))) e
     go (result written) e = omega (arith, answered-few bytes text room written e)
+
+pub entry-in-half : (bytes : List ℕ) (room : ℕ) → InHalf (counted (entryOf bytes room))
+unfolding entryOf
+entry-in-half bytes room = go (entryOf bytes room) refl
+  where
+    go : (o : Outcome (List ℕ)) → entryOf bytes room ≡ o → InHalf (counted o)
+    go (refused n p) e = place-below bytes (entryLines bytes room) (reckoned (readings bytes)) n p (refl, (refl, tt)) e
+    go (result written) e =
+        let k = result-none (recordingLines bytes ++ entryLines bytes room) (reckoned (readings bytes)) written e in
+        omega (arith, ap length (k .1), length-reckoned (readings bytes))
+
+pub find-in-half : (summary : List ℕ) (curve : ℕ) (level : ℤ) (room : ℕ) → InHalf (counted (findOf summary curve level room))
+unfolding findOf
+find-in-half summary curve level room = go (findOf summary curve level room) refl
+  where
+    go : (o : Outcome (List ℕ)) → findOf summary curve level room ≡ o → InHalf (counted o)
+    go (refused n p) e =
+        let z = plain-place (badSummary summary ∷ levelLines summary curve level room) (listing (curveOf curve) level summary) n p (refl, (refl, (refl, tt))) e in
+        omega arith
+    go (result written) e =
+        let k = result-none (badSummary summary ∷ levelLines summary curve level room) (listing (curveOf curve) level summary) written e in
+        omega (arith, ap length (k .1), listing-few (curveOf curve) level summary (k .0 .0))
 
 -- ---- the calls that tell by places: a refusal's place fits in the low half
 

@@ -8,7 +8,7 @@ use mathlib.Core.Logic.{_↔_}
 use mathlib.Core.List.{List, [], _∷_, _++_}
 use lib.Dec.{ltb}
 use lib.IntN.{ℤ, pos}
-use lib.ListN.{length, take}
+use lib.ListN.{length}
 use borrow.Author.Tests.{lt-ltb, ltb-true, le-ltb}
 use Rattle.refusal.specs.Outcome.{Outcome, result}
 use Rattle.number.specs.laws.Boolean.{then, back, and-left, and-right, and-make}
@@ -40,6 +40,7 @@ use Rattle.reply.specs.Reply.{packed, numberIn, lowIn}
 use Rattle.reply.specs.laws.Unpacked.{number-result}
 use Rattle.mill.specs.Calls.{QuestionCall, BandCall}
 use Rattle.number.specs.Axis.{axis, whole, OfAxis}
+use Rattle.promises.specs.Output.{Wrote}
 use Rattle.promises.specs.Demands.{Fixed, InRun, BandTold}
 use Rattle.promises.specs.laws.Demand2.{band-given}
 use Rattle.promises.specs.laws.Demands.{demands}
@@ -49,16 +50,21 @@ unfolding Holds
 says-holds q recording z t e = subst (λ (p : Text). Holds (readings recording) z p 0 ↔ Says q (readings recording) z) (sym e) (λ h. h, λ h. h)
 
 pub band-today : (recording text out : List ℕ) (r : ℕ) (after : List ℕ) → QuestionCall recording text out r after → numberIn r ≡ 0
-    → (low high lowest highest r′ a b c d : ℕ) → BandCall recording text (pos 0) low high lowest highest r′ a b c d → numberIn r′ ≡ 0 → (z : ℤ) → OfAxis z
-    → (InRun (lowIn r′ % 2) a b z ↔ inBytes (take (lowIn r) after) z) × (InRun (lowIn r′ / 2) c d z ↔ inBytes (take (lowIn r) after) z)
-band-today recording text out r after w k low high lowest highest r′ a b c d u l z on =
-    let s : Fixed recording text (take (lowIn r) after) = demands .two .set-written w k .set in
+    → (low high lowest highest r′ a b c d : ℕ) → BandCall recording text (pos 0) low high lowest highest r′ a b c d → numberIn r′ ≡ 0
+    → (written : List ℕ) × Wrote written out r after × ((z : ℤ) → OfAxis z → (InRun (lowIn r′ % 2) a b z ↔ inBytes written z) × (InRun (lowIn r′ / 2) c d z ↔ inBytes written z))
+band-today recording text out r after w k low high lowest highest r′ a b c d u l =
+    let v = demands .two .set-written w k in
+    let s : Fixed recording text (v .written) = v .set in
     let t : BandTold recording text 0 r′ low high lowest highest a b c d = demands .two .band-told 0 u l in
     let g = band-given recording text (pos 0) low high lowest highest r′ a b c d u l in
-    let range : InRange (readings recording) = accepted-recorded recording (shown recording text (pos 0) (g .0) (g .1) .accepted) .in-range in
-    let today = back (then (s .members z on) (says-holds (t .asked) recording z (s .tree) (t .only (s .tree) (s .reads)))) in (
-      then (then (t .certain z on) (certain-exact (t .asked) (readings recording) z range)) today,
-      then (then (t .possible z on) (possible-exact (t .asked) (readings recording) z range)) today,
+    let range : InRange (readings recording) = accepted-recorded recording (shown recording text (pos 0) (g .0) (g .1) .accepted) .in-range in (
+      v .written,
+      v .wrote,
+      λ z on.
+          let today = back (then (s .members z on) (says-holds (t .asked) recording z (s .tree) (t .only (s .tree) (s .reads)))) in (
+            then (then (t .certain z on) (certain-exact (t .asked) (readings recording) z range)) today,
+            then (then (t .possible z on) (possible-exact (t .asked) (readings recording) z range)) today,
+          ),
     )
 
 -- ---- the question call is not refused

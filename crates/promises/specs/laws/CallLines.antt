@@ -1,9 +1,9 @@
 -- The lines of each call agree with the table. For the question call this is said of readings that stand in for a recording, of which the recording
 -- itself is one case and its kept readings another.
-use Prim.Native.Nat.{ℕ, suc, _*_, _/_, _%_, _≤_, _<_}
+use Prim.Native.Nat.{ℕ, _/_, _%_, _≤_, _<_}
 use native.Mathlib.Omega.{arith}
 use mathlib.Core.Path.{_≡_, refl, sym, ap, subst, _∙_}
-use mathlib.Core.Bool.{Bool, true, false, So, not, cond, _||_, true≢false, false≢true}
+use mathlib.Core.Bool.{Bool, true, false, So, not, _||_, true≢false, false≢true}
 use mathlib.Core.Logic.{_⊎_, inl, inr, ⊎-elim, _↔_}
 use mathlib.Core.List.{List, [], _∷_, _++_, List·Memᴰ, List·Memᴰ·head, List·Memᴰ·tail, List·Memᴰ·not-nil, List·Memᴰ·cases-cons}
 use lib.Dec.{eqb, ltb, leb→le, le→leb}
@@ -11,7 +11,7 @@ use lib.IntN.{ℤ, pos, negsuc}
 use lib.ListN.{length}
 use lib.Signed.{_≤ℤ_, leZ-yes}
 use borrow.Author.Tests.{eqb-true, eqb-false, eq-eqb, ne-eqb, ltb-true, ltb-false, lt-ltb, le-ltb, not-true, not-false}
-use Rattle.number.specs.Axis.{axis, whole, OfAxis}
+use Rattle.number.specs.Axis.{whole, OfAxis}
 use Rattle.number.specs.Least.{least}
 use Rattle.number.specs.laws.Least.{least-holds, least-first}
 use Rattle.number.specs.laws.Order.{less-or-not}
@@ -26,9 +26,8 @@ use Rattle.targets.specs.Target.{offAxis}
 use Rattle.tops.specs.Tops.{mostTops}
 use Rattle.grammar.specs.Syntax.{Text}
 use Rattle.grammar.specs.Grammar.{ReadsWhole}
-use Rattle.grammar.specs.inner.Parse.{parsed}
 use Rattle.grammar.specs.Size.{nodes, openAt, tooDeep, mostBytes, mostNodes, mostOpen}
-use Rattle.text.specs.Told.{badLength, noReading, tooLarge, textLines}
+use Rattle.text.specs.Told.{textLines}
 use Rattle.meaning.specs.Alike.{Same}
 use Rattle.number.specs.laws.Boolean.{clash, by-test, same, or-left, or-right, or-none, none-left, none-right, so-or}
 use Rattle.meaning.specs.inner.Coded.{coded}
@@ -50,11 +49,16 @@ use Rattle.marks.specs.Marks.{marksOf, mostMarks, latestMark, marksLine}
 use Rattle.sheet.specs.Sheet.{mostLines, noPigment}
 use Rattle.sheet.specs.Call.{sheetLines, orderLines}
 use Rattle.lab.specs.Lab.{LaboratoryText, textLine, curveLine, askerLines, labAskingLines}
-use Rattle.lab.specs.inner.Barred.{notForLaboratory}
 use Rattle.lab.specs.laws.Laboratory.{clear-laboratory, laboratory-clear}
 use Rattle.pair.specs.Pair.{badTarget, tooManyTops}
 use Rattle.report.specs.Report.{Naming, mostBatches, reportBytes, namingLines}
-use Rattle.promises.specs.Table.{Request, question, degree, pair, thin, recordingIn, textIn, ReadWith, OpenTooDeep, SetLonger, MarksOff, acceptedOrder, order, band, OneExtreme, ordering, lab-question, lab-degree, lab-pair, naming}
+use Rattle.entry.specs.Entry.{entryBytes}
+use Rattle.entry.specs.inner.Reckoned.{reckoned}
+use Rattle.entry.specs.Call.{entryLines}
+use Rattle.entry.specs.laws.Reckoned.{length-reckoned}
+use Rattle.listing.specs.Listing.{mostEntries, entryCount, listing}
+use Rattle.listing.specs.Call.{badSummary, levelLines}
+use Rattle.promises.specs.Table.{Request, question, degree, pair, thin, recordingIn, textIn, ReadWith, OpenTooDeep, SetLonger, MarksOff, acceptedOrder, order, band, OneExtreme, ordering, lab-question, lab-degree, lab-pair, naming, entry, find}
 use Rattle.promises.specs.laws.Table.{Agrees, Agree, agree-recording}
 
 -- ---- tests
@@ -575,4 +579,56 @@ agree-naming n room = (
       λ ten. tt,
     ),
   )),
+)
+
+-- ---- the calls of a summary
+
+pub agree-entry : (bytes : List ℕ) (room : ℕ) → Agree (entry bytes room) (recordingLines bytes ++ entryLines bytes room) (order (entry bytes room))
+agree-entry bytes room =
+    agree-recording (entry bytes room) (entryLines bytes room) (4 ∷ 10 ∷ []) (λ a. (
+      record {
+        number = refl;
+        named = refl;
+        placed = refl;
+        met = λ e. eqb-true (length (records bytes)) 0 e;
+        unmet = λ e p m. clash (eq-eqb (length (records bytes)) 0 m) e;
+      },
+      λ four. (
+        record {
+          number = refl;
+          named = refl;
+          placed = refl;
+          met = λ e. omega (arith, ltb-true room (length (reckoned (readings bytes))) e, length-reckoned (readings bytes));
+          unmet = λ e p m. clash (lt-ltb room (length (reckoned (readings bytes))) (omega (arith, m, length-reckoned (readings bytes)))) e;
+        },
+        λ ten. tt,
+      ),
+    ))
+
+pub agree-find : (summary : List ℕ) (curve : ℕ) (level : ℤ) (room : ℕ)
+    → Agree (find summary curve level room) (badSummary summary ∷ levelLines summary curve level room) (order (find summary curve level room))
+agree-find summary curve level room = (
+  record {
+    number = refl;
+    named = refl;
+    placed = refl;
+    met = λ e. ⊎-elim (λ h. inl (λ z. clash (eq-eqb (length summary % entryBytes) 0 z) (not-true _ h))) (λ h. inr (ltb-true mostEntries (entryCount summary) h))
+        (or-true (not (eqb (length summary % entryBytes) 0)) (ltb mostEntries (entryCount summary)) e);
+    unmet = λ e p m.
+        let o = both-off (not (eqb (length summary % entryBytes) 0)) (ltb mostEntries (entryCount summary)) e in
+        ⊎-elim (λ h. h (eqb-true (length summary % entryBytes) 0 (not-false _ (o .0)))) (λ h. clash (lt-ltb mostEntries (entryCount summary) h) (o .1)) m;
+  },
+  λ twenty. (
+    record { number = refl; named = refl; placed = refl; met = λ e. twelve-met curve level e; unmet = λ e p. twelve-unmet curve level e },
+    λ twelve. (
+      record {
+        number = refl;
+        named = refl;
+        placed = refl;
+        met = λ e. ltb-true room (length (listing (curveOf curve) level summary)) e;
+        unmet = λ e p m. clash (lt-ltb room (length (listing (curveOf curve) level summary)) m) e;
+      },
+      λ ten. tt,
+    ),
+  ),
 )

@@ -4,8 +4,7 @@ use native.Mathlib.Omega.{arith}
 use mathlib.Core.Path.{_≡_, refl, sym, ap, ap₂, subst, _∙_}
 use mathlib.Core.List.{List, [], _∷_, _++_}
 use lib.IntN.{ℤ}
-use lib.ListN.{length, take, drop}
-use lib.Seq.{take-append-seam, drop-append-seam}
+use lib.ListN.{length, drop}
 use Rattle.refusal.specs.Outcome.{Outcome, result, refused}
 use Rattle.recording.specs.Recording.{readings, recordingLines, noRecord}
 use Rattle.recording.specs.Output.{counted, outputLine}
@@ -36,11 +35,16 @@ use Rattle.report_state.specs.Call.{meanTold, answerTold, Reports, namedIndex, 
 use Rattle.report_state.specs.laws.Start.{named-mapped, start-short, start-ends}
 use Rattle.report_state.specs.laws.Add.{Fine, in-fine}
 use Rattle.reply.specs.laws.Place.{plain-place}
+use Rattle.entry.specs.inner.Reckoned.{reckoned}
+use Rattle.entry.specs.Call.{entryLines, entryOf}
+use Rattle.listing.specs.Listing.{listing}
+use Rattle.listing.specs.Call.{badSummary, levelLines, findOf}
 use Rattle.mill.specs.Calls.{BandCall, OrderCall}
-use Rattle.mill.specs.laws.Calls.{thin-in-half, question-in-half, degree-in-half, pair-in-half, band-in-half, order-in-half, lab-question-in-half, lab-degree-in-half, lab-pair-in-half}
-use Rattle.promises.specs.Table.{Request, question, degree, pair, thin, order, band, ordering, lab-question, lab-degree, lab-pair, naming}
+use Rattle.mill.specs.laws.Calls.{thin-in-half, question-in-half, degree-in-half, pair-in-half, band-in-half, order-in-half, lab-question-in-half, lab-degree-in-half, lab-pair-in-half, entry-in-half, find-in-half}
+use Rattle.promises.specs.Table.{Request, question, degree, pair, thin, order, band, ordering, lab-question, lab-degree, lab-pair, naming, entry, find}
 use Rattle.promises.specs.laws.Table.{number-bounds, AsTable, met-there, judged-told}
-use Rattle.promises.specs.laws.CallLines.{agree-question, agree-degree, agree-pair, agree-thin, agree-band, agree-order, agree-lab-question, agree-lab-degree, agree-lab-pair, agree-naming}
+use Rattle.promises.specs.laws.CallLines.{agree-question, agree-degree, agree-pair, agree-thin, agree-band, agree-order, agree-lab-question, agree-lab-degree, agree-lab-pair, agree-naming, agree-entry, agree-find}
+use Rattle.promises.specs.Output.{Wrote}
 use Rattle.promises.specs.Demands.{ByTheTable, OneAnswer, Started, HandedIn, Demand1}
 use Rattle.recording.specs.Reading.{curveOf}
 
@@ -76,22 +80,18 @@ pub kept-output : (o : Outcome (List ℕ)) (out : List ℕ) (r : ℕ) (after : L
 kept-output (result b) out r after h w k = absurd (k (ap numberIn (w .returned) ∙ number-result (length b) h))
 kept-output (refused n p) out r after h w k = w .output
 
--- and one that is not leaves the bytes that it wrote, and behind them what was there
+-- and one that is not says how many bytes it wrote, and leaves them, and behind them what was there
+pub wrote-result : (b out : List ℕ) (r : ℕ) (after : List ℕ) → InHalf (counted (result b)) → Writes (result b) out r after → Wrote b out r after
+wrote-result b out r after h w = record { a-result = ap numberIn (w .returned) ∙ number-result (length b) h; how-many = ap lowIn (w .returned) ∙ low-result (length b) h; output = w .output }
+
 pub wrote : (o : Outcome (List ℕ)) (out : List ℕ) (r : ℕ) (after : List ℕ) → InHalf (counted o) → Numbered (counted o) → Writes o out r after → numberIn r ≡ 0
-    → (b : List ℕ) × (o ≡ result b) × (lowIn r ≡ length b) × (take (lowIn r) after ≡ b) × (drop (lowIn r) after ≡ drop (lowIn r) out)
-wrote (result b) out r after h k w z =
-    let l : lowIn r ≡ length b = ap lowIn (w .returned) ∙ low-result (length b) h in (
-      b,
-      refl,
-      l,
-      ap₂ take l (w .output) ∙ take-append-seam b (drop (length b) out),
-      ap₂ drop l (w .output) ∙ drop-append-seam b (drop (length b) out) ∙ ap (λ (n : ℕ). drop n out) (sym l),
-    )
+    → (b : List ℕ) × (o ≡ result b) × Wrote b out r after
+wrote (result b) out r after h k w z = (b, refl, wrote-result b out r after h w)
 wrote (refused n p) out r after h k w z = let e = ap numberIn (w .returned) ∙ number-refused n p h in absurd (omega arith)
 
 -- two calls that write bytes, of one outcome: the same number, and the same bytes where it is a result
 pub writes-alike : {o o′ : Outcome (List ℕ)} → o ≡ o′ → InHalf (counted o) → Numbered (counted o) → {out out′ : List ℕ} {r r′ : ℕ} {after after′ : List ℕ}
-    → Writes o out r after → Writes o′ out′ r′ after′ → (r ≡ r′) × (numberIn r ≡ 0 → take (lowIn r) after ≡ take (lowIn r) after′)
+    → Writes o out r after → Writes o′ out′ r′ after′ → (r ≡ r′) × (numberIn r ≡ 0 → (b : List ℕ) × Wrote b out r after × Wrote b out′ r′ after′)
 writes-alike {o} e h k {out} {out′} {r} {r′} {after} {after′} w w′ =
     let v : Writes o out′ r′ after′ = subst (λ (x : Outcome (List ℕ)). Writes x out′ r′ after′) (sym e) w′ in
     let same : r ≡ r′ = w .returned ∙ sym (v .returned) in (
@@ -99,7 +99,7 @@ writes-alike {o} e h k {out} {out′} {r} {r′} {after} {after′} w w′ =
       λ z.
           let b = wrote o out r after h k w z in
           let c = wrote o out′ r′ after′ h k v (ap numberIn (sym same) ∙ z) in
-          b .3 ∙ one (b .0) (c .0) (sym (b .1) ∙ c .1) ∙ sym (c .3) ∙ ap (λ (n : ℕ). take (lowIn n) after′) (sym same),
+          (b .0, b .2, subst (λ (x : List ℕ). Wrote x out′ r′ after′) (sym (one (b .0) (c .0) (sym (b .1) ∙ c .1))) (c .2)),
     )
   where
     one : (x y : List ℕ) → result x ≡ result y → x ≡ y
@@ -324,6 +324,20 @@ module _ (b recording : List ℕ) (m e d x r : ℕ) (after : List ℕ) (m′ e�
   pub handed-in : Adds b recording m e d x r after m′ e′ d′ x′ → HandedIn r (four m e d x) (four m′ e′ d′ x′) b after
   handed-in w = handed-as (additionIn b recording) refl (in-fine b recording) (w .told) (w .state)
 
+-- ---- the calls of a summary
+
+pub entry-judged : (bytes : List ℕ) (room : ℕ) → AsTable (entry bytes room) (order (entry bytes room)) (entryOf bytes room)
+unfolding entryOf
+entry-judged bytes room =
+    judged-told (entry bytes room) (recordingLines bytes ++ entryLines bytes room) (order (entry bytes room)) (reckoned (readings bytes)) (agree-entry bytes room)
+
+pub find-judged : (summary : List ℕ) (curve : ℕ) (level : ℤ) (room : ℕ)
+    → AsTable (find summary curve level room) (order (find summary curve level room)) (findOf summary curve level room)
+unfolding findOf
+find-judged summary curve level room =
+    judged-told (find summary curve level room) (badSummary summary ∷ levelLines summary curve level room) (order (find summary curve level room))
+    (listing (curveOf curve) level summary) (agree-find summary curve level room)
+
 pub demand-1 : Demand1
 demand-1 = record {
   of-question = λ {recording} {text} {out} {r} {after} w.
@@ -349,4 +363,9 @@ demand-1 = record {
   of-report-start = λ {count} {text} {target} {report} {r} {after} w. start-answered (record { count = count; text = text; target = target }) report r after w;
   of-report-add = λ {report} {recording} {met} {empty} {distances} {mean} {r} {after} {met-after} {empty-after} {distances-after} {mean-after} w.
       handed-in report recording met empty distances mean r after met-after empty-after distances-after mean-after w;
+  of-entry = λ {recording} {out} {r} {after} w.
+      writes-answered (entry recording (length out)) (entryOf recording (length out)) out r after (entry-judged recording (length out)) (entry-in-half recording (length out)) w;
+  of-find = λ {summary} {curve} {level} {out} {r} {after} w.
+      writes-answered (find summary curve level (length out)) (findOf summary curve level (length out)) out r after
+      (find-judged summary curve level (length out)) (find-in-half summary curve level (length out)) w;
 }

@@ -113,10 +113,7 @@ written-set recording text out r after w z =
     let q : Request = question recording text (length out) in
     let b = wrote o out r after (question-in-half recording text (length out))
     (told-numbered q (order q) (counted o) (told-counted q (order q) o (question-told recording text (length out)))) w z in
-    record {
-      set = subst (Fixed recording text) (sym (b .3)) (stood-fixed recording recording text (own recording text (b .0) (b .1)) (length out) (b .0) (b .1));
-      behind = b .4;
-    }
+    record { written = b .0; set = stood-fixed recording recording text (own recording text (b .0) (b .1)) (length out) (b .0) (b .1); wrote = b .2 }
   where
     own : (recording text written : List ℕ) → questionOf recording text (length out) ≡ result written → InPlace recording recording text
     own recording text written e = in-its-place recording text (answered-accepted recording text (length out) written e)

@@ -17,6 +17,7 @@ use Rattle.promises.specs.CallsMade.{readOff, takenFrom}
 use Rattle.promises.specs.Demands.{RightOf, Demand3, Demands}
 use Rattle.promises.specs.laws.Demand1.{demand-1}
 use Rattle.promises.specs.laws.Demand2.{written-set, degree-meant, band-meaning, order-meaning, pair-meaning}
+use Rattle.promises.specs.laws.Summary.{entry-written, listing-written, opened-written, made-true}
 use Rattle.promises.specs.laws.Laboratory.{question-plainly, degree-plainly, pair-plainly}
 use Rattle.promises.specs.laws.Lists.{thinned-calls, accepted-after, nothing-accepted, bad-calls, taken-join, all-given, list-as-model}
 use Rattle.promises.specs.laws.Selected.{in-place, stands-in, selected-place, like-full}
@@ -60,6 +61,10 @@ demands = record {
     pair-told = λ {recording} {curve} {target} {earlier} {later} {r} {earlier-after} {later-after} w z.
         pair-meaning recording curve target earlier later r earlier-after later-after w z;
     order-told = λ {recording} {sheet} {time} {line} {r} {time-after} {line-after} w z. order-meaning recording sheet time line r time-after line-after w z;
+    entry-told = λ recording {out} {r} {after} w z. entry-written recording out r after w z;
+    listing-told = λ summary curve level {out} {r} {after} w z. listing-written summary curve level out r after w z;
+    listing-as-opened = λ recordings summary m few curve level {out} {r} {after} w z.
+        opened-written summary curve level out r after w recordings (made-true recordings summary m) z;
     lab-question-plain = λ recording marks text {out} {r} {after} w h k. question-plainly recording marks text out r after w h k;
     lab-degree-plain = λ recording marks text target {distance} {value} {r} {distance-after} {value-after} w h k.
         degree-plainly recording marks text target distance value r distance-after value-after w h k;

@@ -6,21 +6,21 @@ use mathlib.Core.Bool.{Bool, true, false, cond}
 use mathlib.Core.Logic.{_⊎_, inl, inr, ⊎-elim}
 use mathlib.Core.List.{List, [], _∷_, _++_, List·Memᴰ, List·Memᴰ·not-nil, List·Memᴰ·cases-cons}
 use lib.Dec.{ltb}
-use lib.ListN.{length, take}
+use lib.ListN.{length}
 use borrow.Author.Tests.{ltb-false, le-ltb, lt-ltb}
 use Rattle.number.specs.laws.Boolean.{clash}
 use Rattle.refusal.specs.Outcome.{Outcome, result, refused}
-use Rattle.recording.specs.Recording.{Raw, concat, recordingLines, Accepted}
+use Rattle.recording.specs.Recording.{concat, recordingLines, Accepted}
 use Rattle.recording.specs.Output.{counted, outputAfter, outputLine}
-use Rattle.recording.specs.laws.Record.{length-concat, records-concat}
-use Rattle.recording.specs.laws.Acceptance.{Good, accepted-sound, sound-accepted}
+use Rattle.recording.specs.laws.Record.{length-concat}
+use Rattle.recording.specs.laws.Acceptance.{accepted-sound, sound-accepted}
 use Rattle.recording.specs.laws.Outcome.{judged-none, append-none}
 use Rattle.marks.specs.Marks.{marksOf, marksLine, AcceptedMarks}
 use Rattle.thin.specs.Thin.{keptBytes, thinOf}
 use Rattle.thin.specs.laws.Model.{kept-join}
 use Rattle.thin.specs.laws.Cut.{sound-thinned}
 use Rattle.thin.specs.laws.Selection.{kept-selection}
-use Rattle.reply.specs.Reply.{packed, numberIn, lowIn, unpacked, InHalf}
+use Rattle.reply.specs.Reply.{packed, numberIn, unpacked, InHalf}
 use Rattle.reply.specs.laws.Unpacked.{number-result, number-refused, unpacked-packed}
 use Rattle.live_state.specs.State.{liveBytes, noState, started}
 use Rattle.live.specs.History.{History, begun, Step, add, save, restore, after, told, answer, keptRun, keptOf}
@@ -28,15 +28,16 @@ use Rattle.live.specs.Call.{StepTold, startOf, startAfter, stepOf, stateAfter, 
 use Rattle.live.specs.laws.Step.{start-by}
 use Rattle.live.specs.laws.InHalf.{step-in-half, step-numbered, start-in-half, start-numbered, held-in-half, held-numbered}
 use Rattle.live.specs.laws.Behind.{step-behind}
-use Rattle.refinement.specs.laws.Represents.{Represents, Follows, Taken}
-use Rattle.refinement.specs.laws.Run.{kept-concat, kept-sixteen}
+use Rattle.refinement.specs.laws.Represents.{Represents, Follows}
+use Rattle.refinement.specs.laws.Run.{kept-concat, kept-sixteen, taken-accepted}
 use Rattle.refinement.specs.laws.State.{the-marks, the-held}
 use Rattle.refinement.specs.laws.Follow.{step-followed, read-followed, start-followed, short-none, other-none, none-answers, none-read-out, same-marks, some-bytes}
 use Rattle.boundary.specs.Boundary.{Writes}
 use Rattle.mill.specs.Calls.{ThinCall, LiveStartCall, LiveKeptCall}
 use Rattle.mill.specs.laws.Calls.{thin-in-half}
+use Rattle.promises.specs.Output.{Wrote}
 use Rattle.promises.specs.LiveRuns.{LiveCall, step, read, LiveReturned, StepMade, LiveMade, liveNext, LiveCallsMade, historyNext, historyAfter, StepAnswered, ReadAnswered, Answered, RunHeld, AsTheHistory, HeldLikeRun, OneLiveAnswer, OneStartAnswer, LiveDemand1, LiveRuns}
-use Rattle.promises.specs.laws.Demand1.{kept-output, wrote}
+use Rattle.promises.specs.laws.Demand1.{kept-output, wrote-result}
 use Rattle.promises.specs.laws.Selected.{selected-place}
 
 -- ---- one call
@@ -71,13 +72,6 @@ read-answered h live f out y w =
       writes = w .output ∙ ap (λ (o : Outcome (List ℕ)). outputAfter o out) e;
     }
 
--- the run is an accepted recording
-taken-accepted : (ks : List ℕ) (run : List Raw) → Taken ks run → Accepted (concat run)
-taken-accepted ks run t =
-    let l = length-concat run (t .sixteens) in
-    let few = t .few in
-    sound-accepted (concat run) (record { whole = omega arith; few = omega arith; good = subst (Good 0) (sym (records-concat run (t .sixteens))) (t .good) })
-
 run-held : (h : History) (live : List ℕ) → Follows h live → AcceptedMarks (h .marks) → RunHeld h live
 run-held h live f fine = ⊎-elim holds (λ b. absurd (clash (b .0) (fine .0))) f
   where
@@ -92,7 +86,7 @@ run-held h live f fine = ⊎-elim holds (λ b. absurd (clash (b .0) (fine .0))) 
 
 -- ---- every list
 
-follows-next : (h : History) (live : List ℕ) → Follows h live → (c : LiveCall) (y : LiveReturned) → LiveMade live c y → Follows (historyNext h c) (liveNext live c y)
+pub follows-next : (h : History) (live : List ℕ) → Follows h live → (c : LiveCall) (y : LiveReturned) → LiveMade live c y → Follows (historyNext h c) (liveNext live c y)
 follows-next h live f (step s) y m = subst (Follows (after h s)) (sym (step-told live s y m .state)) (step-followed h live f s .follows)
 follows-next h live f (read out) y m = f
 
@@ -107,7 +101,7 @@ from-state h live f (c ∷ cs) (y ∷ ys) m =
     (run-held h live f, answered h live f c y (m .0), from-state (historyNext h c) (liveNext live c y) (follows-next h live f c y (m .0)) cs ys (m .1))
 
 -- a start that is not refused with 10: the buffer is long, or 11 refuses the marks
-not-ten : (marks buffer live : List ℕ) (r : ℕ) → LiveStartCall marks buffer r live → ¬ (numberIn r ≡ 10) → (liveBytes ≤ length buffer) ⊎ (marksLine marks .meets ≡ true)
+pub not-ten : (marks buffer live : List ℕ) (r : ℕ) → LiveStartCall marks buffer r live → ¬ (numberIn r ≡ 10) → (liveBytes ≤ length buffer) ⊎ (marksLine marks .meets ≡ true)
 not-ten marks buffer live r w k = by (marksLine marks .meets) (ltb (length buffer) liveBytes) refl refl
   where
     by : (a b : Bool) → marksLine marks .meets ≡ a → ltb (length buffer) liveBytes ≡ b → (liveBytes ≤ length buffer) ⊎ (marksLine marks .meets ≡ true)
@@ -151,17 +145,13 @@ held-like h fine a =
   where
     on : (piece out : List ℕ) (r : ℕ) (written : List ℕ) → Accepted (concat (h .run) ++ piece) → length (keptBytes (marksOf (h .marks)) (concat (h .run) ++ piece)) ≤ length out
         → ThinCall (keptRun h ++ piece) (h .marks) out r written
-        → (numberIn r ≡ 0) × (take (lowIn r) written ≡ keptBytes (marksOf (h .marks)) (concat (h .run) ++ piece))
+        → Wrote (keptBytes (marksOf (h .marks)) (concat (h .run) ++ piece)) out r written
     on piece out r written b long w =
         let k : List ℕ = keptBytes (marksOf (h .marks)) (concat (h .run) ++ piece) in
         let o : Outcome (List ℕ) = thinOf (keptRun h ++ piece) (h .marks) (length out) in
         let e : o ≡ result k = thinned-on (h .marks) (concat (h .run)) piece fine (accepted-sound (concat (h .run)) a .whole) (length out) b long in
         let i : InHalf (counted (result k)) = subst (λ (p : Outcome (List ℕ)). InHalf (counted p)) e (thin-in-half (keptRun h ++ piece) (h .marks) (length out)) in
-        let w′ : Writes (result k) out r written = subst (λ (p : Outcome (List ℕ)). Writes p out r written) e w in
-        let z : numberIn r ≡ 0 = ap numberIn (w′ .returned) ∙ number-result (length k) i in
-        let q = wrote (result k) out r written i tt w′ z in
-        let f : k ≡ q .0 = cc in
-        (z, q .3 ∙ sym f)
+        wrote-result k out r written i (subst (λ (p : Outcome (List ℕ)). Writes p out r written) e w)
 
 -- ---- DEMAND 1
 
@@ -207,7 +197,7 @@ live-demand-1 =
     record {
       of-start = λ {marks} {buffer} {live} {r} w. start-once marks buffer live r w;
       of-step = λ live s y m. step-once live s y m;
-      of-kept = λ live {out} {r} {written} w. kept-once live out r written w;
+      of-kept = λ live {out} {r} {written} w. record { one = kept-once live out r written w; writes = w .output };
       behind = λ live s y m. subst (Behind live) (sym (step-told live s y m .state)) (step-behind live s);
       no-states =
           record {

@@ -2,38 +2,25 @@
 -- goes as far up and down, also after each mark.
 use Prim.Native.Nat.{ℕ, min}
 use native.Mathlib.Omega.{arith}
-use mathlib.Core.Path.{_≡_, refl, sym, ap, _∙_, subst}
-use mathlib.Core.Bool.{Bool, true, false, _&&_, _||_, false≢true}
-use mathlib.Core.Logic.{⊎-elim}
-use mathlib.Core.List.{List, [], _∷_, List·Memᴰ, List·Memᴰ·not-nil, List·Memᴰ·cases-cons}
+use mathlib.Core.Path.{_≡_, refl, sym, ap, _∙_}
+use mathlib.Core.Bool.{Bool, true, false, _&&_, false≢true}
+use mathlib.Core.List.{List, [], _∷_}
 use lib.IntN.{ℤ}
 use lib.Dec.{ltb}
 use lib.Signed.{leZ, ltZ}
 use borrow.Author.Tests.{not-true, not-false}
-use Rattle.recording.specs.Condition.{Condition, _∪_, someOf}
-use Rattle.number.specs.laws.Boolean.{off, and-left, and-right}
+use Rattle.number.specs.laws.Boolean.{and-left, and-right}
 use Rattle.number.specs.laws.Words.{leZ-not-ltZ}
 use Rattle.recording.specs.laws.Value.{ltZ-asym, lt-le-trans, ltZ-between}
-use Rattle.recording.specs.Reading.{Reading, Curve, value}
+use Rattle.recording.specs.Reading.{Reading, value}
 use Rattle.meaning.specs.Listed.{recordAt}
 use Rattle.meaning.specs.Meaning.{lastOf, readingAt}
 use Rattle.meaning.specs.Alike.{Alike}
 use Rattle.meaning.specs.laws.Alike.{Tested, tested-alike}
-use Rattle.kept.specs.Kept.{firstGreatest, less, more, extremes, anyTime, after, keptFor}
+use Rattle.kept.specs.Kept.{less, more, anyTime, after, keptFor}
 use Rattle.kept.specs.Selection.{flags, select, Includes}
-use Rattle.kept.specs.laws.Stability.{_⊑_, left, right, select-blind}
-use Rattle.kept.specs.laws.Rule.{some-blind}
-use Rattle.kept.specs.laws.Kept.{kept-piecewise, on-curve, extremes-kept, extremes-after-kept, same-events, same-additions}
-
--- ---- which records the rule keeps for their value
-
-greatest : (q : Reading → Bool) (c : Curve) → firstGreatest (less c) q ⊑ extremes q
-greatest q c b x a h =
-    on-curve (λ c. firstGreatest (less c) q ∪ firstGreatest (more c) q) c b x a (left (firstGreatest (less c) q) (firstGreatest (more c) q) b x a h)
-
-least : (q : Reading → Bool) (c : Curve) → firstGreatest (more c) q ⊑ extremes q
-least q c b x a h =
-    on-curve (λ c. firstGreatest (less c) q ∪ firstGreatest (more c) q) c b x a (right (firstGreatest (less c) q) (firstGreatest (more c) q) b x a h)
+use Rattle.kept.specs.laws.Kept.{extremes-kept, extremes-after-kept, same-events, same-additions}
+use Rattle.kept.specs.laws.Seen.{greatest, least, seen}
 
 -- ---- tests that go up or down with the value
 
@@ -48,16 +35,6 @@ and-off true f h k = h
 and-off false f h k = absurd (false≢true k)
 
 module _ (marks : List ℕ) (r : List Reading) (mask : List Bool) (w : Includes mask (flags (keptFor marks) r)) where
-  -- a test that the first greatest passes if any record does
-  seen : (q : Reading → Bool) (under : Reading → Reading → Bool) → firstGreatest under q ⊑ keptFor marks → (P : Reading → Bool)
-      → ((x : Reading) → P x ≡ true → q x ≡ true)
-      → ((x y : Reading) → P x ≡ true → P y ≡ false → q y ≡ true → under y x ≡ true)
-      → ((x y : Reading) → under x y ≡ true → under y x ≡ false)
-      → someOf P (select mask r) ≡ someOf P r
-  seen q under le P within upward asym =
-      select-blind (keptFor marks) (kept-piecewise marks .stable) (someOf P)
-      (λ b x a f. some-blind q under P within upward asym b x a (off (le b x a) f)) r mask w
-
   same-first : readingAt (select mask r) 0 ≡ readingAt r 0
   same-first = go r mask w
     where
@@ -76,21 +53,21 @@ module _ (marks : List ℕ) (r : List Reading) (mask : List Bool) (w : Includes 
   selection-tested : Tested marks (select mask r) r
   selection-tested = record {
     first = same-first;
-    up = λ c z. seen anyTime (less c) (λ b x a h. extremes-kept marks b x a (greatest anyTime c b x a h)) (λ x. leZ z (value c x))
+    up = λ c z. seen marks r mask w anyTime (less c) (λ b x a h. extremes-kept marks b x a (greatest anyTime c b x a h)) (λ x. leZ z (value c x))
         (λ x h. refl)
         (λ x y h k q. lt-le-trans (value c y) z (value c x) (not-le z (value c y) k) (le-above z (value c x) h))
         (λ x y h. ltZ-asym (value c x) (value c y) h);
-    down = λ c z. seen anyTime (more c) (λ b x a h. extremes-kept marks b x a (least anyTime c b x a h)) (λ x. leZ (value c x) z)
+    down = λ c z. seen marks r mask w anyTime (more c) (λ b x a h. extremes-kept marks b x a (least anyTime c b x a h)) (λ x. leZ (value c x) z)
         (λ x h. refl)
         (λ x y h k q. ltZ-between z (value c x) (value c y) (not-le (value c y) z k) (le-above (value c x) z h))
         (λ x y h. ltZ-asym (value c y) (value c x) h);
     up-after = λ m e c z.
-        seen (after m) (less c) (λ b x a h. extremes-after-kept marks m e b x a (greatest (after m) c b x a h)) (λ x. ltb m (x .time) && ltZ z (value c x))
+        seen marks r mask w (after m) (less c) (λ b x a h. extremes-after-kept marks m e b x a (greatest (after m) c b x a h)) (λ x. ltb m (x .time) && ltZ z (value c x))
         (λ x h. and-left (ltb m (x .time)) (ltZ z (value c x)) h)
         (λ x y h k q. ltZ-between z (value c y) (value c x) (and-right (ltb m (x .time)) (ltZ z (value c x)) h) (and-off (ltb m (y .time)) (ltZ z (value c y)) k q))
         (λ x y h. ltZ-asym (value c x) (value c y) h);
     down-after = λ m e c z.
-        seen (after m) (more c) (λ b x a h. extremes-after-kept marks m e b x a (least (after m) c b x a h)) (λ x. ltb m (x .time) && leZ (value c x) z)
+        seen marks r mask w (after m) (more c) (λ b x a h. extremes-after-kept marks m e b x a (least (after m) c b x a h)) (λ x. ltb m (x .time) && leZ (value c x) z)
         (λ x h. and-left (ltb m (x .time)) (leZ (value c x) z) h)
         (λ x y h k q. ltZ-between z (value c x) (value c y) (not-le (value c y) z (and-off (ltb m (y .time)) (leZ (value c y) z) k q)) (le-above (value c x) z (and-right (ltb m (x .time)) (leZ (value c x) z) h)))
         (λ x y h. ltZ-asym (value c y) (value c x) h);

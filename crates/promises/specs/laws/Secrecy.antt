@@ -1,18 +1,18 @@
--- SECRECY holds: a laboratory text names the public channels only, so it means the same of both recordings, and of every selection in the place of either.
-use Prim.Native.Nat.{ℕ, zero, suc, _*_, _+_, _≤_, _<_}
+-- SECRECY holds: a laboratory text names the public parts only, so it means the same of both recordings, and of every selection in the place of either.
+use Prim.Native.Nat.{ℕ, zero, suc, _+_, _≤_}
 use native.Mathlib.Omega.{arith}
 use mathlib.Core.Path.{_≡_, refl, sym, ap, ap₂, subst, _∙_, fun-ext}
-use mathlib.Core.Bool.{Bool, true, false, _||_}
-use mathlib.Core.List.{List, [], _∷_, _++_, map}
+use mathlib.Core.Bool.{Bool, false, _||_}
+use mathlib.Core.List.{List, [], _∷_, _++_}
 use lib.Dec.{eqb, ltb}
 use lib.IntN.{ℤ}
-use lib.ListN.{length, take, length-map}
-use borrow.Author.Tests.{ltb-false, eqb-false, eqb-true}
+use lib.ListN.{length, length-map}
+use borrow.Author.Tests.{ltb-false, eqb-false}
 use Rattle.number.specs.laws.Boolean.{then, back, none-left}
-use Rattle.refusal.specs.Outcome.{Outcome, result, refused, Line, line, judged, NoneMeets}
+use Rattle.refusal.specs.Outcome.{Outcome, result, refused, Line, line, judged}
 use Rattle.recording.specs.Condition.{pick}
-use Rattle.recording.specs.Reading.{Reading, Curve, A, B, top, curveOf, a-top}
-use Rattle.recording.specs.Recording.{Raw, records, reading, readings, recordingLines, noRecord, Accepted}
+use Rattle.recording.specs.Reading.{Reading, A, B, top, curveOf, a-top}
+use Rattle.recording.specs.Recording.{records, reading, readings, recordingLines, noRecord, Accepted}
 use Rattle.recording.specs.Output.{counted, outputLine, outputAfter}
 use Rattle.recording.specs.laws.Outcome.{judged-pass}
 use Rattle.runs.specs.Runs.{setBytes}
@@ -21,7 +21,7 @@ use Rattle.tops.specs.Tops.{recordedTime, eventTimes, topTimes, mostTops}
 use Rattle.grammar.specs.Syntax.{Text}
 use Rattle.text.specs.Told.{textLines}
 use Rattle.meaning.specs.Alike.{Same}
-use Rattle.meaning.specs.Named.{Channel, curve, additions, Names, Agreeing}
+use Rattle.meaning.specs.Named.{Channel, curve, additions, Names}
 use Rattle.meaning.specs.laws.Named.{length-agreeing, same-times, top-blind, agreeing-same}
 use Rattle.meaning.specs.inner.Coded.{index}
 use Rattle.question.specs.Question.{read, answer, setLines}
@@ -30,16 +30,14 @@ use Rattle.pair.specs.Pair.{Given, times, none, pairsOf, firstApart, firstPair,
 use Rattle.marks.specs.Marks.{marksOf}
 use Rattle.lab.specs.Lab.{LaboratoryText, askerLines, curveLine, labAskingLines, labQuestionOf, labDegreeOf, labPairOf}
 use Rattle.lab.specs.laws.Laboratory.{clear-laboratory}
-use Rattle.thin.specs.Thin.{keptBytes}
 use Rattle.thin.specs.Selection.{Selection}
 use Rattle.thin.specs.laws.Selection.{kept-selection, whole-selection}
 use Rattle.recording.specs.laws.Acceptance.{accepted-sound}
-use Rattle.reply.specs.Reply.{half, packed, InHalf, numberIn, lowIn}
 use Rattle.reply.specs.laws.Unpacked.{Numbered}
-use Rattle.boundary.specs.Boundary.{Writes, Degrees, valueTold, distanceAfter, degreeAfter, Pairs, pairTold, earlierAfter, laterAfter}
-use Rattle.mill.specs.laws.Calls.{lab-question-in-half, lab-degree-in-half, lab-pair-in-half}
+use Rattle.boundary.specs.Boundary.{Degrees, valueTold, distanceAfter, degreeAfter, Pairs, pairTold, earlierAfter, laterAfter}
+use Rattle.mill.specs.laws.Calls.{lab-question-in-half}
 use Rattle.promises.specs.StandIn.{StandIn}
-use Rattle.promises.specs.Secrecy.{Public, the-batch, the-additions, AllButB, SameBytes, SamePlaces, SameToLab, Secrecy}
+use Rattle.promises.specs.Secrecy.{Public, the-batch, the-additions, AllButB, SamePlaces, SameToLab, Secrecy}
 use Rattle.promises.specs.Table.{Request, order, lab-question, lab-degree, lab-pair}
 use Rattle.promises.specs.laws.Table.{AsTable, number-bounds}
 use Rattle.promises.specs.laws.StandIn.{judged-behind, same-noRecord, stand-same, meant-val, meant-lines}

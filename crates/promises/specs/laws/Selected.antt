@@ -1,9 +1,8 @@
 -- DEMAND 3, of readings in the place of a recording: stand-ins, and every selection that includes the kept readings.
 use Prim.Native.Nat.{ℕ, _≤_}
-use mathlib.Core.Path.{_≡_, sym, ap, ap₂, subst, _∙_}
+use mathlib.Core.Path.{_≡_, ap, subst}
 use mathlib.Core.List.{List, [], _∷_, _++_}
-use lib.ListN.{length, take, drop}
-use lib.Seq.{take-append-seam}
+use lib.ListN.{length}
 use borrow.Author.Tests.{le-ltb}
 use Rattle.refusal.specs.Outcome.{Outcome, result}
 use Rattle.recording.specs.Recording.{Accepted, recordingLines}
@@ -18,8 +17,7 @@ use Rattle.question.specs.laws.Lines.{read-reads}
 use Rattle.band.specs.Means.{empty}
 use Rattle.thin.specs.Thin.{keptBytes, thinOf}
 use Rattle.marks.specs.Marks.{marksOf, marksLine, AcceptedMarks}
-use Rattle.reply.specs.Reply.{packed, InHalf, numberIn, lowIn}
-use Rattle.reply.specs.laws.Unpacked.{number-result, low-result}
+use Rattle.reply.specs.Reply.{InHalf, numberIn}
 use Rattle.boundary.specs.Boundary.{Writes}
 use Rattle.boundary.specs.laws.Boundary.{degrees-same, pairs-same, bands-same, orders-same}
 use Rattle.mill.specs.Calls.{QuestionCall, ThinCall}
@@ -34,8 +32,9 @@ use Rattle.thin.specs.laws.Selection.{selection-thinned}
 use Rattle.promises.specs.laws.StandIn.{stand-same}
 use Rattle.promises.specs.KeptAsFull.{Askable, SameAnswers}
 use Rattle.promises.specs.laws.KeptAsFull.{selected-as-full}
-use Rattle.promises.specs.Demands.{Fixed, AskedOfKept, RightOf, LikeFull, InPlaceOf}
-use Rattle.promises.specs.laws.Demand1.{judged-number, told-counted, told-numbered, wrote, writes-alike, question-told, demand-1}
+use Rattle.promises.specs.Output.{Wrote}
+use Rattle.promises.specs.Demands.{AskedOfKept, RightOf, LikeFull, InPlaceOf}
+use Rattle.promises.specs.laws.Demand1.{judged-number, told-counted, told-numbered, wrote-result, wrote, writes-alike, question-told, demand-1}
 use Rattle.promises.specs.laws.Demand2.{stood-told, stood-fixed, written-set}
 
 -- ---- DEMAND 3: kept readings in the place of the recording
@@ -61,7 +60,7 @@ stands-in full held text out place r after w =
     record {
       refusal = judged-number q acceptedOrder (counted o) r (w .returned) h t;
       set = λ z. let b = wrote o out r after h (told-numbered q acceptedOrder (counted o) t) w z in
-          subst (Fixed full text) (sym (b .3)) (stood-fixed full held text place (length out) (b .0) (b .1));
+          record { written = b .0; set = stood-fixed full held text place (length out) (b .0) (b .1); wrote = b .2 };
     }
 
 -- ---- DEMAND 3: selections in the place of the recording
@@ -95,18 +94,18 @@ module _ (marks recording held : List ℕ) (fine : AcceptedMarks marks) (a : Acc
     pair = λ curve target w. pairs-same (answers .pair curve target) w;
     band = λ {text} e l w. bands-same (answers .band text (asked-askable marks text l) e) w;
     order-sheet = λ sheet w. orders-same (answers .ordering sheet) w;
+    entry = λ {out} {r} {after} w. subst (λ (o : Outcome (List ℕ)). Writes o out r after) (answers .entry (length out)) w;
     thinning = selected-thin;
     thins-back = λ {out} {r} {after} room w.
         let e = thinned-whole marks fine recording a (length out) room in
         let h : InHalf (counted (result (keptBytes (marksOf marks) recording))) = subst (λ (o : Outcome (List ℕ)). InHalf (counted o)) e (thin-in-half recording marks (length out)) in
         let v : Writes (result (keptBytes (marksOf marks) recording)) out r after = subst (λ (o : Outcome (List ℕ)). Writes o out r after) e (selected-thin w) in
-        let l : lowIn r ≡ length (keptBytes (marksOf marks) recording) = ap lowIn (v .returned) ∙ low-result _ h in
-        (ap numberIn (v .returned) ∙ number-result _ h, ap₂ take l (v .output) ∙ take-append-seam (keptBytes (marksOf marks) recording) _);
+        wrote-result (keptBytes (marksOf marks) recording) out r after h v;
   }
 
 -- two calls alike in all but their outputs, which have one length
 same-written : (recording text : List ℕ) {out out′ : List ℕ} {r r′ : ℕ} {after after′ : List ℕ} → length out ≡ length out′ → QuestionCall recording text out r after
-    → QuestionCall recording text out′ r′ after′ → (r ≡ r′) × (numberIn r ≡ 0 → take (lowIn r) after ≡ take (lowIn r) after′)
+    → QuestionCall recording text out′ r′ after′ → (r ≡ r′) × (numberIn r ≡ 0 → (b : List ℕ) × Wrote b out r after × Wrote b out′ r′ after′)
 same-written recording text {out} e w w′ =
     let q : Request = question recording text (length out) in
     let o : Outcome (List ℕ) = questionOf recording text (length out) in
@@ -116,12 +115,12 @@ same-written recording text {out} e w w′ =
 -- "the same set in the same bytes, or the same refusal": of every selection that includes the kept readings
 pub like-full : (marks : List ℕ) → AcceptedMarks marks → {recording held text : List ℕ} → Accepted recording → Selection (marksOf marks) recording held → AskedOfKept marks text
     → {out out′ : List ℕ} → length out ≡ length out′ → {r r′ : ℕ} {after after′ : List ℕ} → QuestionCall held text out r after
-    → QuestionCall recording text out′ r′ after′ → LikeFull recording text out r r′ after after′
+    → QuestionCall recording text out′ r′ after′ → LikeFull recording text out out′ r r′ after after′
 like-full marks fine {recording} {held} {text} a s l {out} {out′} e {r} {r′} {after} {after′} w w′ =
     let v = selected-question marks recording held fine a s l w in
     let k = same-written recording text e v w′ in
     record {
       same = k .0;
       same-bytes = k .1;
-      right = record { refusal = demand-1 .of-question v .result-or-refusal; set = λ z. written-set recording text out r after v z .set };
+      right = record { refusal = demand-1 .of-question v .result-or-refusal; set = λ z. written-set recording text out r after v z };
     }

@@ -1,4 +1,4 @@
--- A stand-in answers as the recording does: the question, the degree, the band, the pair and the order call. Every selection that includes the kept readings is one.
+-- A stand-in answers as the recording does: the question, the degree, the band, the pair, the order and the entry call. Every selection that includes the kept readings is one.
 use Prim.Native.Nat.{ℕ, _<_}
 use native.Mathlib.Omega.{arith}
 use native.Mathlib.Decide.{decLt}
@@ -19,11 +19,11 @@ use Rattle.recording.specs.Output.{outputLine}
 use Rattle.recording.specs.laws.Outcome.{judged-pass}
 use Rattle.runs.specs.Runs.{setBytes}
 use Rattle.runs.specs.laws.Runs.{setBytes-ext}
-use Rattle.tops.specs.Tops.{recordedTime, eventTimes, topTimes, mostTops}
+use Rattle.tops.specs.Tops.{recordedTime, eventTimes, mostTops}
 use Rattle.grammar.specs.Syntax.{Text}
 use Rattle.text.specs.Told.{textLines}
 use Rattle.meaning.specs.inner.Coded.{coded, index}
-use Rattle.meaning.specs.inner.Truth.{val, refused8, refused9}
+use Rattle.meaning.specs.inner.Truth.{val}
 use Rattle.meaning.specs.Alike.{Plain, Alike, Same}
 use Rattle.meaning.specs.laws.Alike.{alike-same}
 use Rattle.number.specs.laws.Boolean.{same, clash}
@@ -46,6 +46,9 @@ use Rattle.sheet.specs.Sheet.{sheetOf, badSheet}
 use Rattle.sheet.specs.Finding.{Finding}
 use Rattle.sheet.specs.Call.{sheetLines, orderOf}
 use Rattle.sheet.specs.laws.Same.{same-finding}
+use Rattle.entry.specs.inner.Reckoned.{reckoned}
+use Rattle.entry.specs.Call.{entryLines, entryOf}
+use Rattle.entry.specs.laws.Selected.{selected-entry}
 use Rattle.kept.specs.Kept.{keptFor}
 use Rattle.kept.specs.Selection.{flagsFrom, flags, select, Includes}
 use Rattle.marks.specs.Marks.{marksOf}
@@ -207,9 +210,17 @@ module _ (marks full held : List ℕ) (s : StandIn (marksOf marks) full held) (a
       (same-finding (sheetOf sheet) full held accepted (s .accepted) (s .alike .additions))
       ∙ sym (judged-pass (recordingLines full) (sheetLines full sheet) _ accepted)
 
+  -- THE ENTRY CALL: the same entry, or the same refusal
+  pub stand-entry : (room : ℕ) → entryOf held room ≡ entryOf full room
+  unfolding entryOf
+  stand-entry room =
+      judged-pass (recordingLines held) (entryLines held room) _ (s .accepted)
+      ∙ ap₂ (λ (l : Line) (e : List ℕ). judged (l ∷ outputLine room e ∷ []) e) (same-noRecord (marksOf marks) full held s) (s .same-entry)
+      ∙ sym (judged-pass (recordingLines full) (entryLines full room) _ accepted)
+
   -- A STAND-IN GIVES THE SAME ANSWERS
   pub stand-answers : SameAnswers marks held full
-  stand-answers = record { question = stand-question; reach = stand-reach; degree = stand-degree; pair = stand-pair; band = stand-band; ordering = stand-order }
+  stand-answers = record { question = stand-question; reach = stand-reach; degree = stand-degree; pair = stand-pair; band = stand-band; ordering = stand-order; entry = stand-entry }
 
 -- ---- selections
 
@@ -250,4 +261,5 @@ selection-stands ks full held a h =
       empty = (λ z. sym m ∙ none .0 (sym n ∙ l ∙ z), λ z. sym l ∙ n ∙ none .1 (m ∙ z));
       single = (λ z. sym m ∙ one .0 (sym n ∙ l ∙ z), λ z. sym l ∙ n ∙ one .1 (m ∙ z));
       alike = subst (λ (r : List Reading). Alike ks r (readings full)) (sym e) (selection-alike ks (readings full) (h .mask) (h .includes));
+      same-entry = ap reckoned e ∙ selected-entry ks (readings full) (h .mask) (h .includes);
     }

@@ -1,22 +1,20 @@
 -- The lines that a call computes are the lines of the table: each meets exactly where its condition is met, once none before it does.
-use Prim.Native.Nat.{ℕ, _*_, _/_, _%_, _≤_, _<_}
+use Prim.Native.Nat.{ℕ, _/_, _%_, _≤_, _<_}
 use native.Mathlib.Omega.{arith}
-use mathlib.Core.Path.{_≡_, refl, sym, ap, subst, _∙_}
-use mathlib.Core.Bool.{Bool, true, false, So, not, cond, _||_, true≢false, false≢true}
-use mathlib.Core.Logic.{_⊎_, inl, inr, ⊎-elim, _↔_}
+use mathlib.Core.Path.{_≡_, refl, sym, subst, _∙_}
+use mathlib.Core.Bool.{Bool, true, false, not, cond, true≢false}
+use mathlib.Core.Logic.{_⊎_, inl, inr, ⊎-elim}
 use mathlib.Core.List.{List, [], _∷_, _++_, List·Memᴰ, List·Memᴰ·head, List·Memᴰ·tail, List·Memᴰ·not-nil, List·Memᴰ·cases-cons}
-use lib.Dec.{eqb, ltb}
+use lib.Dec.{eqb}
 use lib.ListN.{length}
-use borrow.Author.Tests.{eqb-true, eqb-false, eq-eqb, ltb-true, ltb-false, lt-ltb, le-ltb, not-true, not-false}
-use Rattle.number.specs.Axis.{axis, whole}
-use Rattle.number.specs.laws.Least.{least-le, least-holds, least-first, least-is, least-none}
-use Rattle.refusal.specs.Outcome.{Outcome, result, refused, Line, line, judged, NoneMeets}
+use borrow.Author.Tests.{eqb-true, eq-eqb, ltb-true, ltb-false, lt-ltb, not-true, not-false}
+use Rattle.number.specs.laws.Least.{least-holds, least-first}
+use Rattle.refusal.specs.Outcome.{Outcome, result, refused, Line, judged}
 use Rattle.refusal.specs.Numbers.{numberOf, placeOf}
 use Rattle.refusal.specs.declared.Refusal.{Refusal}
-use Rattle.refusal.specs.declared.Refusal.the-variants.{PartialRecord, TooManyRecords, BadRecord, NoRecord, TextLength, NoReading, TextTooLarge, TooManyRuns, TooManyTops, ShortOutput, BadMarks, BadTarget, BadSheet, NotForLaboratory, NoReport, BadBand, NotBandQuestion, BadMoment, TooManyKept}
-use Rattle.recording.specs.Recording.{Raw, records, readings, lawful, firstBad, mostRecords, recordingLines, noRecord, Accepted}
-use Rattle.recording.specs.laws.Outcome.{no-result}
-use Rattle.promises.specs.Table.{Request, recordingIn, textIn, FirstBroken, Met, NoneMet, FirstMet}
+use Rattle.refusal.specs.declared.Refusal.the-variants.{PartialRecord, TooManyRecords, BadRecord, NoRecord, TextLength, NoReading, TextTooLarge, TooManyRuns, TooManyTops, ShortOutput, BadMarks, BadTarget, BadSheet, NotForLaboratory, NoReport, BadBand, NotBandQuestion, BadMoment, TooManyKept, BadSummary}
+use Rattle.recording.specs.Recording.{Raw, records, lawful, firstBad, mostRecords, recordingLines, Accepted}
+use Rattle.promises.specs.Table.{Request, recordingIn, FirstBroken, Met, NoneMet, FirstMet}
 
 -- ---- refusals by their numbers
 
@@ -40,7 +38,8 @@ refusalOf n p =
     (cond (eqb n 15) NoReport
     (cond (eqb n 16) BadBand
     (cond (eqb n 17) NotBandQuestion
-    (cond (eqb n 18) BadMoment TooManyKept)))))))))))))))))
+    (cond (eqb n 18) BadMoment
+    (cond (eqb n 19) TooManyKept BadSummary))))))))))))))))))
 
 refusal-back : (x : Refusal) → refusalOf (numberOf x) (placeOf x) ≡ x
 refusal-back PartialRecord = refl
@@ -62,8 +61,9 @@ refusal-back BadBand = refl
 refusal-back NotBandQuestion = refl
 refusal-back BadMoment = refl
 refusal-back TooManyKept = refl
+refusal-back BadSummary = refl
 
-pub number-bounds : (x : Refusal) → (0 < numberOf x) × (numberOf x < 20)
+pub number-bounds : (x : Refusal) → (0 < numberOf x) × (numberOf x < 21)
 number-bounds PartialRecord = (omega arith, omega arith)
 number-bounds TooManyRecords = (omega arith, omega arith)
 number-bounds (BadRecord i) = (omega arith, omega arith)
@@ -83,6 +83,7 @@ number-bounds BadBand = (omega arith, omega arith)
 number-bounds NotBandQuestion = (omega arith, omega arith)
 number-bounds BadMoment = (omega arith, omega arith)
 number-bounds TooManyKept = (omega arith, omega arith)
+number-bounds BadSummary = (omega arith, omega arith)
 
 -- ---- lines that agree with the table
 
