@@ -1,7 +1,7 @@
 /*
 ** mill.h: questions about recordings of bead mills, and their thinning.
 **
-** Sixteen calls on plain bytes. Each answers with its result or with one numbered
+** Nineteen calls on plain bytes. Each answers with its result or with one numbered
 ** refusal, for every input that can be handed in; a caller needs to test
 ** nothing first. A call reads only the bytes that it is given, keeps nothing
 ** from one call to the next (what must last lies in the caller's memory: CARRIED,
@@ -57,6 +57,21 @@
 ** for every set; the empty set needs none.
 **
 **
+** ENTRY. What a summary holds of a recording: MILL_ENTRY_BYTES bytes, eight numbers of
+** 32 bits, little-endian, the times and the tops unsigned, the values signed:
+**
+**   offset  0   the first time
+**   offset  4   the last time
+**   offset  8   the greatest A
+**   offset 12   the least A
+**   offset 16   the greatest B
+**   offset 20   the least B
+**   offset 24   how many tops A has
+**   offset 28   how many tops B has
+**
+** A summary is 0 to MILL_MAX_ENTRIES entries, one behind another.
+**
+**
 ** RETURN VALUES. The high 32 bits are the number of the refusal, 0 for a
 ** result. The low 32 bits are the result or, with a refusal, its place: the
 ** index of the record, from 0, for MILL_BAD_RECORD, else 0.
@@ -70,7 +85,7 @@
 **
 ** A pointer must point to as many bytes as the length that follows it says.
 ** Bytes need no alignment; uint32_t, uint64_t, int32_t and double are aligned as C has
-** them. Inputs (recording, text, marks, sheet) may overlap each other in any way.
+** them. Inputs (recording, text, marks, sheet, entries) may overlap each other in any way.
 ** An output (out, distance, degree, earlier, later, the ends of mill_band, time,
 ** line, met, empty, distances, mean) must not overlap an input nor another output; where one does, nothing is
 ** promised. While a call runs, no other thread may write an input or touch an
@@ -118,10 +133,12 @@ extern "C" {
 #define MILL_RUN_BYTES 8
 #define MILL_MARK_BYTES 4
 #define MILL_LINE_BYTES 2
+#define MILL_ENTRY_BYTES 32
 #define MILL_SET_BYTES 2048 /* MILL_MAX_RUNS runs: always room enough */
 #define MILL_REPORT_BYTES 320 /* a report under way */
 #define MILL_LIVE_BYTES 18624 /* a growing run with its moments */
 #define MILL_HELD_BYTES 2048 /* MILL_MAX_HELD readings: always room enough for what a run holds */
+#define MILL_FOUND_BYTES 8192 /* MILL_MAX_ENTRIES numbers: always room enough for what mill_find finds */
 
 /* Limits. */
 #define MILL_MAX_RECORDS 4096        /* records of a recording */
@@ -141,14 +158,15 @@ extern "C" {
 #define MILL_MAX_BATCHES 1000        /* recordings of a report */
 #define MILL_MAX_HELD 128            /* kept readings of a growing run */
 #define MILL_MAX_MOMENTS 8           /* moments of a growing run, named 1 to this */
+#define MILL_MAX_ENTRIES 2048        /* entries of a summary */
 
 /*
 ** Bytes of stack with which each call does. Measured on x86-64 with the deepest
 ** inputs known, and rounded up: 170,615 for questions and degrees, a laboratory's
 ** and a report's among them (31 times ! before lag), 103,119 for bands and for
 ** naming a report (256 times an open bracket), 10,551 for a reading of a growing
-** run, 8,391 for thinning, 1,302 for pairs, 503 for order sheets, 103 for the other
-** calls of a growing run. No proof bounds the stack.
+** run, 8,391 for thinning, 1,302 for pairs, 503 for order sheets, 135 for entries, 103
+** for the other calls of a growing run, 87 for finding. No proof bounds the stack.
 */
 #define MILL_STACK_QUESTION 196608
 #define MILL_STACK_DEGREE 196608
@@ -166,6 +184,9 @@ extern "C" {
 #define MILL_STACK_LIVE_SAVE 4096
 #define MILL_STACK_LIVE_RESTORE 4096
 #define MILL_STACK_LIVE_KEPT 4096
+#define MILL_STACK_ENTRY 4096
+#define MILL_STACK_FIND 4096
+#define MILL_STACK_LIVE_ENTRY 4096
 
 /* Slopes of a record. */
 #define MILL_FALLING 0
@@ -187,7 +208,7 @@ extern "C" {
 #define MILL_PARTIAL_RECORD 1   /* the recording is not a multiple of 16 bytes */
 #define MILL_TOO_MANY_RECORDS 2 /* it has over MILL_MAX_RECORDS records */
 #define MILL_BAD_RECORD 3       /* a record breaks its rules; the place says which is the first */
-#define MILL_NO_RECORD 4        /* it has no record (no refusal for mill_thin) */
+#define MILL_NO_RECORD 4        /* it has no record (no refusal for mill_thin), or the run has no reading */
 #define MILL_TEXT_LENGTH 5      /* the text is empty or over MILL_MAX_TEXT bytes */
 #define MILL_NO_READING 6       /* the text has no reading */
 #define MILL_TEXT_TOO_LARGE 7   /* it has over MILL_MAX_NODES nodes or over MILL_MAX_BRACKETS open brackets */
@@ -195,7 +216,7 @@ extern "C" {
 #define MILL_TOO_MANY_TOPS 9    /* gaps, steps, lag or a pair of a curve with over MILL_MAX_TOPS tops */
 #define MILL_SHORT_OUTPUT 10    /* the output is shorter than the result */
 #define MILL_BAD_MARKS 11       /* the marks are not 4 bytes each, over MILL_MAX_MARKS, or over MILL_MAX_MARK; or there is no run */
-#define MILL_BAD_TARGET 12      /* the target is off the axis, or the curve number is not 0 or 1 */
+#define MILL_BAD_TARGET 12      /* the target or the level is off the axis, or the curve number is not 0 or 1 */
 #define MILL_BAD_SHEET 13       /* the order sheet has an odd length, over MILL_MAX_LINES lines, or a number not 1 to MILL_MAX_PIGMENT */
 #define MILL_NOT_FOR_LABORATORY 14 /* the laboratory may not ask it: see mill_lab_question */
 #define MILL_NO_REPORT 15       /* the named count is not 1 to MILL_MAX_BATCHES; or no report is under way */
@@ -203,6 +224,7 @@ extern "C" {
 #define MILL_NOT_BAND_QUESTION 17 /* the text is not one of high, low, lowafter, capafter and ampl alone */
 #define MILL_NO_MOMENT 18       /* the name of a moment is not 1 to MILL_MAX_MOMENTS, or it is not set and is gone back to */
 #define MILL_RUN_FULL 19        /* the run with this reading would hold over MILL_MAX_HELD kept readings */
+#define MILL_BAD_SUMMARY 20     /* the summary is not a multiple of 32 bytes, or has over MILL_MAX_ENTRIES entries */
 
 /*
 ** The set of all numbers that make the text true of the recording.
@@ -292,11 +314,12 @@ uint64_t mill_pair(const uint8_t *recording, size_t recording_len, uint32_t curv
 ** Kept readings answer as the recording does: every question that writes none
 ** of F, G, X, U and W and whose after-times (the k of lowafter and capafter)
 ** are among the marks gets the same bytes or the same refusal, in mill_degree
-** and mill_band too; mill_pair gives the same two times, and mill_order the same
-** time and line. Other questions may be asked of kept readings and are answered of
-** those alone. Take five readings at the times 0 to 4, all of one value, A flat,
-** rising, flat, flat and falling: kept are those at 0, 1, 3 and 4. peaks(A) is 4
-** of these as of the five; but F(T=v), which is 0 to 4 of the five, lacks 2.
+** and mill_band too; mill_pair gives the same two times, mill_order the same
+** time and line, and mill_entry the same entry. Other questions may be asked of
+** kept readings and are answered of those alone. Take five readings at the times
+** 0 to 4, all of one value, A flat, rising, flat, flat and falling: kept are those
+** at 0, 1, 3 and 4. peaks(A) is 4 of these as of the five; but F(T=v), which is 0
+** to 4 of the five, lacks 2.
 **
 ** Readings may be put back among the kept ones by choice: any readings of the same
 ** recording, unaltered, none twice, each at its place in the order of time, on top
@@ -633,6 +656,94 @@ uint64_t mill_live_restore(uint8_t *live, size_t live_len, uint32_t name);
 ** Refusals, in order: 11, 10.
 */
 uint64_t mill_live_kept(const uint8_t *live, size_t live_len, uint8_t *out, size_t out_len);
+
+/*
+** The entry of a recording, to be kept beside it in a summary: ENTRY, above, says which
+** eight numbers it is. Writes MILL_ENTRY_BYTES bytes into out and returns how many they are.
+**
+** Tops are counted however many there are: an entry knows no MILL_TOO_MANY_TOPS. Kept
+** readings, under any marks and with any readings put back among them, give the same entry
+** as the recording, byte for byte; so an entry may be made before or after thinning.
+**
+** The levels between which the batch lay, and its tops, number_at as above:
+**
+**     uint8_t entry[MILL_ENTRY_BYTES];
+**     uint64_t r = mill_entry(recording, recording_len, entry, sizeof entry);
+**     if (MILL_NUMBER(r) != 0)
+**         return report(MILL_NUMBER(r), MILL_PLACE(r));
+**     printf("A from %ld to %ld, tops %ld\n", (long)number_at(entry + 12), (long)number_at(entry + 8),
+**            (long)number_at(entry + 24));
+**
+** Refusals, in order: 1, 2, 3, 4, 10.
+*/
+uint64_t mill_entry(const uint8_t *recording, size_t recording_len, uint8_t *out, size_t out_len);
+
+/*
+** Lists the recordings in which a curve is somewhere at least level, from a summary alone.
+**
+** entries are the entries, one for each recording. Found are the numbers of those, from 0,
+** whose greatest value of the curve is level or more. Writes them into out, ascending,
+** each unsigned, 32 bits, little-endian, and returns how many bytes they take, at most
+** MILL_FOUND_BYTES. level is a number of the axis.
+**
+** Where each entry is that of its recording, as mill_entry gave it, these are exactly the
+** recordings that have a record at level or above: those of which mill_degree finds that
+** level is in high(A), or in high(B). No recording is opened for it.
+**
+** Any 32 bytes are an entry: only the greatest value of the curve is looked at, whatever
+** the other seven numbers are. A summary without an entry finds nothing.
+**
+** Which of three batches came up to 80, next_batch giving the bytes of each and their length:
+**
+**     uint8_t summary[3 * MILL_ENTRY_BYTES], found[MILL_FOUND_BYTES];
+**     size_t batch, at;
+**     uint64_t r = 0;
+**     for (batch = 0; batch < 3 && MILL_NUMBER(r) == 0; batch++) {
+**         size_t batch_len;
+**         const uint8_t *bytes = next_batch(&batch_len);
+**         r = mill_entry(bytes, batch_len, summary + MILL_ENTRY_BYTES * batch, MILL_ENTRY_BYTES);
+**     }
+**     if (MILL_NUMBER(r) == 0)
+**         r = mill_find(summary, sizeof summary, MILL_CURVE_A, 80, found, sizeof found);
+**     if (MILL_NUMBER(r) != 0)
+**         return report(MILL_NUMBER(r), MILL_PLACE(r));
+**     for (at = 0; at < r; at += 4)
+**         printf("batch %ld\n", (long)number_at(found + at));
+**
+** Refusals, in order: 20, 12, 10.
+*/
+uint64_t mill_find(const uint8_t *entries, size_t entries_len, uint32_t curve, int64_t level, uint8_t *out,
+                   size_t out_len);
+
+/*
+** The entry of a growing run so far: what mill_entry gives of all its readings. Writes
+** MILL_ENTRY_BYTES bytes into out and returns how many they are. The run is only read.
+**
+** It goes with the run: after each reading it is that of the longer run, and after going
+** back it is again what it was at that moment. MILL_NO_RECORD is given for a run without a
+** reading, which has no entry. It is reckoned from the readings held when it is asked for:
+** no other call takes longer for it.
+**
+** After each reading, when it came and how many tops A has so far, number_at as above:
+**
+**     static uint8_t live[MILL_LIVE_BYTES];
+**     uint8_t entry[MILL_ENTRY_BYTES];
+**     size_t at, left;
+**     uint64_t r = mill_live_start(marks, marks_len, live, sizeof live);
+**     for (at = 0; at < recording_len && MILL_NUMBER(r) == 0; at += MILL_RECORD_BYTES) {
+**         left = recording_len - at;
+**         r = mill_live_add(live, sizeof live, recording + at, left < MILL_RECORD_BYTES ? left : MILL_RECORD_BYTES);
+**         if (MILL_NUMBER(r) == 0)
+**             r = mill_live_entry(live, sizeof live, entry, sizeof entry);
+**         if (MILL_NUMBER(r) == 0)
+**             printf("at %ld, tops %ld\n", (long)number_at(entry + 4), (long)number_at(entry + 24));
+**     }
+**     if (MILL_NUMBER(r) != 0)
+**         return report(MILL_NUMBER(r), MILL_PLACE(r));
+**
+** Refusals, in order: 11, 4, 10.
+*/
+uint64_t mill_live_entry(const uint8_t *live, size_t live_len, uint8_t *out, size_t out_len);
 
 #ifdef __cplusplus
 }

@@ -715,6 +715,16 @@ static int holds(const uint32_t *expected, size_t count)
     return times(out, (size_t)mill_live_kept(live, sizeof live, out, sizeof out), expected, count);
 }
 
+/* The run's entry is that of the first readings of R2, so many. */
+static int entry_of_first(size_t count)
+{
+    uint8_t of_run[MILL_ENTRY_BYTES + 1], afresh[MILL_ENTRY_BYTES];
+    memset(of_run, 0x5A, sizeof of_run);
+    return mill_live_entry(live, sizeof live, of_run, sizeof of_run) == MILL_ENTRY_BYTES && of_run[MILL_ENTRY_BYTES] == 0x5A
+           && mill_entry(r2, MILL_RECORD_BYTES * count, afresh, sizeof afresh) == MILL_ENTRY_BYTES
+           && memcmp(of_run, afresh, sizeof afresh) == 0;
+}
+
 static void growing_runs(void)
 {
     static const uint32_t early[] = {0, 10, 30, 40}, all[] = {0, 10, 30, 40, 60, 80}, other[] = {0, 10, 30, 40, 80};
@@ -735,29 +745,33 @@ static void growing_runs(void)
     EXPECT(mill_live_start(NULL, 0, live, sizeof live) == 0);
     EXPECT(live[MILL_LIVE_BYTES] == 0xFF && live[MILL_LIVE_BYTES + 2] == 0xFF);
     EXPECT(holds(NULL, 0) && mill_live_save(live, sizeof live, MILL_MAX_MOMENTS) == 0);
+    EXPECT(REFUSED_STEP(mill_live_entry(live, sizeof live, out, sizeof out), MILL_NO_RECORD, 0) && out[0] == 0x5A);
     for (i = 0; i < R2_RECORDS; i++) {
         EXPECT(REFUSED_STEP(mill_live_add(live, sizeof live, bad, sizeof bad), MILL_BAD_RECORD, (uint32_t)i));
         EXPECT(REFUSED_STEP(mill_live_add(live, sizeof live, r2 + MILL_RECORD_BYTES * i, 15), MILL_PARTIAL_RECORD, 0));
         EXPECT(mill_live_add(live, sizeof live, r2 + MILL_RECORD_BYTES * i, MILL_RECORD_BYTES) == 0);
+        EXPECT(entry_of_first(i + 1));
         if (i == 4)
             EXPECT(holds(early, 4) && mill_live_save(live, sizeof live, 1) == 0);
     }
     EXPECT(holds(all, 6) && mill_live_save(live, sizeof live, 2) == 0);
-    EXPECT(mill_live_restore(live, sizeof live, 1) == 0 && holds(early, 4));
+    EXPECT(mill_live_restore(live, sizeof live, 1) == 0 && holds(early, 4) && entry_of_first(5));
     EXPECT(mill_live_add(live, sizeof live, r2 + 8 * MILL_RECORD_BYTES, MILL_RECORD_BYTES) == 0 && holds(other, 5));
     EXPECT(REFUSED_STEP(mill_live_add(live, sizeof live, r2 + 8 * MILL_RECORD_BYTES, MILL_RECORD_BYTES), MILL_BAD_RECORD, 6));
-    EXPECT(mill_live_restore(live, sizeof live, 2) == 0 && holds(all, 6));
+    EXPECT(mill_live_restore(live, sizeof live, 2) == 0 && holds(all, 6) && entry_of_first(R2_RECORDS));
     EXPECT(mill_live_restore(live, sizeof live, 1) == 0 && holds(early, 4));
     EXPECT(REFUSED_STEP(mill_live_restore(live, sizeof live, 3), MILL_NO_MOMENT, 0));
     EXPECT(REFUSED_STEP(mill_live_restore(live, sizeof live, 0), MILL_NO_MOMENT, 0));
     EXPECT(REFUSED_STEP(mill_live_save(live, sizeof live, MILL_MAX_MOMENTS + 1), MILL_NO_MOMENT, 0));
     EXPECT(REFUSED_STEP(mill_live_kept(live, sizeof live, out, sizeof out), MILL_SHORT_OUTPUT, 0) && out[0] == 0x5A);
+    EXPECT(REFUSED_STEP(mill_live_entry(live, sizeof live, out, sizeof out), MILL_SHORT_OUTPUT, 0) && out[0] == 0x5A);
     EXPECT(mill_live_restore(live, sizeof live, MILL_MAX_MOMENTS) == 0 && holds(NULL, 0));
     EXPECT(mill_live_kept(live, sizeof live, NULL, 0) == 0);
     EXPECT(mill_live_start(mark, 4, live, sizeof live) == (uint64_t)MILL_BAD_MARKS << 32);
     EXPECT(REFUSED_STEP(mill_live_add(live, sizeof live, r2, 15), MILL_BAD_MARKS, 0));
     EXPECT(REFUSED_STEP(mill_live_restore(live, sizeof live, 1), MILL_BAD_MARKS, 0));
     EXPECT(REFUSED_STEP(mill_live_kept(live, sizeof live, out, 0), MILL_BAD_MARKS, 0));
+    EXPECT(REFUSED_STEP(mill_live_entry(live, sizeof live, out, 0), MILL_BAD_MARKS, 0));
 }
 
 /* MILL_MAX_HELD additions and MILL_MAX_RECORDS calm readings, and one more of each. */
@@ -778,6 +792,73 @@ static void full_runs(void)
     EXPECT(REFUSED_STEP(mill_live_add(live, sizeof live, large, MILL_RECORD_BYTES), MILL_TOO_MANY_RECORDS, 0));
     EXPECT(REFUSED_STEP(mill_live_add(live, sizeof live, large, 0), MILL_PARTIAL_RECORD, 0));
     EXPECT(mill_live_kept(live, sizeof live, thinned, sizeof thinned) == mill_thin(large, sizeof thinned, NULL, 0, thinned, 48));
+}
+
+/* The eight numbers of an entry, by their bits. */
+static int entry_is(const uint8_t *recording, size_t length, const int64_t *expected)
+{
+    uint8_t out[MILL_ENTRY_BYTES + 1];
+    size_t i;
+    memset(out, 0x5A, sizeof out);
+    if (mill_entry(recording, length, out, sizeof out) != MILL_ENTRY_BYTES || out[MILL_ENTRY_BYTES] != 0x5A)
+        return 0;
+    for (i = 0; i < MILL_ENTRY_BYTES / 4; i++)
+        if (number_at(out + 4 * i) != expected[i])
+            return 0;
+    return 1;
+}
+
+static void entries(void)
+{
+    const int64_t of_r1[] = {0, 70, 90, 30, 50, 50, 2, 0}, of_r2[] = {0, 80, 10, 2, 0, 0, 1, 0};
+    const int64_t alone[] = {MILL_MAX_TIME, MILL_MAX_TIME, -1, -1, MILL_MIN_VALUE, MILL_MIN_VALUE, 0, 0};
+    uint8_t kept[R2_BYTES], one[MILL_RECORD_BYTES], out[MILL_ENTRY_BYTES];
+    size_t room;
+    EXPECT(entry_is(r1, R1_BYTES, of_r1) && entry_is(r2, R2_BYTES, of_r2) && entry_is(r3, R2_BYTES, of_r2));
+    EXPECT(entry_is(kept, (size_t)mill_thin(r2, R2_BYTES, NULL, 0, kept, sizeof kept), of_r2));
+    put_record(one, MILL_MAX_TIME, -1, MILL_MIN_VALUE, MILL_FALLING, MILL_FALLING);
+    EXPECT(entry_is(one, sizeof one, alone));
+    memset(out, 0x5A, sizeof out);
+    for (room = 0; room < MILL_ENTRY_BYTES; room++) {
+        EXPECT(mill_entry(r1, R1_BYTES, out, room) == (uint64_t)MILL_SHORT_OUTPUT << 32);
+        EXPECT(mill_entry(r1, 0, out, room) == (uint64_t)MILL_NO_RECORD << 32);
+        EXPECT(mill_entry(r1, 15, out, room) == (uint64_t)MILL_PARTIAL_RECORD << 32);
+    }
+    EXPECT(mill_entry(NULL, 0, NULL, 0) == (uint64_t)MILL_NO_RECORD << 32);
+    one[15] = 1;
+    EXPECT(mill_entry(one, sizeof one, out, sizeof out) == (uint64_t)MILL_BAD_RECORD << 32);
+    make_tops(300);
+    EXPECT(mill_entry(large, sizeof large, out, sizeof out) == (uint64_t)MILL_TOO_MANY_RECORDS << 32 && out[0] == 0x5A);
+    EXPECT(mill_entry(large, sizeof large - MILL_RECORD_BYTES, out, sizeof out) == MILL_ENTRY_BYTES);
+    EXPECT(number_at(out + 24) == 300 && number_at(out + 28) == 0);
+}
+
+/* MILL_MAX_ENTRIES entries whose greatest A are -1,024 and up, and one more; the greatest B are all -1. */
+static void finds(void)
+{
+    static uint8_t summary[(MILL_MAX_ENTRIES + 1) * MILL_ENTRY_BYTES], found[MILL_FOUND_BYTES + 1];
+    size_t i, all = MILL_MAX_ENTRIES * MILL_ENTRY_BYTES;
+    int listed = 1;
+    memset(summary, 0xFF, sizeof summary);
+    for (i = 0; i <= MILL_MAX_ENTRIES; i++)
+        put32(summary + MILL_ENTRY_BYTES * i + 8, (uint32_t)i - 1024u);
+    memset(found, 0x5A, sizeof found);
+    EXPECT(mill_find(summary, all + 1, MILL_CURVE_A, 0, found, sizeof found) == (uint64_t)MILL_BAD_SUMMARY << 32);
+    EXPECT(mill_find(summary, sizeof summary, 2, 0, found, sizeof found) == (uint64_t)MILL_BAD_SUMMARY << 32);
+    EXPECT(mill_find(summary, all, 2, 0, found, 0) == (uint64_t)MILL_BAD_TARGET << 32);
+    EXPECT(mill_find(summary, all, MILL_CURVE_A, (int64_t)MILL_AXIS_HIGH + 1, found, 0) == (uint64_t)MILL_BAD_TARGET << 32);
+    EXPECT(mill_find(summary, all, MILL_CURVE_B, (int64_t)MILL_AXIS_LOW - 1, found, 0) == (uint64_t)MILL_BAD_TARGET << 32);
+    EXPECT(mill_find(summary, all, MILL_CURVE_A, 0, found, 4095) == (uint64_t)MILL_SHORT_OUTPUT << 32);
+    EXPECT(mill_find(summary, all, MILL_CURVE_B, 0, NULL, 0) == 0 && mill_find(NULL, 0, 0, 0, NULL, 0) == 0);
+    EXPECT(found[0] == 0x5A);
+    EXPECT(mill_find(summary, all, MILL_CURVE_A, 0, found, 4096) == 4096 && found[4096] == 0x5A);
+    for (i = 0; i < 1024; i++)
+        listed &= number_at(found + 4 * i) == (int64_t)i + 1024;
+    EXPECT(mill_find(summary, all, MILL_CURVE_B, -1, found, MILL_FOUND_BYTES - 1) == (uint64_t)MILL_SHORT_OUTPUT << 32);
+    EXPECT(mill_find(summary, all, MILL_CURVE_B, -1, found, sizeof found) == MILL_FOUND_BYTES);
+    for (i = 0; i < MILL_MAX_ENTRIES; i++)
+        listed &= number_at(found + 4 * i) == (int64_t)i;
+    EXPECT(listed && found[MILL_FOUND_BYTES] == 0x5A);
 }
 
 /* Each addition is kept, without the record before it, and what is kept answers as the whole. */
@@ -848,6 +929,8 @@ int main(void)
     pins_on_r2();
     growing_runs();
     full_runs();
+    entries();
+    finds();
     thinning_of_r3();
     thinning_of_a_plateau();
     printf("boundary.c: %d failures\n", failures);

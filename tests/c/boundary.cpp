@@ -184,7 +184,21 @@ void growing_runs()
     EXPECT(mill_live_restore(copy, sizeof copy, 3) == 0);
     EXPECT(mill_live_kept(copy, sizeof copy, out, sizeof out) == length && std::memcmp(out, r1, length) == 0);
     EXPECT(MILL_NUMBER(mill_live_restore(live, sizeof live, 4)) == MILL_NO_MOMENT);
+    EXPECT(mill_live_entry(copy, sizeof copy, out, sizeof out) == MILL_ENTRY_BYTES && out[4] == 70 && out[8] == 90 && out[24] == 2);
+    EXPECT(MILL_NUMBER(mill_live_entry(copy, sizeof copy, out, MILL_ENTRY_BYTES - 1)) == MILL_SHORT_OUTPUT);
     EXPECT(mill_live_add(live, sizeof live, r1, MILL_RECORD_BYTES) == (static_cast<uint64_t>(MILL_BAD_RECORD) << 32 | records));
+}
+
+void summaries()
+{
+    uint8_t summary[2 * MILL_ENTRY_BYTES], found[MILL_FOUND_BYTES];
+    EXPECT(mill_entry(r1, length, summary, MILL_ENTRY_BYTES) == MILL_ENTRY_BYTES);
+    EXPECT(mill_entry(r1, MILL_RECORD_BYTES, summary + MILL_ENTRY_BYTES, MILL_ENTRY_BYTES) == MILL_ENTRY_BYTES);
+    EXPECT(summary[4] == 70 && summary[8] == 90 && summary[12] == 30 && summary[24] == 2 && summary[MILL_ENTRY_BYTES + 8] == 40);
+    EXPECT(mill_find(summary, sizeof summary, MILL_CURVE_A, 40, found, sizeof found) == 8 && found[0] == 0 && found[4] == 1);
+    EXPECT(mill_find(summary, sizeof summary, MILL_CURVE_A, 41, found, 4) == 4 && found[0] == 0 && found[4] == 1);
+    EXPECT(MILL_NUMBER(mill_find(summary, 1, MILL_CURVE_A, 41, found, 4)) == MILL_BAD_SUMMARY);
+    EXPECT(MILL_NUMBER(mill_entry(r1, length, found, MILL_ENTRY_BYTES - 1)) == MILL_SHORT_OUTPUT);
 }
 
 }  // namespace
@@ -201,6 +215,7 @@ int main()
     reports();
     thinning();
     growing_runs();
+    summaries();
     std::printf("boundary.cpp: %d failures\n", failures);
     return failures == 0 ? 0 : 1;
 }

@@ -23,6 +23,8 @@ fn main() {
     orders();
     reports();
     live_steps();
+    entries();
+    finds();
 }
 
 fn thinning() {
@@ -248,6 +250,35 @@ fn live_steps() {
         for length in lengths {
             row(&format!("a reading to a run, {kind}, {length} readings"), "added", (step(length), first), Some(1.5));
         }
+    }
+}
+
+/// The entry of a recording: with few tops, with as many as there can be, and on plateaus.
+fn entries() {
+    let most_tops: Vec<usize> = (0..RECORDS / 2).map(|top| 2 * top + 1).collect();
+    for (name, readings) in [
+        ("64 tops", with_tops(&evenly(64, RECORDS), &evenly(64, RECORDS))),
+        ("2,048 tops", with_tops(&most_tops, &most_tops)),
+        ("plateaus of 62 readings", with_plateaus(62)),
+    ] {
+        let recording = bytes(&readings);
+        let name = format!("entry, {name}");
+        writing(&name, 1.2, |out| mill::entry_into(&recording, out), |out| plain::entry(&recording, out));
+    }
+}
+
+/// Levels that none of the entries reaches, half of them in no order, and all.
+fn finds() {
+    let entry = |number: usize| {
+        let mut readings = with_tops(&[], &[]);
+        readings.truncate(4);
+        readings[3].a = (number * 1_237 % sys::MILL_MAX_ENTRIES) as i32 + 1_000_000;
+        mill::entry(&bytes(&readings)).expect("a recording").to_bytes()
+    };
+    let summary: Vec<u8> = (0..sys::MILL_MAX_ENTRIES).flat_map(entry).collect();
+    for (name, level) in [("none", 2_000_000), ("half", 1_001_024), ("all", 0)] {
+        let library = |out: &mut [u8]| mill::find_into(&summary, Curve::A, level, out);
+        writing(&format!("find in 2,048 entries, {name}"), 1.2, library, |out| plain::find(&summary, 0, level, out));
     }
 }
 

@@ -5,6 +5,7 @@
 
 mod live;
 mod report;
+mod summary;
 pub mod sys;
 
 /// A curve of the recording.
@@ -113,7 +114,7 @@ pub enum Refusal {
     TooManyRecords,
     /// 3: the first record that breaks its rules.
     BadRecord { index: u32 },
-    /// 4: the recording has no record.
+    /// 4: the recording has no record, or the run no reading.
     NoRecord,
     /// 5: the text is empty or over 256 bytes.
     TextLength,
@@ -129,7 +130,7 @@ pub enum Refusal {
     ShortOutput,
     /// 11: the marks are not 4 bytes each, over 8, or too large.
     BadMarks,
-    /// 12: the target is off the axis.
+    /// 12: the target or the level is off the axis.
     BadTarget,
     /// 13: the order sheet has over 32 lines, or a number that is not 1 to 16.
     BadSheet,
@@ -146,6 +147,8 @@ pub enum Refusal {
     NoMoment,
     /// 19: the run with this reading would hold over 128 kept readings.
     RunFull,
+    /// 20: the summary is not a multiple of 32 bytes, or has over 2,048 entries.
+    BadSummary,
 }
 
 impl Refusal {
@@ -171,6 +174,7 @@ impl Refusal {
             Refusal::NotBandQuestion => sys::MILL_NOT_BAND_QUESTION,
             Refusal::NoMoment => sys::MILL_NO_MOMENT,
             Refusal::RunFull => sys::MILL_RUN_FULL,
+            Refusal::BadSummary => sys::MILL_BAD_SUMMARY,
         }
     }
 
@@ -205,6 +209,7 @@ impl Refusal {
             sys::MILL_NOT_BAND_QUESTION => Refusal::NotBandQuestion,
             sys::MILL_NO_MOMENT => Refusal::NoMoment,
             sys::MILL_RUN_FULL => Refusal::RunFull,
+            sys::MILL_BAD_SUMMARY => Refusal::BadSummary,
             number => unreachable!("the library gives no refusal {number}"),
         };
         Some(refusal)
@@ -354,7 +359,7 @@ mod calls {
         two_times(returned, earlier, later)
     }
 
-    fn number_of(curve: Curve) -> u32 {
+    pub fn number_of(curve: Curve) -> u32 {
         match curve {
             Curve::A => sys::MILL_CURVE_A,
             Curve::B => sys::MILL_CURVE_B,
@@ -389,7 +394,7 @@ mod calls {
         }
     }
 
-    fn bytes_written(returned: u64) -> Result<usize, Refusal> {
+    pub fn bytes_written(returned: u64) -> Result<usize, Refusal> {
         match Refusal::of_returned(returned) {
             Some(refusal) => Err(refusal),
             None => Ok(sys::mill_place(returned) as usize),
@@ -402,3 +407,4 @@ pub use calls::{
 };
 pub use live::Live;
 pub use report::{Added, Figures, Report};
+pub use summary::{entry, entry_into, find, find_into, Entry};

@@ -1,6 +1,6 @@
 //! A growing run with named moments to go back to.
 
-use crate::{sys, Refusal};
+use crate::{sys, Entry, Refusal};
 
 /// A run that grows reading by reading. It is only its bytes: a copy goes on as the original would.
 #[derive(Clone, PartialEq, Eq, Debug)]
@@ -48,6 +48,20 @@ impl Live {
     pub fn kept_into(&self, out: &mut [u8]) -> Result<usize, Refusal> {
         // SAFETY: each pointer is a live slice's with its own length, and `out` is borrowed alone.
         let returned = unsafe { sys::mill_live_kept(self.bytes.as_ptr(), self.bytes.len(), out.as_mut_ptr(), out.len()) };
+        done(returned).map(|()| sys::mill_place(returned) as usize)
+    }
+
+    /// The entry of the run so far: that of all its readings.
+    pub fn entry(&self) -> Result<Entry, Refusal> {
+        let mut bytes = [0; sys::MILL_ENTRY_BYTES];
+        self.entry_into(&mut bytes)?;
+        Ok(Entry::from_bytes(bytes))
+    }
+
+    /// The same entry as bytes in `out`, and how many they are. What is behind them stays as it was.
+    pub fn entry_into(&self, out: &mut [u8]) -> Result<usize, Refusal> {
+        // SAFETY: each pointer is a live slice's with its own length, and `out` is borrowed alone.
+        let returned = unsafe { sys::mill_live_entry(self.bytes.as_ptr(), self.bytes.len(), out.as_mut_ptr(), out.len()) };
         done(returned).map(|()| sys::mill_place(returned) as usize)
     }
 

@@ -9,6 +9,7 @@ pub const MILL_RECORD_BYTES: usize = 16;
 pub const MILL_RUN_BYTES: usize = 8;
 pub const MILL_MARK_BYTES: usize = 4;
 pub const MILL_LINE_BYTES: usize = 2;
+pub const MILL_ENTRY_BYTES: usize = 32;
 /// Room for every set that a question answers.
 pub const MILL_SET_BYTES: usize = 2048;
 /// A report under way, as its calls carry it.
@@ -17,6 +18,8 @@ pub const MILL_REPORT_BYTES: usize = 320;
 pub const MILL_LIVE_BYTES: usize = 18_624;
 /// Room for every list of readings that a growing run holds.
 pub const MILL_HELD_BYTES: usize = 2048;
+/// Room for every list of entry numbers.
+pub const MILL_FOUND_BYTES: usize = 8192;
 
 pub const MILL_MAX_RECORDS: usize = 4096;
 pub const MILL_MAX_TIME: u32 = 2_000_000_000;
@@ -36,6 +39,7 @@ pub const MILL_MAX_LINES: usize = 32;
 pub const MILL_MAX_BATCHES: u32 = 1_000;
 pub const MILL_MAX_HELD: usize = 128;
 pub const MILL_MAX_MOMENTS: u32 = 8;
+pub const MILL_MAX_ENTRIES: usize = 2048;
 
 /// Bytes of stack with which each call does.
 pub const MILL_STACK_QUESTION: usize = 196_608;
@@ -54,6 +58,9 @@ pub const MILL_STACK_LIVE_ADD: usize = 16_384;
 pub const MILL_STACK_LIVE_SAVE: usize = 4_096;
 pub const MILL_STACK_LIVE_RESTORE: usize = 4_096;
 pub const MILL_STACK_LIVE_KEPT: usize = 4_096;
+pub const MILL_STACK_ENTRY: usize = 4_096;
+pub const MILL_STACK_FIND: usize = 4_096;
+pub const MILL_STACK_LIVE_ENTRY: usize = 4_096;
 
 pub const MILL_FALLING: u8 = 0;
 pub const MILL_FLAT: u8 = 1;
@@ -98,6 +105,7 @@ pub const MILL_BAD_BAND: u32 = 16;
 pub const MILL_NOT_BAND_QUESTION: u32 = 17;
 pub const MILL_NO_MOMENT: u32 = 18;
 pub const MILL_RUN_FULL: u32 = 19;
+pub const MILL_BAD_SUMMARY: u32 = 20;
 
 /// The number of the refusal in a return value, 0 for a result.
 pub const fn mill_number(returned: u64) -> u32 {
@@ -229,4 +237,10 @@ extern "C" {
     pub fn mill_live_restore(live: *mut u8, live_len: usize, name: u32) -> u64;
 
     pub fn mill_live_kept(live: *const u8, live_len: usize, out: *mut u8, out_len: usize) -> u64;
+
+    pub fn mill_entry(recording: *const u8, recording_len: usize, out: *mut u8, out_len: usize) -> u64;
+
+    pub fn mill_find(entries: *const u8, entries_len: usize, curve: u32, level: i64, out: *mut u8, out_len: usize) -> u64;
+
+    pub fn mill_live_entry(live: *const u8, live_len: usize, out: *mut u8, out_len: usize) -> u64;
 }

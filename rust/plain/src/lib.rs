@@ -141,6 +141,69 @@ pub fn thin(recording: &[u8], marks: &[u8], out: &mut [u8]) -> Result<usize, Ref
     Ok(length)
 }
 
+/// Writes the entry of the recording into `out`, in one pass over its bytes; the bytes written.
+pub fn entry(recording: &[u8], out: &mut [u8]) -> Result<usize, Refused> {
+    lengths(recording)?;
+    let (mut first, mut last) = (-1, -1);
+    let (mut greatest, mut least, mut tops, mut moving) = ([LOW; 2], [HIGH; 2], [0u32; 2], [FLAT; 2]);
+    for (index, bytes) in recording.chunks_exact(16).enumerate() {
+        let word = |at: usize| u32::from_le_bytes(bytes[at..at + 4].try_into().unwrap());
+        let (time, a, b) = (word(0), word(4) as i32, word(8) as i32);
+        if !in_rules(bytes, time, a, b, last) {
+            return Err((3, index as u32));
+        }
+        if index == 0 {
+            first = time as i32;
+        }
+        last = time as i32;
+        for (curve, value) in [a, b].into_iter().enumerate() {
+            let slope = bytes[12 + curve];
+            greatest[curve] = greatest[curve].max(value);
+            least[curve] = least[curve].min(value);
+            tops[curve] += u32::from(slope == FALLING && moving[curve] == RISING);
+            if slope != FLAT {
+                moving[curve] = slope;
+            }
+        }
+    }
+    if recording.is_empty() {
+        return Err((4, 0));
+    }
+    if out.len() < 32 {
+        return Err((10, 0));
+    }
+    let values = [first, last, greatest[0], least[0], greatest[1], least[1]].map(|number| number as u32);
+    for (word, bytes) in values.into_iter().chain(tops).zip(out.chunks_exact_mut(4)) {
+        bytes.copy_from_slice(&word.to_le_bytes());
+    }
+    Ok(32)
+}
+
+/// Writes the numbers of the entries that reach the level into `out`, in one pass over them; the bytes written.
+pub fn find(entries: &[u8], curve: u32, level: i64, out: &mut [u8]) -> Result<usize, Refused> {
+    if entries.len() % 32 != 0 || entries.len() > 2048 * 32 {
+        return Err((20, 0));
+    }
+    if curve > 1 || !(i64::from(LOW)..=i64::from(HIGH)).contains(&level) {
+        return Err((12, 0));
+    }
+    let (at, level) = (8 + 8 * curve as usize, level as i32);
+    let mut found: Vec<u32> = Vec::with_capacity(entries.len() / 32);
+    for (number, entry) in entries.chunks_exact(32).enumerate() {
+        if i32::from_le_bytes(entry[at..at + 4].try_into().unwrap()) >= level {
+            found.push(number as u32);
+        }
+    }
+    let length = 4 * found.len();
+    if out.len() < length {
+        return Err((10, 0));
+    }
+    for (number, bytes) in found.iter().zip(out.chunks_exact_mut(4)) {
+        bytes.copy_from_slice(&number.to_le_bytes());
+    }
+    Ok(length)
+}
+
 fn some_records(recording: &[u8]) -> Result<Vec<Record>, Refused> {
     let records = decode(recording)?;
     if records.is_empty() {
@@ -150,33 +213,43 @@ fn some_records(recording: &[u8]) -> Result<Vec<Record>, Refused> {
 }
 
 fn decode(recording: &[u8]) -> Result<Vec<Record>, Refused> {
-    if recording.len() % 16 != 0 {
-        return Err((1, 0));
-    }
-    if recording.len() > 4096 * 16 {
-        return Err((2, 0));
-    }
+    lengths(recording)?;
     let mut records = Vec::with_capacity(recording.len() / 16);
     let mut before = -1;
     for (index, bytes) in recording.chunks_exact(16).enumerate() {
         let word = |at: usize| u32::from_le_bytes(bytes[at..at + 4].try_into().unwrap());
         let (time, a, b) = (word(0), word(4) as i32, word(8) as i32);
-        let range = -1_000_000_000..=1_000_000_000;
-        let good = time <= 2_000_000_000
-            && time as i32 > before
-            && range.contains(&a)
-            && range.contains(&b)
-            && bytes[12] <= 2
-            && bytes[13] <= 2
-            && bytes[14] <= MOST_PIGMENT
-            && bytes[15] == 0;
-        if !good {
+        if !in_rules(bytes, time, a, b, before) {
             return Err((3, index as u32));
         }
         before = time as i32;
         records.push(Record { time: time as i32, value: [a, b], slope: [bytes[12], bytes[13]], pigment: bytes[14] });
     }
     Ok(records)
+}
+
+fn lengths(recording: &[u8]) -> Result<(), Refused> {
+    if recording.len() % 16 != 0 {
+        return Err((1, 0));
+    }
+    if recording.len() > 4096 * 16 {
+        return Err((2, 0));
+    }
+    Ok(())
+}
+
+/// Whether a record of these bytes keeps its rules, after one of the time `before`.
+#[inline(always)]
+fn in_rules(bytes: &[u8], time: u32, a: i32, b: i32, before: i32) -> bool {
+    let range = -1_000_000_000..=1_000_000_000;
+    time <= 2_000_000_000
+        && time as i32 > before
+        && range.contains(&a)
+        && range.contains(&b)
+        && bytes[12] <= 2
+        && bytes[13] <= 2
+        && bytes[14] <= MOST_PIGMENT
+        && bytes[15] == 0
 }
 
 fn decode_marks(bytes: &[u8]) -> Result<Vec<i32>, Refused> {

@@ -10,5 +10,6 @@ mod pieces;
 mod plain;
 mod r1;
 mod sets;
+mod summary;
 mod truth;
 mod turns;

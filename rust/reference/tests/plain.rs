@@ -1,8 +1,9 @@
 //! Covers: the plain Rust of the benchmarks against the independent implementation.
 
 use crate::support::cases::cases;
-use crate::support::{recordings, sheets, texts};
+use crate::support::{recordings, sheets, summaries, texts};
 use reference::recording::bytes;
+use reference::summary::ENTRY_BYTES;
 use reference::{self, Degree};
 
 #[test]
@@ -45,8 +46,29 @@ fn plain_rust_answers_alike() {
         let sheet = sheets::any(random);
         assert_eq!(plain::order(&recording, &sheet), reference::order(&recording, &sheet).map_err(pair));
 
+        let room = random.pick(&[0, 31, 32, 40]);
+        let mut out = vec![0; room];
+        let plain = plain::entry(&recording, &mut out).map(|length| out[..length].to_vec());
+        assert_eq!(plain, reference::entry(&recording, room).map_err(pair));
+
         let curve = random.below(3) as u32;
         let gap = random.between(0, 30);
         assert_eq!(plain::pair(&recording, curve, gap), reference::pair(&recording, curve, gap).map_err(pair));
+    });
+}
+
+#[test]
+fn plain_rust_finds_alike() {
+    cases("plain Rust finds alike", 20_000, |random| {
+        let mut entries: Vec<u8> = (0..random.below(12)).flat_map(|_| summaries::entry(random)).collect();
+        if random.once_in(10) {
+            entries.resize(random.pick(&[31, 33, 2_048 * ENTRY_BYTES, 2_049 * ENTRY_BYTES]), 7);
+        }
+        let (curve, level, room) =
+            (random.below(3) as u32, summaries::level(random, &entries), random.pick(&[0, 4, 11, 48, 8_192]));
+        let mut out = vec![0; room];
+        let plain = plain::find(&entries, curve, level, &mut out).map(|length| out[..length].to_vec());
+        let found = reference::find(&entries, curve, level, room);
+        assert_eq!(plain, found.map_err(|refused| (refused.number, refused.place)));
     });
 }

@@ -5,9 +5,9 @@ use crate::support::r1::r1_bytes;
 use crate::support::r2::r2_bytes;
 use crate::support::recordings::flat;
 use mill::sys::{
-    mill_band, mill_degree, mill_lab_degree, mill_lab_pair, mill_lab_question, mill_live_add, mill_live_kept, mill_live_restore,
-    mill_live_save, mill_live_start, mill_order, mill_pair, mill_question, mill_report_add, mill_report_start, mill_thin,
-    MILL_LIVE_BYTES, MILL_REPORT_BYTES,
+    mill_band, mill_degree, mill_entry, mill_find, mill_lab_degree, mill_lab_pair, mill_lab_question, mill_live_add,
+    mill_live_entry, mill_live_kept, mill_live_restore, mill_live_save, mill_live_start, mill_order, mill_pair, mill_question,
+    mill_report_add, mill_report_start, mill_thin, MILL_LIVE_BYTES, MILL_REPORT_BYTES,
 };
 use reference::recording::bytes;
 use std::ptr::{null, null_mut};
@@ -88,12 +88,38 @@ fn null_with_length_0_in_growing_runs() {
         assert_eq!(mill_live_save(null_mut(), 0, 1), refusal(11));
         assert_eq!(mill_live_restore(null_mut(), 0, 1), refusal(11));
         assert_eq!(mill_live_kept(null(), 0, null_mut(), 0), refusal(11));
+        assert_eq!(mill_live_entry(null(), 0, null_mut(), 0), refusal(11));
         assert_eq!(mill_live_start(null(), 0, at, length), 0);
         assert_eq!(mill_live_add(at, length, null(), 0), refusal(1));
         assert_eq!(mill_live_kept(at, length, null_mut(), 0), 0);
+        assert_eq!(mill_live_entry(at, length, null_mut(), 0), refusal(4));
         assert_eq!(mill_live_add(at, length, r1_bytes().as_ptr(), 16), 0);
         assert_eq!(mill_live_kept(at, length, null_mut(), 0), refusal(10));
+        assert_eq!(mill_live_entry(at, length, null_mut(), 0), refusal(10));
     }
+}
+
+#[test]
+fn null_with_length_0_in_summaries() {
+    let r1 = r1_bytes();
+    let mut out = [9u8; 40];
+    // SAFETY: each pointer lies before as many bytes as its length says; null goes with 0.
+    unsafe {
+        assert_eq!(mill_entry(null(), 0, null_mut(), 0), refusal(4));
+        assert_eq!(mill_entry(null(), 0, out.as_mut_ptr(), 40), refusal(4));
+        assert_eq!(mill_entry(r1.as_ptr(), 128, null_mut(), 0), refusal(10));
+        assert_eq!(mill_find(null(), 0, 0, 0, null_mut(), 0), 0);
+        assert_eq!(mill_find(null(), 0, 1, i64::MIN, null_mut(), 0), refusal(12));
+        assert_eq!(mill_find(null(), 0, 2, 0, out.as_mut_ptr(), 40), refusal(12));
+        assert_eq!(out, [9; 40]);
+        assert_eq!(mill_entry(r1.as_ptr(), 128, out.as_mut_ptr(), 40), 32);
+        assert_eq!(mill_find(out.as_ptr(), 32, 0, 91, null_mut(), 0), 0);
+        assert_eq!(mill_find(out.as_ptr(), 32, 0, 90, null_mut(), 0), refusal(10));
+        assert_eq!(mill_find(out.as_ptr(), 31, 2, 90, null_mut(), 0), refusal(20));
+    }
+    // A recording lies in whole records, and two of them are an entry: its slopes are the least A, and its second time the greatest B.
+    let found = mill::find_into(&r1, mill::Curve::B, 70, &mut out);
+    assert_eq!((found, &out[..4]), (Ok(4), &[3, 0, 0, 0][..]));
 }
 
 #[test]
@@ -204,7 +230,15 @@ fn lengths_past_32_bits() {
         assert_eq!(mill_live_save(long_at, WRAPPED + 16, 1), 0);
         assert_eq!(mill_live_restore(long_at, WRAPPED + 16, 1), 0);
         assert_eq!(mill_live_kept(long_at, WRAPPED + 16, out.as_mut_ptr(), 64), 16);
+        assert_eq!(mill_live_entry(long_at, WRAPPED + 16, out.as_mut_ptr(), 64), 32);
+        assert_eq!(mill_live_entry(long_at, WRAPPED + 16, at, WRAPPED), 32);
+        for (length, number) in [(WRAPPED, 2), (WRAPPED + 32, 2), (WRAPPED + 1, 1)] {
+            assert_eq!(mill_entry(at, length, out.as_mut_ptr(), 64), refusal(number));
+            assert_eq!(mill_find(at, length, 0, 0, out.as_mut_ptr(), 64), refusal(20));
+        }
         // An output of over 4 GiB is room enough.
+        assert_eq!(mill_entry(r1.as_ptr(), 128, at, WRAPPED), 32);
+        assert_eq!(mill_find([9; 32].as_ptr(), 32, 0, 0, at, WRAPPED + 3), 4);
         assert_eq!(mill_thin(r1.as_ptr(), 128, null(), 0, at, WRAPPED + 3), 128);
         assert_eq!(std::slice::from_raw_parts(at, 128), mill::thin(&r1, &[]).unwrap());
     }
@@ -262,6 +296,7 @@ fn targets_past_32_bits() {
     for target in [(1i64 << 32) + 30, -(1i64 << 32) + 30, 1 << 31, i64::MIN, i64::MAX, i64::MIN + 30] {
         assert_eq!(mill::degree(&r1, b"peaks(A)", target), Err(mill::Refusal::BadTarget), "{target}");
         assert_eq!(mill::pair(&r1, mill::Curve::A, target), Err(mill::Refusal::BadTarget), "{target}");
+        assert_eq!(mill::find(&[], mill::Curve::A, target), Err(mill::Refusal::BadTarget), "{target}");
     }
 }
 

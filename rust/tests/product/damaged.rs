@@ -2,13 +2,14 @@
 //! byte of a record, fields at and past their limits, and random damage.
 
 use crate::calls::{degree, pair, question, thin, Tally};
+use crate::entry::entry;
 use crate::lab::{lab_degree, lab_pair, lab_question};
 use crate::support::cases::{begin, cases};
 use crate::support::r1::r1_bytes;
 use crate::support::r2::r2_bytes;
 use crate::support::r3::r3_bytes;
 use crate::support::recordings::{self, damaged, with_tops_at};
-use mill::sys::MILL_SET_BYTES;
+use mill::sys::{MILL_ENTRY_BYTES, MILL_SET_BYTES};
 use reference::recording::{bytes, Record};
 
 /// All calls; the number of the pair call's outcome.
@@ -20,6 +21,7 @@ fn all_calls(recording: &[u8]) -> u32 {
     lab_question(recording, &[40, 0, 0, 0], b"lowafter(A,40)|peaks(A)", MILL_SET_BYTES);
     lab_degree(recording, &[], b"ampl(A)", 7);
     lab_pair(recording, 0, 40);
+    entry(recording, MILL_ENTRY_BYTES);
     pair(recording, 0, 40)
 }
 
@@ -81,6 +83,7 @@ fn every_byte_of_a_record() {
                     question(&recording, b"F(P=3&A=v|P=16&T=v)", MILL_SET_BYTES);
                     pair(&recording, 0, 40);
                     thin(&recording, &[], 65_536);
+                    entry(&recording, 40);
                 }
             }
         }

@@ -63,8 +63,9 @@ fn degree_of(recording: &[u8], text: &[u8], target: i64) -> Result<(u8, u64, u64
 }
 
 /// Four texts asked of the readings held as of the full recording, each with a degree and a band, the pair at a target and at a gap
-/// that there is, and an order sheet.
+/// that there is, and an order sheet; and the entry.
 pub fn same_answers(random: &mut Random, records: &[Record], marks: &[i64], held: &[u8], full: &[u8]) {
+    assert_eq!(mill::entry(full), mill::entry(held), "the entry with marks {marks:?} of {records:?}");
     for _ in 0..4 {
         let size = random.pick(&[1, 1, 2, 3, 5]);
         let mut text = plain_text(random, records, marks, size).into_bytes();

@@ -1,6 +1,7 @@
 //! Covers: growing runs: long lists of steps, readings of any bytes, moments set and gone back to, refused steps among them, against a
-//! history of plain lists, and after each step what the run holds and what its bytes are; the limits of 128 and of 4,096; buffers that
-//! are too short or longer, garbage in them, copies; that what is held answers as the run does and thins with further readings.
+//! history of plain lists, and after each step what the run holds, its entry and what its bytes are; the limits of 128 and of 4,096;
+//! buffers that are too short or longer, garbage in them, copies; that what is held answers as the run does and thins with further
+//! readings.
 
 use crate::calls::{at_the_desk, count, hex, number_of, same_bytes, same_numbers, Tally};
 use crate::laws::same_answers;
@@ -8,8 +9,8 @@ use crate::support::cases::{begin, cases, one_alone};
 use crate::support::r2::r2_bytes;
 use crate::support::random::Random;
 use crate::support::recordings::{self, damaged, flat, odd_marks, with_additions};
-use mill::sys::{self, MILL_HELD_BYTES, MILL_LIVE_BYTES};
-use mill::{Live, Refusal};
+use mill::sys::{self, MILL_ENTRY_BYTES, MILL_HELD_BYTES, MILL_LIVE_BYTES};
+use mill::{Entry, Live, Refusal};
 use reference::kept::mark_bytes;
 use reference::live::{self, MOST_HELD};
 use reference::recording::{bytes, in_rules, Record, FALLING, MOST_TIME, RISING};
@@ -116,6 +117,19 @@ impl Held {
         };
         let found = read(&self.bytes, room, sys::mill_live_kept);
         same_bytes(&expected, found, || format!("mill_live_kept, {room} bytes of output, of {}", hex(&self.bytes)));
+        number_of(&expected)
+    }
+
+    /// Reads out the entry and compares with a fresh reckoning of the history; the outcome's number. It only reads the run.
+    #[track_caller]
+    pub fn entry(&self, room: usize) -> u32 {
+        count();
+        let expected = match &self.live {
+            None => Err(Refused::plain(11)),
+            Some(live) => live.entry(room),
+        };
+        let found = read(&self.bytes, room, sys::mill_live_entry);
+        same_bytes(&expected, found, || format!("mill_live_entry, {room} bytes of output, of {}", hex(&self.bytes)));
         number_of(&expected)
     }
 
@@ -226,8 +240,10 @@ fn lists_of_steps() {
         }
         let times = [Record { time: random.between(0, 200), ..flat(1)[0] }];
         tally.add(held.kept(2048));
+        tally.add(held.entry(MILL_ENTRY_BYTES));
         let marks = if random.once_in(8) { odd_marks(random) } else { mark_bytes(&recordings::marks(random, &times)) };
         tally.add(held.start(&marks));
+        tally.add(held.entry(random.pick(&[0, MILL_ENTRY_BYTES])));
         let kind = Kind::any(random);
         for _ in 0..random.pick(&[20, 60, 250, 600]) {
             let step = any_step(random, kind, held.run());
@@ -236,7 +252,9 @@ fn lists_of_steps() {
             back += u64::from(held.run().len() < before);
             most = most.max(held.run().len() / 16);
             held.kept(MILL_HELD_BYTES);
+            held.entry(MILL_ENTRY_BYTES);
             if random.once_in(12) {
+                tally.add(held.entry(random.pick(&[0, 1, 31, 33, 64])));
                 let just = held.live.as_ref().map_or(0, |live| live.kept().len());
                 tally.add(held.kept(just));
                 tally.add(held.kept(just.saturating_sub(1 + random.below(16))));
@@ -249,7 +267,7 @@ fn lists_of_steps() {
         }
     });
     tally.saw(&[0], 10_000);
-    tally.saw(&[1, 3, 10, 11, 18, 19], 100);
+    tally.saw(&[1, 3, 4, 10, 11, 18, 19], 100);
     assert!(one_alone() || back > 500 && most > 250, "{back} times shorter by going back, {most} readings at most");
 }
 
@@ -267,12 +285,13 @@ fn long_runs() {
             if turn % 512 == 500 {
                 assert_eq!(held.save(1 + turn / 512 % 8), 0);
                 held.kept(MILL_HELD_BYTES);
+                assert_eq!(held.entry(MILL_ENTRY_BYTES), 0);
             }
         }
-        assert_eq!(held.kept(MILL_HELD_BYTES), 0);
+        assert_eq!((held.kept(MILL_HELD_BYTES), held.entry(MILL_ENTRY_BYTES)), (0, 0));
         for name in [3, 8, 1] {
             assert_eq!(held.restore(name), 0);
-            assert_eq!(held.kept(MILL_HELD_BYTES), 0);
+            assert_eq!((held.kept(MILL_HELD_BYTES), held.entry(MILL_ENTRY_BYTES)), (0, 0));
         }
     });
     tally.saw(&[0], 10_000);
@@ -312,6 +331,8 @@ fn one_hundred_and_twenty_eight_kept_and_one_more() {
     }
     assert_eq!(held.add(&Record { time: 128, slope: [RISING, 1], ..flat(1)[0] }.bytes()), 19);
     assert_eq!(held.kept(2048), 0);
+    assert_eq!(held.entry(32), 0);
+    assert_eq!(Live::from_bytes(&held.bytes).entry().unwrap().tops_a, 64);
 }
 
 /// 4,096 readings and one more: 1 before 2 and 2 before 3; a moment has its own count.
@@ -337,6 +358,8 @@ fn four_thousand_and_ninety_six_readings_and_one_more() {
     assert_eq!(held.restore(2), 0);
     assert_eq!(held.add(last), 2);
     assert_eq!(held.kept(2048), 0);
+    assert_eq!(held.entry(32), 0);
+    assert_eq!(Live::from_bytes(&held.bytes).entry().unwrap().last_time, 4_095);
 }
 
 /// The place of 3 is the reading's index in the run, not among those kept.
@@ -407,6 +430,44 @@ fn moments_by_hand() {
     assert_eq!(Live::from_bytes(&[]).kept(), Err(Refusal::BadMarks));
 }
 
+/// The entry of R2 as it grows and goes back, by hand.
+#[test]
+fn entries_by_hand() {
+    begin("entries of a run by hand", 0);
+    let r2 = r2_bytes();
+    let mut run = Live::start(&[]).unwrap();
+    // An empty run has none, whatever the output.
+    assert_eq!(run.entry(), Err(Refusal::NoRecord));
+    assert_eq!(run.entry_into(&mut []), Err(Refusal::NoRecord));
+    run.save(8).unwrap();
+    let entry = |last_time: u32, least_a: i32, tops_a: u32| {
+        Ok(Entry { first_time: 0, last_time, greatest_a: 10, least_a, greatest_b: 0, least_b: 0, tops_a, tops_b: 0 })
+    };
+    for (index, reading) in r2.chunks(16).enumerate() {
+        run.add(reading).unwrap();
+        assert_eq!(run.entry(), entry(10 * index as u32, 10 - index as i32, u32::from(index >= 4)));
+        assert_eq!(run.entry(), mill::entry(&r2[..16 * (index + 1)]));
+        // Refused, it changes nothing.
+        assert!(run.add(reading).is_err());
+        assert_eq!(run.entry().unwrap().last_time, 10 * index as u32);
+        if index == 3 {
+            run.save(1).unwrap();
+        }
+    }
+    run.save(2).unwrap();
+    run.restore(1).unwrap();
+    assert_eq!(run.entry(), entry(30, 7, 0));
+    // On from there with another reading: the discarded top is none of the run's.
+    run.add(&r2[16 * 8..]).unwrap();
+    assert_eq!(run.entry(), entry(80, 2, 0));
+    run.restore(2).unwrap();
+    assert_eq!(run.entry(), entry(80, 2, 1));
+    assert_eq!(run.entry_into(&mut [0; 31]), Err(Refusal::ShortOutput));
+    assert_eq!(run.entry_into(&mut [0; 33]), Ok(32));
+    run.restore(8).unwrap();
+    assert_eq!(run.entry(), Err(Refusal::NoRecord));
+}
+
 /// Marks that 11 refuses: every step is refused 11, before all else, until a run is begun anew.
 #[test]
 fn a_run_whose_marks_are_refused() {
@@ -425,11 +486,13 @@ fn a_run_whose_marks_are_refused() {
             assert_eq!(held.restore(3), 11);
             assert_eq!(held.restore(0), 11);
             assert_eq!(held.kept(0), 11);
+            assert_eq!((held.entry(0), held.entry(MILL_ENTRY_BYTES)), (11, 11));
         }
         // A new run has no moment of the old one.
         assert_eq!(held.start(&[]), 0);
         assert_eq!(held.restore(3), 18);
         assert_eq!(held.kept(0), 0);
+        assert_eq!((held.entry(0), held.entry(MILL_ENTRY_BYTES)), (4, 4));
     }
 }
 
@@ -455,6 +518,7 @@ fn every_length_of_the_buffer() {
             assert_eq!(cut.save(1), 11);
             assert_eq!(cut.restore(1), 11);
             assert_eq!(cut.kept(2048), 11);
+            assert_eq!(cut.entry(MILL_ENTRY_BYTES), 11);
         }
     }
 }
@@ -472,6 +536,7 @@ fn garbage_in_the_buffer() {
             let step = any_step(random, kind, &[]);
             assert_eq!(held.step(&step), 11);
             assert_eq!(held.kept(2048), 11);
+            assert_eq!(held.entry(MILL_ENTRY_BYTES), 11);
         }
         let mut held = Held::begun(&[7, 40]);
         let kind = Kind { changes: 2, step: 2 };
@@ -502,6 +567,13 @@ fn garbage_in_the_buffer() {
             let found = read(&held.bytes, room, sys::mill_live_kept);
             assert_eq!(found, read(&held.bytes, room, sys::mill_live_kept));
             assert!([0, 10, 11].contains(&sys::mill_number(found.0)) && found.1.len() <= MILL_HELD_BYTES);
+            let entry = read(&held.bytes, room, sys::mill_live_entry);
+            assert_eq!(entry, read(&held.bytes, room, sys::mill_live_entry));
+            let (number, all) = (sys::mill_number(entry.0), read(&held.bytes, MILL_HELD_BYTES, sys::mill_live_kept));
+            assert_eq!(number == 11, sys::mill_number(all.0) == 11, "a run or none");
+            assert_eq!(number == 4, all.0 == 0, "an empty run");
+            assert_eq!(number == 10, all.0 > 0 && number != 11 && room < MILL_ENTRY_BYTES);
+            assert!(number > 0 || entry.1.len() == MILL_ENTRY_BYTES);
         }
         // A run begins anew over any bytes.
         assert_eq!(held.start(&[]), 0);
@@ -521,6 +593,7 @@ fn copies_go_on() {
             let step = any_step(random, kind, held.run());
             let mut copy = held.clone();
             assert_eq!((held.step(&step), &held.bytes), (copy.step(&step), &copy.bytes));
+            assert_eq!(held.entry(MILL_ENTRY_BYTES), copy.entry(MILL_ENTRY_BYTES));
         }
     });
 }
@@ -545,6 +618,8 @@ fn what_is_held_stands_for_the_run() {
         if !records.is_empty() {
             same_answers(random, &records, &marks, &out, &run);
         }
+        let entry = Live::from_bytes(&held.bytes).entry();
+        assert_eq!((&entry, &entry), (&mill::entry(&out), &mill::entry(&run)));
         let mut further = records.clone();
         for _ in 0..random.below(12) {
             further.push(kind.next(random, further.last().copied()));

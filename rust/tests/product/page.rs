@@ -11,6 +11,10 @@
 //! ```` ```mill report 31 R1 R2 ```` puts texts and this target to these recordings: `met m, empty n, distances d, mean g`, or `no mean`.
 //! ```` ```mill live 40 ```` makes steps of a growing run with these marks, parted by `; `: times of readings, `save n` and `back n`; the
 //! answer are the times of the readings then held, `none`, or what refused a step.
+//! ```` ```mill live entry ```` makes steps without marks and tells the entry of the run after them.
+//! ```` ```mill entry ```` tells entries: a text is a recording's name, or that and `kept` with marks behind it for its kept readings; the
+//! answer are the entry's eight numbers, parted by `, `. ```` ```mill find R1 R2 ```` seeks in the entries of these recordings: a text is a
+//! curve and a level; the answer are the numbers found, or `none`.
 //! ```` ```mill R2 ```` to ```` ```mill R5 ````, with any of these behind it, ask R2 to R5, and
 //! ```` ```mill R4 old ```` the readings that document 01's own rule kept of R4.
 //! Blank lines, and lines that begin with `#`, say nothing. A block ```` ```ask ```` holds lines `$ echo 'text' | ask`, each with
@@ -22,7 +26,7 @@ use crate::support::r2::{self, r2_bytes};
 use crate::support::r3::{self, r3_bytes};
 use crate::support::r4::{self, r4_bytes};
 use crate::support::r5::r5_bytes;
-use mill::{Added, Degree, Live, Order, Refusal, Report, Run};
+use mill::{Added, Curve, Degree, Entry, Live, Order, Refusal, Report, Run};
 use reference::recording::{bytes, in_rules};
 
 /// Of which recording.
@@ -52,6 +56,11 @@ enum Asked {
     Report(i64, Vec<Recording>),
     /// Steps of a growing run with these marks.
     Live(Vec<u32>),
+    /// The same without marks, for the entry.
+    LiveEntry,
+    Entry,
+    /// In the entries of these recordings.
+    Find(Vec<Recording>),
     AtThePrompt,
 }
 
@@ -133,6 +142,12 @@ fn block_of(name: &str) -> Result<Block, String> {
         ["degree", target] => Asked::Degree(target.parse().map_err(unread)?),
         ["band", e] => Asked::Band(e.parse().map_err(unread)?),
         ["order"] => Asked::Order,
+        ["entry"] => Asked::Entry,
+        ["find", of @ ..] => {
+            let of: Option<Vec<Recording>> = of.iter().map(|word| recording_of(word)).collect();
+            Asked::Find(of.ok_or(format!("recordings of '{name}'"))?)
+        }
+        ["live", "entry"] => Asked::LiveEntry,
         ["live", marks @ ..] => {
             let marks: Result<Vec<u32>, _> = marks.iter().map(|word| word.parse()).collect();
             Asked::Live(marks.map_err(unread)?)
@@ -213,14 +228,47 @@ fn answer(example: &Example) -> String {
             Order::Broken { time, line } => format!("line {line} broken at {time}"),
         }),
         Asked::Report(target, recordings) => report(text, *target, recordings),
-        Asked::Live(marks) => steps(&recording, marks, &example.text),
+        Asked::Live(marks) => steps(&recording, marks, &example.text).and_then(|run| held(&run)),
+        Asked::LiveEntry => steps(&recording, &[], &example.text).and_then(|run| run.entry()).map(eight),
+        Asked::Entry => mill::entry(&readings_of(&example.text)).map(eight),
+        Asked::Find(recordings) => found(recordings, &example.text),
         Asked::AtThePrompt => return at_the_prompt(mill::question(&recording, text)),
     };
     written.unwrap_or_else(|refusal| refusal.to_string())
 }
 
-/// The times that a run holds after the steps, which the page writes.
-fn steps(recording: &[u8], marks: &[u32], steps: &str) -> Result<String, Refusal> {
+/// The recording of this name, or what is kept of it with the marks behind `kept`.
+fn readings_of(text: &str) -> Vec<u8> {
+    let words: Vec<&str> = text.split_whitespace().collect();
+    let recording = bytes_of(recording_of(words[0]).expect("a recording"));
+    match words[1..] {
+        [] => recording,
+        ["kept", ref marks @ ..] => {
+            let marks: Vec<u32> = marks.iter().map(|mark| mark.parse().expect("a mark")).collect();
+            mill::thin(&recording, &marks).expect("accepted marks")
+        }
+        _ => panic!("'{text}' is no recording"),
+    }
+}
+
+/// The numbers of an entry, in their order.
+fn eight(entry: Entry) -> String {
+    let Entry { first_time, last_time, greatest_a, least_a, greatest_b, least_b, tops_a, tops_b } = entry;
+    format!("{first_time}, {last_time}, {greatest_a}, {least_a}, {greatest_b}, {least_b}, {tops_a}, {tops_b}")
+}
+
+/// The numbers of the recordings in which a curve comes up to a level, by their entries.
+fn found(recordings: &[Recording], text: &str) -> Result<String, Refusal> {
+    let entries: Vec<Entry> = recordings.iter().map(|recording| mill::entry(&bytes_of(*recording)).expect("readings")).collect();
+    let (curve, level) = text.split_once(' ').expect("a curve and a level");
+    let curve = if curve == "A" { Curve::A } else { Curve::B };
+    let numbers = mill::find(&entries, curve, level.trim().parse().expect("a level"))?;
+    let numbers: Vec<String> = numbers.iter().map(u32::to_string).collect();
+    Ok(if numbers.is_empty() { "none".into() } else { numbers.join(", ") })
+}
+
+/// The run after the steps, which the page writes.
+fn steps(recording: &[u8], marks: &[u32], steps: &str) -> Result<Live, Refusal> {
     let mut run = Live::start(marks)?;
     for step in steps.split(';') {
         let words: Vec<&str> = step.split_whitespace().collect();
@@ -236,6 +284,11 @@ fn steps(recording: &[u8], marks: &[u32], steps: &str) -> Result<String, Refusal
             }
         }
     }
+    Ok(run)
+}
+
+/// The times of the readings that a run holds.
+fn held(run: &Live) -> Result<String, Refusal> {
     let times: Vec<String> = run.kept()?.chunks(16).map(|reading| reading[0].to_string()).collect();
     Ok(if times.is_empty() { "none".into() } else { times.join(", ") })
 }
@@ -353,6 +406,9 @@ fn the_page_answers_as_the_library() {
     }
     assert!(examples.iter().any(|example| matches!(example.asked, Asked::Report(..))), "{path} has no example of a report");
     assert!(examples.iter().any(|example| matches!(example.asked, Asked::Live(_))), "{path} has no example of a growing run");
+    assert!(examples.iter().any(|example| matches!(example.asked, Asked::Entry)), "{path} has no example of an entry");
+    assert!(examples.iter().any(|example| matches!(example.asked, Asked::LiveEntry)), "{path} has no example of a run's entry");
+    assert!(examples.iter().any(|example| matches!(example.asked, Asked::Find(_))), "{path} has no example of finding");
     for name in names {
         assert!(examples.iter().any(|example| example.text.contains(name)), "{path} has no example with {name}");
     }
@@ -436,6 +492,20 @@ lag => met 0, empty 2, distances 0, mean 1
 0 10; save 1; 20; back 1 => 0, 10
 0 10; save 1; 20; back 1; 0 => refused 3 1
 ```
+```mill entry
+R2 kept 10 => 0, 80, 10, 2, 0, 0, 1, 0
+R2 => 0, 80, 10, 2, 0, 0, 2, 0
+```
+```mill find R1 R2 R1
+A 90 => 0, 2
+A 91 => none
+A 11 => 0, 1, 2
+B 2000000001 => refused 12 0
+```
+```mill R2 live entry
+0 10; save 1; 20; back 1 => 0, 10, 10, 9, 0, 0, 0, 0
+save 1; 0; back 1 => 0, 0, 10, 10, 0, 0, 0, 0
+```
 ```ask
 $ echo 'peaks(A)' | ask
 runs 2
@@ -450,9 +520,9 @@ refused 6 0
 ```
 ";
     let found = examples(page).unwrap();
-    assert_eq!(found.len(), 37);
+    assert_eq!(found.len(), 45);
     let wrong = wrong(&found);
-    assert_eq!(wrong.len(), 13, "{wrong:?}");
+    assert_eq!(wrong.len(), 16, "{wrong:?}");
     assert_eq!(wrong[0], "line 7: A=v|A>90 => 40, and not refused 9 9");
     assert_eq!(wrong[1], "line 22: F(T=v&A=55) => 50, and not empty");
     assert_eq!(wrong[2], "line 26: peaks(A) => distance 19, degree 0.05, and not distance 19, degree 0.06");
@@ -465,7 +535,10 @@ refused 6 0
     assert_eq!(wrong[9], "line 65: 7 16, 16 7 => line 1 broken at 20, and not line 0 broken at 20");
     assert_eq!(wrong[10], "line 69: lag => met 0, empty 2, distances 0, no mean, and not met 0, empty 2, distances 0, mean 1");
     assert_eq!(wrong[11], "line 73: 0 10; save 1; 20; back 1; 0 => refused 3 2, and not refused 3 1");
-    assert_eq!(wrong[12], "line 82: lag => runs 0\n, and not runs 1\n");
+    assert_eq!(wrong[12], "line 77: R2 => 0, 80, 10, 2, 0, 0, 1, 0, and not 0, 80, 10, 2, 0, 0, 2, 0");
+    assert_eq!(wrong[13], "line 82: A 11 => 0, 2, and not 0, 1, 2");
+    assert_eq!(wrong[14], "line 87: save 1; 0; back 1 => refused 4 0, and not 0, 0, 10, 10, 0, 0, 0, 0");
+    assert_eq!(wrong[15], "line 96: lag => runs 0\n, and not runs 1\n");
     assert!(examples("```mill\nlag\n```\n").is_err());
     assert!(examples("```mill\nlag => empty\n").is_err());
     assert!(examples("```mill keep\n```\n").is_err());
@@ -480,5 +553,7 @@ refused 6 0
     assert!(examples("```mill report x R1\n```\n").is_err());
     assert!(examples("```mill report 3 R9\n```\n").is_err());
     assert!(examples("```mill order 3\n```\n").is_err());
+    assert!(examples("```mill entry R1\n```\n").is_err());
+    assert!(examples("```mill find R9\n```\n").is_err());
     assert!(examples("```ask\nruns 0\n```\n").is_err());
 }

@@ -6,9 +6,9 @@ use crate::support::recordings::{flat, put_top, with_tops};
 use crate::support::small_stack::on_stack_of;
 use crate::support::{header, painted};
 use mill::sys::{
-    mill_band, mill_degree, mill_lab_degree, mill_lab_pair, mill_lab_question, mill_live_add, mill_live_kept, mill_live_restore,
-    mill_live_save, mill_live_start, mill_order, mill_pair, mill_question, mill_report_add, mill_report_start, mill_thin,
-    MILL_REPORT_BYTES,
+    mill_band, mill_degree, mill_entry, mill_find, mill_lab_degree, mill_lab_pair, mill_lab_question, mill_live_add,
+    mill_live_entry, mill_live_kept, mill_live_restore, mill_live_save, mill_live_start, mill_order, mill_pair, mill_question,
+    mill_report_add, mill_report_start, mill_thin, MILL_MAX_ENTRIES, MILL_REPORT_BYTES,
 };
 use reference::recording::bytes;
 use std::collections::BTreeMap;
@@ -116,6 +116,10 @@ enum Job {
     LiveSave(Vec<u8>),
     LiveRestore(Vec<u8>),
     LiveKept(Vec<u8>),
+    Entry(Vec<u8>),
+    /// Of entries.
+    Find(Vec<u8>),
+    LiveEntry(Vec<u8>),
 }
 
 impl Job {
@@ -138,6 +142,9 @@ impl Job {
             Job::LiveSave(_) => ("mill_live_save", header::stack("LIVE_SAVE")),
             Job::LiveRestore(_) => ("mill_live_restore", header::stack("LIVE_RESTORE")),
             Job::LiveKept(_) => ("mill_live_kept", header::stack("LIVE_KEPT")),
+            Job::Entry(_) => ("mill_entry", header::stack("ENTRY")),
+            Job::Find(_) => ("mill_find", header::stack("FIND")),
+            Job::LiveEntry(_) => ("mill_live_entry", header::stack("LIVE_ENTRY")),
         }
     }
 }
@@ -177,7 +184,8 @@ fn jobs() -> Vec<Job> {
             full,
             Job::LiveSave(run.clone()),
             Job::LiveRestore(run.clone()),
-            Job::LiveKept(run),
+            Job::LiveKept(run.clone()),
+            Job::LiveEntry(run),
         ]);
         let mut run = mill::Live::start(&[]).unwrap();
         recording.chunks(16).take(100).for_each(|reading| run.add(reading).unwrap_or(()));
@@ -191,8 +199,12 @@ fn jobs() -> Vec<Job> {
         jobs.push(Job::Pair(recording.clone(), 16));
         jobs.push(Job::Pair(recording.clone(), 5));
         jobs.push(Job::Order(recording.clone()));
+        jobs.push(Job::Entry(recording.clone()));
+        jobs.push(Job::Find(mill::entry(&recording).unwrap().to_bytes().repeat(MILL_MAX_ENTRIES)));
         jobs.push(Job::Thin(recording));
     }
+    jobs.push(Job::Entry(vec![]));
+    jobs.push(Job::Find(vec![]));
     jobs
 }
 
@@ -232,6 +244,9 @@ fn run(job: &Job, out: &mut [u8]) -> u64 {
                 mill_live_restore(out.as_mut_ptr(), out.len(), 8)
             }
             Job::LiveKept(live) => mill_live_kept(live.as_ptr(), live.len(), out.as_mut_ptr(), out.len()),
+            Job::Entry(recording) => mill_entry(recording.as_ptr(), recording.len(), out.as_mut_ptr(), out.len()),
+            Job::LiveEntry(live) => mill_live_entry(live.as_ptr(), live.len(), out.as_mut_ptr(), out.len()),
+            Job::Find(entries) => mill_find(entries.as_ptr(), entries.len(), 1, 0, out.as_mut_ptr(), out.len()),
             Job::ReportStart(text) => mill_report_start(3, text.as_ptr(), text.len(), 7, out.as_mut_ptr(), out.len()),
             Job::ReportAdd(report, recording) => {
                 let (mut distances, mut mean) = (0, 0.0);
@@ -317,7 +332,10 @@ fn a_stack_that_is_too_small_is_seen() {
         (Job::LiveAdd(live.clone(), flat(1)[0].bytes().to_vec()), 32),
         (Job::LiveSave(live.clone()), 32),
         (Job::LiveRestore(live.clone()), 32),
-        (Job::LiveKept(live), 32),
+        (Job::LiveKept(live.clone()), 32),
+        (Job::LiveEntry(live), 16),
+        (Job::Entry(bytes(&flat(3))), 16),
+        (Job::Find(vec![9; 96]), 16),
     ];
     if let Ok(which) = std::env::var(LESS) {
         let which: usize = which.parse().unwrap();

@@ -107,6 +107,18 @@ fn every_refusal() {
         (17, mill::band(&recording, b"peaks(A)", 0).unwrap_err()),
         (18, mill::Live::start(&[]).unwrap().restore(1).unwrap_err()),
         (19, full.add(&Reading { time: 128, ..addition }.to_bytes()).unwrap_err()),
+        (1, mill::entry(&recording[1..]).unwrap_err()),
+        (2, mill::entry(&bytes(&flat(4097))).unwrap_err()),
+        (3, mill::entry(&bad).unwrap_err()),
+        (4, mill::entry(&[]).unwrap_err()),
+        (10, mill::entry_into(&recording, &mut [0; 31]).unwrap_err()),
+        (10, mill::find_into(&[0; 32], Curve::B, 0, &mut [0; 3]).unwrap_err()),
+        (4, mill::Live::start(&[]).unwrap().entry().unwrap_err()),
+        (10, full.entry_into(&mut [0; 31]).unwrap_err()),
+        (11, mill::Live::from_bytes(&[]).entry().unwrap_err()),
+        (12, mill::find(&[], Curve::A, 2_000_000_001).unwrap_err()),
+        (20, mill::find(&[mill::Entry::from_bytes([0; 32]); 2_049], Curve::A, 0).unwrap_err()),
+        (20, mill::find_into(&[0; 33], Curve::A, 2_000_000_001, &mut []).unwrap_err()),
     ];
     for (number, refusal) in found {
         assert_eq!(refusal.number(), number);
@@ -155,4 +167,10 @@ fn outputs_stay_behind_the_result() {
     assert_eq!(mill::thin_into(&r2_bytes(), &[], &mut out), Ok(96));
     assert_eq!(out[96..], [7; 34]);
     assert_eq!(mill::thin_into(&r1(), &[1], &mut out), Err(Refusal::BadMarks));
+    let mut out = [7; 40];
+    assert_eq!(mill::entry_into(&r1(), &mut out), Ok(32));
+    assert_eq!((mill::entry(&r1()).unwrap().to_bytes(), [7; 8]), (out[..32].try_into().unwrap(), out[32..].try_into().unwrap()));
+    let mut found = [7; 9];
+    assert_eq!(mill::find_into(&out[..32], Curve::A, 90, &mut found), Ok(4));
+    assert_eq!(found, [0, 0, 0, 0, 7, 7, 7, 7, 7]);
 }

@@ -16,4 +16,5 @@ pub mod recordings;
 pub mod sheets;
 pub mod slopes;
 pub mod small_stack;
+pub mod summaries;
 pub mod texts;
