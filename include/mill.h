@@ -74,7 +74,9 @@
 **
 ** RETURN VALUES. The high 32 bits are the number of the refusal, 0 for a
 ** result. The low 32 bits are the result or, with a refusal, its place: the
-** index of the record, from 0, for MILL_BAD_RECORD, else 0.
+** index of the record, from 0, for MILL_BAD_RECORD, else 0. MILL_IS_RESULT tells
+** the two apart, MILL_RESULT, MILL_NUMBER and MILL_PLACE take them out, and
+** mill_sentence says a refusal in plain words.
 **
 **
 ** MEMORY. A call writes its result and nothing else. With a refusal, with
@@ -123,6 +125,9 @@
 #ifdef __cplusplus
 extern "C" {
 #endif
+
+/* The version. Its first number, which is that of libmill.so too, changes where programs must be compiled again. */
+#define MILL_VERSION "1.0.0"
 
 /* The axis: the numbers of sets, the numbers in texts, the targets. */
 #define MILL_AXIS_LOW (-2000000000)
@@ -197,7 +202,9 @@ extern "C" {
 #define MILL_CURVE_A 0
 #define MILL_CURVE_B 1
 
-/* The number and the place in a return value. */
+/* Whether a return value is a result, the result; the number and the place of a refusal. */
+#define MILL_IS_RESULT(returned) (MILL_NUMBER(returned) == 0)
+#define MILL_RESULT(returned) ((uint32_t)((uint64_t)(returned) & 0xFFFFFFFFu))
 #define MILL_NUMBER(returned) ((uint32_t)((uint64_t)(returned) >> 32))
 #define MILL_PLACE(returned) ((uint32_t)((uint64_t)(returned) & 0xFFFFFFFFu))
 
@@ -748,5 +755,37 @@ uint64_t mill_live_entry(const uint8_t *live, size_t live_len, uint8_t *out, siz
 #ifdef __cplusplus
 }
 #endif
+
+/*
+** The refusal of this number in plain words, without its place; for 0 that there is none,
+** and for a number that is no refusal's that it is not known. Never null.
+*/
+static inline const char *mill_sentence(uint32_t number)
+{
+    static const char *const sentences[] = {
+        "no refusal: this is a result",
+        "the recording is not in readings of 16 bytes",
+        "the recording has over 4,096 readings",
+        "a reading breaks its rules: its time is not after the one before, or one of its numbers is out of range",
+        "the recording or the run has no reading",
+        "the text is empty or over 256 bytes",
+        "the text can't be read as a question",
+        "the text has over 32 parts, or over 16 brackets open at once",
+        "the set that is asked for, or that of a part of the text, has over 256 runs",
+        "gaps, steps, lag or a pair is asked for of a curve with over 256 tops",
+        "the output is shorter than the result",
+        "the marks are not in 4 bytes each, are over 8, or one is over 2,000,000,000; or there is no run",
+        "the target or the level is not -2,000,000,000 to 2,000,000,000, or the curve is neither A nor B",
+        "the order sheet is not in lines of 2 bytes, has over 32 lines, or names a pigment that is not 1 to 16",
+        "a laboratory may not ask this",
+        "the number of batches is not 1 to 1,000, or no report is under way",
+        "the band is not 0 to 1,000,000",
+        "with a band one asks high, low, lowafter, capafter or ampl, and nothing else",
+        "the moment has no name from 1 to 8, or is gone back to and was not set",
+        "with this reading the run would hold over 128 kept readings",
+        "the summary is not in entries of 32 bytes, or has over 2,048 of them",
+    };
+    return number < sizeof sentences / sizeof sentences[0] ? sentences[number] : "a refusal that this version does not know";
+}
 
 #endif /* MILL_H */

@@ -107,6 +107,23 @@ static int answers(const char *text, size_t count, const int64_t *numbers)
     return answers_of(r1, R1_BYTES, text, count, numbers);
 }
 
+/* What the header says of a return value, and of each refusal in plain words. */
+static void returned_values(void)
+{
+    uint64_t refused = (uint64_t)MILL_BAD_RECORD << 32 | 5;
+    uint32_t number, other;
+    EXPECT(MILL_IS_RESULT(0) && MILL_RESULT(0) == 0);
+    EXPECT(MILL_IS_RESULT(0xFFFFFFFFu) && MILL_RESULT(0xFFFFFFFFu) == 0xFFFFFFFFu);
+    EXPECT(!MILL_IS_RESULT(refused) && MILL_NUMBER(refused) == MILL_BAD_RECORD && MILL_PLACE(refused) == 5);
+    EXPECT(!MILL_IS_RESULT((uint64_t)1 << 63));
+    for (number = 0; number <= 21; number++)
+        for (other = 0; other < number; other++)
+            EXPECT(strcmp(mill_sentence(number), mill_sentence(other)) != 0);
+    EXPECT(strcmp(mill_sentence(21), mill_sentence(0xFFFFFFFFu)) == 0);
+    EXPECT(strcmp(mill_sentence(MILL_NO_RECORD), "the recording or the run has no reading") == 0);
+    EXPECT(strcmp(mill_sentence(MILL_SHORT_OUTPUT), "the output is shorter than the result") == 0);
+}
+
 static void questions(void)
 {
     const int64_t low = MILL_AXIS_LOW, high = MILL_AXIS_HIGH;
@@ -909,6 +926,7 @@ int main(void)
     make_r1();
     make_r2();
     make_r3();
+    returned_values();
     questions();
     additions();
     degrees();

@@ -80,6 +80,9 @@ void questions()
     EXPECT(ask("dose(16)", 0) == MILL_BAD_RECORD);
     r1[MILL_RECORD_BYTES + 14] = 0;
     EXPECT(MILL_NUMBER(mill_question(NULL, 0, NULL, 0, NULL, 0)) == MILL_NO_RECORD);
+    EXPECT(!MILL_IS_RESULT(mill_question(NULL, 0, NULL, 0, NULL, 0)));
+    EXPECT(std::strcmp(mill_sentence(MILL_NO_RECORD), "the recording or the run has no reading") == 0);
+    EXPECT(MILL_IS_RESULT(0) && std::strcmp(mill_sentence(0), mill_sentence(21)) != 0);
 }
 
 void degrees()

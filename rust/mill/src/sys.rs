@@ -1,4 +1,16 @@
-//! The C boundary as `include/mill.h` declares it: its calls and its named numbers.
+//! The C boundary as `include/mill.h` declares it, which says what each is: its calls and its named numbers. A call is
+//! safe where each pointer is that of a live slice whose length follows it, or of a live number, and outputs are borrowed alone.
+//!
+//! ```
+//! use mill::sys::{mill_number, mill_place, mill_question, MILL_SET_BYTES};
+//! let recording = std::fs::read("../../crates/ask/data/run.rec")?;
+//! let (text, mut set) = (b"peaks(A)", [0; MILL_SET_BYTES]);
+//! let returned = unsafe {
+//!     mill_question(recording.as_ptr(), recording.len(), text.as_ptr(), text.len(), set.as_mut_ptr(), set.len())
+//! };
+//! assert_eq!((mill_number(returned), mill_place(returned)), (0, 16));
+//! # Ok::<(), Box<dyn std::error::Error>>(())
+//! ```
 
 /// The least number of the axis.
 pub const MILL_AXIS_LOW: i64 = -2_000_000_000;
@@ -115,6 +127,36 @@ pub const fn mill_number(returned: u64) -> u32 {
 /// The place of the refusal in a return value.
 pub const fn mill_place(returned: u64) -> u32 {
     returned as u32
+}
+
+/// The sentences of the refusals by their number; 0 is a result.
+const SENTENCES: [&str; 21] = [
+    "no refusal: this is a result",
+    "the recording is not in readings of 16 bytes",
+    "the recording has over 4,096 readings",
+    "a reading breaks its rules: its time is not after the one before, or one of its numbers is out of range",
+    "the recording or the run has no reading",
+    "the text is empty or over 256 bytes",
+    "the text can't be read as a question",
+    "the text has over 32 parts, or over 16 brackets open at once",
+    "the set that is asked for, or that of a part of the text, has over 256 runs",
+    "gaps, steps, lag or a pair is asked for of a curve with over 256 tops",
+    "the output is shorter than the result",
+    "the marks are not in 4 bytes each, are over 8, or one is over 2,000,000,000; or there is no run",
+    "the target or the level is not -2,000,000,000 to 2,000,000,000, or the curve is neither A nor B",
+    "the order sheet is not in lines of 2 bytes, has over 32 lines, or names a pigment that is not 1 to 16",
+    "a laboratory may not ask this",
+    "the number of batches is not 1 to 1,000, or no report is under way",
+    "the band is not 0 to 1,000,000",
+    "with a band one asks high, low, lowafter, capafter or ampl, and nothing else",
+    "the moment has no name from 1 to 8, or is gone back to and was not set",
+    "with this reading the run would hold over 128 kept readings",
+    "the summary is not in entries of 32 bytes, or has over 2,048 of them",
+];
+
+/// The refusal of this number in plain words.
+pub fn mill_sentence(number: u32) -> &'static str {
+    SENTENCES.get(number as usize).copied().unwrap_or("a refusal that this version does not know")
 }
 
 extern "C" {

@@ -166,7 +166,7 @@ fn bands_of_several_widths() {
         let today = mill::question(&recording, text.as_bytes()).unwrap();
         let one = |set: Option<Run>| set.into_iter().collect::<Vec<_>>();
         let mut before = mill::band(&recording, text.as_bytes(), 0).unwrap();
-        assert_eq!((one(before.certain), one(before.possible)), (today.clone(), today), "{text}");
+        assert_eq!((one(before.certain), one(before.possible)), (today.runs().to_vec(), today.runs().to_vec()), "{text}");
         for e in [1, 2, 50, random.between(50, WIDEST), WIDEST] {
             let wider = mill::band(&recording, text.as_bytes(), e).unwrap();
             let within = |inner: Option<Run>, outer: Option<Run>| match (inner, outer) {

@@ -88,9 +88,9 @@ fn typed(declared: &str) -> (String, String) {
     (declared[at..].into(), declared[..at].trim_end().into())
 }
 
-/// The declarations of a C header, which has nothing else outside its comments and directives.
+/// The declarations of a C header, which has nothing else outside its comments and directives but functions `static inline`.
 fn in_c(text: &str) -> Vec<Call> {
-    let code = c_code(text);
+    let code = without(&c_code(text), "static inline ", "\n}\n");
     let code: Vec<&str> = code.lines().filter(|line| !line.starts_with('#')).collect();
     let code = code.join("\n").replacen("extern \"C\" {", "", 1).replacen('}', "", 1);
     let declarations = code.split(';').filter(|declaration| !declaration.trim().is_empty());

@@ -10,7 +10,7 @@ use crate::support::r3::r3_bytes;
 use crate::support::random::Random;
 use crate::support::recordings::{self, damaged, flat, with_many_events, with_most_tops, with_slopes, with_tops, with_values};
 use mill::sys::{self, mill_thin, MILL_ENTRY_BYTES};
-use mill::{Entry, Refusal, Run};
+use mill::{Entry, Refusal, Run, Set};
 use reference::kept::{chosen, mark_bytes, selected_bytes};
 use reference::recording::{bytes, in_rules, Record, MOST_TIME, MOST_VALUE};
 use reference::{self, summary};
@@ -242,15 +242,15 @@ fn entries_say_what_questions_say() {
         let recording = bytes(&records);
         let found = mill::entry(&recording).unwrap();
         let runs = |text: &str| mill::question(&recording, text.as_bytes());
-        let one = |text: &str| match runs(text).unwrap()[..] {
+        let one = |text: &str| match runs(text).unwrap().runs()[..] {
             [Run { low, high }] => (low, high),
             ref runs => panic!("{text}: {runs:?}"),
         };
         let time = |time: u32| (time as i32, time as i32);
         assert_eq!(one("T=v"), time(found.first_time));
         // No record lies after the last, and one after the time before it.
-        assert_eq!(runs(&format!("lowafter(A,{})", found.last_time)), Ok(vec![]));
-        assert_ne!(runs(&format!("lowafter(A,{})", i64::from(found.last_time) - 1)), Ok(vec![]));
+        assert_eq!(runs(&format!("lowafter(A,{})", found.last_time)), Ok(Set::default()));
+        assert_ne!(runs(&format!("lowafter(A,{})", i64::from(found.last_time) - 1)), Ok(Set::default()));
         assert_eq!((one("high(A)").1, one("low(A)").0), (found.greatest_a, found.least_a));
         assert_eq!((one("high(B)").1, one("low(B)").0), (found.greatest_b, found.least_b));
         for (text, tops) in [("peaks(A)", found.tops_a), ("peaks(B)", found.tops_b)] {

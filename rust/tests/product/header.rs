@@ -1,7 +1,9 @@
-//! Covers: that `include/mill.h` and the declarations in Rust name the same numbers, the numbers of the scope.
+//! Covers: that `include/mill.h` and the declarations in Rust name the same numbers, the numbers of the scope; that both say the
+//! same of each refusal, and are of one version.
 
-use crate::support::header::numbers;
+use crate::support::header::{numbers, sentences, version};
 use mill::sys::*;
+use mill::Refusal;
 use reference;
 use std::collections::BTreeMap;
 
@@ -60,4 +62,63 @@ fn the_header_and_the_independent_implementation_agree() {
     ] {
         assert_eq!(header[name], number, "{name}");
     }
+}
+
+#[test]
+fn the_header_and_the_crate_say_the_same_of_each_refusal() {
+    let said = sentences();
+    let (unknown, known) = said.split_last().unwrap();
+    assert_eq!(known.len(), 21, "a result, and the numbers from 1 to 20");
+    for (number, sentence) in (0..).zip(known) {
+        assert_eq!(mill_sentence(number), *sentence, "{number}");
+        assert!(sentence.len() > 10 && sentence.is_ascii() && !sentence.contains(['"', '\\']), "{sentence}");
+        assert_eq!(known.iter().filter(|other| *other == sentence).count(), 1, "{sentence}");
+        if let Some(refusal) = Refusal::of_returned(u64::from(number) << 32) {
+            assert_eq!((refusal.number(), refusal.sentence()), (number, *sentence));
+        }
+    }
+    for number in [21, 22, 255, 1 << 31, u32::MAX] {
+        assert_eq!(mill_sentence(number), *unknown);
+        let refusal = Refusal::of_returned(u64::from(number) << 32 | 7).unwrap();
+        assert_eq!((refusal.number(), refusal.place(), refusal.sentence()), (number, 7, *unknown));
+    }
+}
+
+/// Where a number of the header stands for a limit, its sentence has the same number.
+#[test]
+fn the_sentences_have_the_limits_of_the_header() {
+    let header = numbers();
+    let written = |number: i64| {
+        let digits = number.unsigned_abs().to_string();
+        let groups: Vec<&str> = digits.as_bytes().rchunks(3).rev().map(|group| std::str::from_utf8(group).unwrap()).collect();
+        format!("{}{}", if number < 0 { "-" } else { "" }, groups.join(","))
+    };
+    for (number, limits) in [
+        (MILL_PARTIAL_RECORD, &["RECORD_BYTES"][..]),
+        (MILL_TOO_MANY_RECORDS, &["MAX_RECORDS"]),
+        (MILL_TEXT_LENGTH, &["MAX_TEXT"]),
+        (MILL_TEXT_TOO_LARGE, &["MAX_NODES", "MAX_BRACKETS"]),
+        (MILL_TOO_MANY_RUNS, &["MAX_RUNS"]),
+        (MILL_TOO_MANY_TOPS, &["MAX_TOPS"]),
+        (MILL_BAD_MARKS, &["MARK_BYTES", "MAX_MARKS", "MAX_MARK"]),
+        (MILL_BAD_TARGET, &["AXIS_LOW", "AXIS_HIGH"]),
+        (MILL_BAD_SHEET, &["LINE_BYTES", "MAX_LINES", "MAX_PIGMENT"]),
+        (MILL_NO_REPORT, &["MAX_BATCHES"]),
+        (MILL_BAD_BAND, &["MAX_BAND"]),
+        (MILL_NO_MOMENT, &["MAX_MOMENTS"]),
+        (MILL_RUN_FULL, &["MAX_HELD"]),
+        (MILL_BAD_SUMMARY, &["ENTRY_BYTES", "MAX_ENTRIES"]),
+    ] {
+        let sentence = mill_sentence(number);
+        let words: Vec<&str> = sentence.split(' ').map(|word| word.trim_end_matches([',', ';'])).collect();
+        for limit in limits {
+            let limit = written(header[&format!("MILL_{limit}")]);
+            assert!(words.contains(&limit.as_str()), "{limit} in '{sentence}'");
+        }
+    }
+}
+
+#[test]
+fn the_header_and_the_crate_are_of_one_version() {
+    assert_eq!(version(), mill::VERSION);
 }

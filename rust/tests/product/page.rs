@@ -26,7 +26,7 @@ use crate::support::r2::{self, r2_bytes};
 use crate::support::r3::{self, r3_bytes};
 use crate::support::r4::{self, r4_bytes};
 use crate::support::r5::r5_bytes;
-use mill::{Added, Curve, Degree, Entry, Live, Order, Refusal, Report, Run};
+use mill::{Added, Curve, Degree, Entry, Live, Order, Refusal, Report, Run, Set};
 use reference::recording::{bytes, in_rules};
 
 /// Of which recording.
@@ -193,10 +193,10 @@ fn answer(example: &Example) -> String {
     let recording = bytes_of(example.recording);
     let text = example.text.as_bytes();
     let written = match &example.asked {
-        Asked::OfFull => mill::question(&recording, text).map(|runs| on_the_page(&runs)),
+        Asked::OfFull => mill::question(&recording, text).map(|set| on_the_page(set.runs())),
         Asked::OfKept(marks) => {
             let kept = mill::thin(&recording, marks).expect("accepted marks");
-            mill::question(&kept, text).map(|runs| on_the_page(&runs))
+            mill::question(&kept, text).map(|set| on_the_page(set.runs()))
         }
         Asked::OfPinned(marks, pins) => {
             let kept = mill::thin(&recording, marks).expect("accepted marks");
@@ -204,15 +204,15 @@ fn answer(example: &Example) -> String {
             let selection: Vec<u8> = recording.chunks(16).filter(pinned).flatten().copied().collect();
             assert_eq!(selection.len(), kept.len() + 16 * pins.len(), "readings that are there, and not kept");
             assert_eq!(mill::thin(&selection, marks).as_ref(), Ok(&kept), "thinned back");
-            mill::question(&selection, text).map(|runs| on_the_page(&runs))
+            mill::question(&selection, text).map(|set| on_the_page(set.runs()))
         }
         Asked::OfLaboratory(marks, own) => {
             let kept = mill::thin(&recording, marks).expect("accepted marks");
-            mill::lab_question(&kept, own, text).map(|runs| on_the_page(&runs))
+            mill::lab_question(&kept, own, text).map(|set| on_the_page(set.runs()))
         }
         Asked::OfOldList => {
             let old = kept_by(Rule::Document01, &in_rules(&recording).unwrap(), &[]);
-            mill::question(&bytes(&old), text).map(|runs| on_the_page(&runs))
+            mill::question(&bytes(&old), text).map(|set| on_the_page(set.runs()))
         }
         Asked::Degree(target) => mill::degree(&recording, text, *target).map(|degree| match degree {
             Degree::Met => "met".into(),
@@ -234,7 +234,7 @@ fn answer(example: &Example) -> String {
         Asked::Find(recordings) => found(recordings, &example.text),
         Asked::AtThePrompt => return at_the_prompt(mill::question(&recording, text)),
     };
-    written.unwrap_or_else(|refusal| refusal.to_string())
+    written.unwrap_or_else(refused)
 }
 
 /// The recording of this name, or what is kept of it with the marks behind `kept`.
@@ -319,14 +319,19 @@ fn on_the_page(runs: &[Run]) -> String {
     }
 }
 
+/// A refusal as the page and the program write it.
+fn refused(refusal: Refusal) -> String {
+    format!("refused {} {}", refusal.number(), refusal.place())
+}
+
 /// The lines that the program prints.
-fn at_the_prompt(outcome: Result<Vec<Run>, Refusal>) -> String {
+fn at_the_prompt(outcome: Result<Set, Refusal>) -> String {
     match outcome {
-        Ok(runs) => {
-            let lines: String = runs.iter().map(|run| format!("{} {}\n", run.low, run.high)).collect();
-            format!("runs {}\n{lines}", runs.len())
+        Ok(set) => {
+            let lines: String = set.iter().map(|run| format!("{} {}\n", run.low, run.high)).collect();
+            format!("runs {}\n{lines}", set.runs().len())
         }
-        Err(refusal) => format!("{refusal}\n"),
+        Err(refusal) => refused(refusal) + "\n",
     }
 }
 

@@ -91,15 +91,15 @@ fn what_may_not_be_pinned() {
     let full = r2_bytes();
     let kept = mill::thin(&full, &[]).unwrap();
     assert_eq!(at(&full, &[0, 10, 30, 40, 60, 80]), kept);
-    let top = Ok(vec![Run { low: 40, high: 40 }]);
-    assert_eq!(mill::question(&kept, b"peaks(A)"), top);
+    let asked = |recording: &[u8], text: &[u8]| mill::question(recording, text).unwrap().runs().to_vec();
+    assert_eq!(asked(&kept, b"peaks(A)"), [Run { low: 40, high: 40 }]);
     // A kept reading left out, whatever is put back: without the first and the rise at 10 no top is left.
-    assert_eq!(mill::question(&at(&full, &[20, 30, 40, 50, 60, 80]), b"peaks(A)"), Ok(vec![]));
+    assert_eq!(asked(&at(&full, &[20, 30, 40, 50, 60, 80]), b"peaks(A)"), []);
     assert_ne!(mill::thin(&at(&full, &[0, 20, 30, 40, 60, 80]), &[]), Ok(kept.clone()));
     // Other marks than those of the thinning, though pins are there.
     let pinned = at(&full, &[0, 10, 30, 40, 50, 60, 80]);
-    assert_eq!(mill::question(&full, b"capafter(A,10)"), Ok(vec![Run { low: 8, high: 2_000_000_000 }]));
-    assert_eq!(mill::question(&pinned, b"capafter(A,10)"), Ok(vec![Run { low: 7, high: 2_000_000_000 }]));
+    assert_eq!(asked(&full, b"capafter(A,10)"), [Run { low: 8, high: 2_000_000_000 }]);
+    assert_eq!(asked(&pinned, b"capafter(A,10)"), [Run { low: 7, high: 2_000_000_000 }]);
     assert_eq!(mill::thin(&pinned, &[]), Ok(kept.clone()));
     assert_ne!(mill::thin(&pinned, &[10]), mill::thin(&full, &[10]));
     // Not in order, or twice.
@@ -110,6 +110,6 @@ fn what_may_not_be_pinned() {
     // Altered, or of another recording: a level that R2 never reached.
     let mut altered = at(&full, &[0, 10, 20, 30, 40, 60, 80]);
     altered[2 * 16 + 4] = 11;
-    assert_eq!(mill::question(&altered, b"high(A)"), Ok(vec![Run { low: -2_000_000_000, high: 11 }]));
-    assert_eq!(mill::question(&full, b"high(A)"), Ok(vec![Run { low: -2_000_000_000, high: 10 }]));
+    assert_eq!(asked(&altered, b"high(A)"), [Run { low: -2_000_000_000, high: 11 }]);
+    assert_eq!(asked(&full, b"high(A)"), [Run { low: -2_000_000_000, high: 10 }]);
 }

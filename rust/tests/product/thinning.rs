@@ -259,7 +259,7 @@ fn a_plateau_longer_than_a_recording() {
             assert_eq!(calls.call(piece, 65_536), 0);
         }
         assert_eq!(calls.held, bytes(&kept_of_plateau(&records, before)));
-        assert_eq!(mill::question(&calls.held, b"peaks(B)"), Ok(vec![mill::Run { low: 19_999, high: 19_999 }]));
+        assert_eq!(mill::question(&calls.held, b"peaks(B)").unwrap().runs(), [mill::Run { low: 19_999, high: 19_999 }]);
     }
 }
 

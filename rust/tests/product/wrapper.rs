@@ -125,7 +125,7 @@ fn every_refusal() {
         assert_eq!(refusal.place(), if number == 3 { 5 } else { 0 });
     }
     assert_eq!(found[3].1, Refusal::BadRecord { index: 5 });
-    assert_eq!(found[3].1.to_string(), "refused 3 5");
+    assert_eq!(found[3].1.to_string(), format!("{} (refusal 3, reading 5 counted from 0)", found[3].1.sentence()));
     assert_eq!(found[7].1, Refusal::ShortOutput);
 }
 
@@ -154,7 +154,7 @@ fn every_refusal_of_questions() {
         assert_eq!(refusal.place(), if index == 2 { 5 } else { 0 });
     }
     assert_eq!(found[2], Refusal::BadRecord { index: 5 });
-    assert_eq!(found[2].to_string(), "refused 3 5");
+    assert_eq!(found[5].to_string(), format!("{} (refusal 6)", found[5].sentence()));
     assert_eq!(found[9], Refusal::ShortOutput);
 }
 
