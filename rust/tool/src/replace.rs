@@ -1,0 +1,90 @@
+//! Writing a file so that at every moment it is whole: the old one or the new.
+
+use crate::trouble::{reason, shown, Trouble};
+use std::ffi::OsString;
+use std::fs::{self, File, OpenOptions};
+use std::io::{self, Write};
+use std::os::unix::ffi::OsStrExt;
+use std::os::unix::fs::{fchown, MetadataExt};
+use std::path::{Path, PathBuf};
+
+/// Behind a file's name: where its new bytes are written, before they are put in its place.
+const NEW: &str = ".mill-new";
+
+/// The name beside a file that one run at a time uses. What it holds is nobody's: a run that was stopped left it.
+pub fn new_beside(file: &Path) -> PathBuf {
+    named_beside(file, NEW)
+}
+
+/// Names that are used so, and so no name of a file to keep.
+pub fn is_new(file: &Path) -> bool {
+    file.as_os_str().as_bytes().ends_with(NEW.as_bytes())
+}
+
+/// A file's name with something behind it.
+pub fn named_beside(file: &Path, suffix: &str) -> PathBuf {
+    let mut name = OsString::from(file);
+    name.push(suffix);
+    PathBuf::from(name)
+}
+
+/// The file that a name leads to: where the name is a link, what it links to, which must be there.
+pub fn real(file: &Path) -> Result<PathBuf, Trouble> {
+    match file.symlink_metadata() {
+        Ok(there) if there.is_symlink() => fs::canonicalize(file).map_err(|error| Trouble::io(file, error)),
+        _ => Ok(file.to_path_buf()),
+    }
+}
+
+/// The file of `-o`. What is no file and no folder, a device or a pipe, is written as it is.
+pub fn output(file: &Path, bytes: &[u8]) -> Result<(), Trouble> {
+    let real = match fs::metadata(file) {
+        Ok(there) if there.is_dir() => return Err(Trouble::of_file(file, "Is a directory")),
+        Ok(there) if !there.is_file() => {
+            let written = OpenOptions::new().write(true).open(file).and_then(|mut opened| opened.write_all(bytes));
+            return written.map_err(|error| Trouble::io(file, error));
+        }
+        _ => real(file)?,
+    };
+    let beside = named_beside(&real, &format!("{NEW}-{}", std::process::id()));
+    replace(&real, &beside, bytes)
+}
+
+/// Writes the bytes beside the file, flushes them to disk, puts them in its place and flushes the folder. Where this fails the
+/// file is as it was, unless the line says otherwise.
+pub fn replace(file: &Path, beside: &Path, bytes: &[u8]) -> Result<(), Trouble> {
+    let written = write_beside(file, beside, bytes).map_err(|error| format!("{}: {}", shown(beside), reason(&error)));
+    let put = written.and_then(|()| fs::rename(beside, file).map_err(|error| reason(&error)));
+    if let Err(why) = put {
+        let _ = fs::remove_file(beside);
+        return Err(Trouble::of_file(file, format!("not written: {why}")));
+    }
+    let flushed = File::open(folder_of(file)).and_then(|folder| folder.sync_all());
+    flushed.map_err(|error| {
+        let folder = shown(folder_of(file));
+        Trouble::of_file(file, format!("written, but its folder {folder} was not flushed to disk: {}", reason(&error)))
+    })
+}
+
+fn write_beside(file: &Path, beside: &Path, bytes: &[u8]) -> io::Result<()> {
+    // What an earlier run left there when it was stopped.
+    match fs::remove_file(beside) {
+        Err(error) if error.kind() != io::ErrorKind::NotFound => return Err(error),
+        _ => (),
+    }
+    let mut written = OpenOptions::new().write(true).create_new(true).open(beside)?;
+    if let Ok(there) = fs::metadata(file) {
+        // Only a superuser can give a file away; what others write is theirs.
+        let _ = fchown(&written, Some(there.uid()), Some(there.gid()));
+        written.set_permissions(there.permissions())?;
+    }
+    written.write_all(bytes)?;
+    written.sync_all()
+}
+
+fn folder_of(file: &Path) -> &Path {
+    match file.parent() {
+        Some(folder) if folder != Path::new("") => folder,
+        _ => Path::new("."),
+    }
+}

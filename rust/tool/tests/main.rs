@@ -1,0 +1,24 @@
+//! The tool, run as its users run it: every command with answers, refusals, usage errors, JSON and standard input; any bytes as files;
+//! runs that are killed or fail at each system call; several at once; the examples of `docs/TOOL.md`.
+
+#[path = "../../tests/support/mod.rs"]
+mod support;
+
+mod tool {
+    mod add;
+    mod any_bytes;
+    mod at_once;
+    mod csv;
+    mod every;
+    mod files;
+    mod folder;
+    mod json;
+    mod page;
+    mod questions;
+    mod report;
+    mod show;
+    mod stopped;
+    mod summary;
+    mod terminal;
+    mod thin;
+}
