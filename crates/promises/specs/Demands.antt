@@ -12,8 +12,6 @@ use Rattle.number.specs.Axis.{whole, OfAxis}
 use lib.Signed.{_≤ℤ_}
 use Rattle.number.specs.Words.{signed}
 use Rattle.refusal.specs.Outcome.{result}
-use Rattle.refusal.specs.Numbers.{numberOf, placeOf}
-use Rattle.refusal.specs.declared.Refusal.{Refusal}
 use Rattle.recording.specs.Reading.{curveOf}
 use Rattle.recording.specs.Recording.{readings, Accepted}
 use Rattle.runs.specs.Runs.{setBytes}
@@ -45,27 +43,27 @@ use Rattle.mill.specs.Calls.{QuestionCall, DegreeCall, PairCall, ThinCall, Band
 use Rattle.promises.specs.CallsMade.{Returned, readOff, CallsMade, PinnedCalls, heldAt, takenFrom}
 use Rattle.promises.specs.Output.{Wrote}
 use Rattle.promises.specs.Summary.{EntryWritten, NumbersWritten, SummaryMade}
-use Rattle.promises.specs.Table.{Request, question, degree, pair, thin, order, acceptedOrder, NoneMet, FirstMet, band, ordering, lab-question, lab-degree, lab-pair, naming, entry, find}
+use Rattle.promises.specs.Table.{Row, acceptedRows, questionRefusals, degreeRefusals, pairRefusals, thinRefusals, bandRefusals, orderRefusals, labQuestionRefusals, labDegreeRefusals, labPairRefusals, reportStartRefusals, entryRefusals, findRefusals, NoneMet, FirstMet}
 
 -- ---- DEMAND 1
 
--- "either the result or one numbered refusal": r is a result, its high half 0, exactly where no line of these numbers is met; else its high half is
+-- "either the result or one numbered refusal": r is a result, its high half 0, exactly where none of these lines is met; else its high half is
 -- the number, and its low half the place, of the first that is met
-pub record ByTheTable (q : Request) (ks : List ℕ) (r : ℕ) : Type 0 where
+pub record ByTheTable (refusals : List Row) (r : ℕ) : Type 0 where
   pub in-64-bits : r < half * half
-  pub a-result : (numberIn r ≡ 0) ↔ NoneMet q ks
-  pub a-refusal : ¬ (numberIn r ≡ 0) → (x : Refusal) × FirstMet q ks x × (numberIn r ≡ numberOf x) × (lowIn r ≡ placeOf x)
+  pub a-result : (numberIn r ≡ 0) ↔ NoneMet refusals
+  pub a-refusal : ¬ (numberIn r ≡ 0) → FirstMet refusals (numberIn r) (lowIn r)
 
 -- "A refusal writes nothing into the caller's memory": its places stand as before
-pub record OneAnswer (q : Request) (r : ℕ) (before after : List ℕ) : Type 0 where
-  pub result-or-refusal : ByTheTable q (order q) r
+pub record OneAnswer (refusals : List Row) (r : ℕ) (before after : List ℕ) : Type 0 where
+  pub result-or-refusal : ByTheTable refusals r
   pub refusal-writes-nothing : ¬ (numberIn r ≡ 0) → after ≡ before
 
 -- The report under way (document 02, Paper 8) is no output, but what is handed on from call to call, and THE ONE EXCEPTION to "a refusal writes nothing": that a
 -- naming was refused, or a report stopped, is remembered there, in its first four bytes. Nothing else of the caller's memory is written by a refusal.
 -- A naming that is refused ends what the bytes held, where they are long enough for a report; where they are not, they stay
 pub record Started (count : ℕ) (text : List ℕ) (target : ℤ) (report : List ℕ) (r : ℕ) (after : List ℕ) : Type 0 where
-  pub result-or-refusal : ByTheTable (naming count text target (length report)) (order (naming count text target (length report))) r
+  pub result-or-refusal : ByTheTable (reportStartRefusals count text target (length report)) r
   pub too-short-stays : length report < reportBytes → after ≡ report
   pub refusal-only-ends : ¬ (numberIn r ≡ 0) → drop 4 after ≡ drop 4 report
 
@@ -79,37 +77,37 @@ pub record HandedIn (r : ℕ) (before places report after : List ℕ) : Type 0 w
 -- DEMAND 1, of each call. "It always comes", "nothing is read beyond the bytes given" and "callers needn't test anything first" are the language's:
 -- a function is proved only if it ends and each of its reads lies inside what it was given, and the calls of `mill` have no `requires`.
 pub record Demand1 : Type 0 where
-  pub of-question : {recording text out : List ℕ} {r : ℕ} {after : List ℕ} → QuestionCall recording text out r after
-      → OneAnswer (question recording text (length out)) r out after
-  pub of-degree : {recording text : List ℕ} {target : ℤ} {distance value r distance-after value-after : ℕ}
+  pub of-question : (recording text : List ℕ) {out : List ℕ} {r : ℕ} {after : List ℕ} → QuestionCall recording text out r after
+      → OneAnswer (questionRefusals recording text (length out)) r out after
+  pub of-degree : (recording text : List ℕ) (target : ℤ) {distance value r distance-after value-after : ℕ}
       → DegreeCall recording text target distance value r distance-after value-after
-      → OneAnswer (degree recording text target) r (distance ∷ value ∷ []) (distance-after ∷ value-after ∷ [])
-  pub of-pair : {recording : List ℕ} {curve : ℕ} {target : ℤ} {earlier later r earlier-after later-after : ℕ}
+      → OneAnswer (degreeRefusals recording text target) r (distance ∷ value ∷ []) (distance-after ∷ value-after ∷ [])
+  pub of-pair : (recording : List ℕ) (curve : ℕ) (target : ℤ) {earlier later r earlier-after later-after : ℕ}
       → PairCall recording curve target earlier later r earlier-after later-after
-      → OneAnswer (pair recording curve target) r (earlier ∷ later ∷ []) (earlier-after ∷ later-after ∷ [])
-  pub of-thin : {recording marks out : List ℕ} {r : ℕ} {after : List ℕ} → ThinCall recording marks out r after
-      → OneAnswer (thin recording marks (length out)) r out after
-  pub of-band : {recording text : List ℕ} {e : ℤ} {low high lowest highest r low-after high-after lowest-after highest-after : ℕ}
-      → BandCall recording text e low high lowest highest r low-after high-after lowest-after highest-after
-      → OneAnswer (band recording text e) r (low ∷ high ∷ lowest ∷ highest ∷ []) (low-after ∷ high-after ∷ lowest-after ∷ highest-after ∷ [])
-  pub of-order : {recording sheet : List ℕ} {time line r time-after line-after : ℕ} → OrderCall recording sheet time line r time-after line-after
-      → OneAnswer (ordering recording sheet) r (time ∷ line ∷ []) (time-after ∷ line-after ∷ [])
-  pub of-lab-question : {recording marks text out : List ℕ} {r : ℕ} {after : List ℕ} → LabQuestionCall recording marks text out r after
-      → OneAnswer (lab-question recording marks text (length out)) r out after
-  pub of-lab-degree : {recording marks text : List ℕ} {target : ℤ} {distance value r distance-after value-after : ℕ}
+      → OneAnswer (pairRefusals recording curve target) r (earlier ∷ later ∷ []) (earlier-after ∷ later-after ∷ [])
+  pub of-thin : (recording marks : List ℕ) {out : List ℕ} {r : ℕ} {after : List ℕ} → ThinCall recording marks out r after
+      → OneAnswer (thinRefusals recording marks (length out)) r out after
+  pub of-band : (recording text : List ℕ) (e : ℤ) {certain-low certain-high possible-low possible-high r certain-low-after certain-high-after possible-low-after possible-high-after : ℕ}
+      → BandCall recording text e certain-low certain-high possible-low possible-high r certain-low-after certain-high-after possible-low-after possible-high-after
+      → OneAnswer (bandRefusals recording text e) r (certain-low ∷ certain-high ∷ possible-low ∷ possible-high ∷ []) (certain-low-after ∷ certain-high-after ∷ possible-low-after ∷ possible-high-after ∷ [])
+  pub of-order : (recording sheet : List ℕ) {time line r time-after line-after : ℕ} → OrderCall recording sheet time line r time-after line-after
+      → OneAnswer (orderRefusals recording sheet) r (time ∷ line ∷ []) (time-after ∷ line-after ∷ [])
+  pub of-lab-question : (recording marks text : List ℕ) {out : List ℕ} {r : ℕ} {after : List ℕ} → LabQuestionCall recording marks text out r after
+      → OneAnswer (labQuestionRefusals recording marks text (length out)) r out after
+  pub of-lab-degree : (recording marks text : List ℕ) (target : ℤ) {distance value r distance-after value-after : ℕ}
       → LabDegreeCall recording marks text target distance value r distance-after value-after
-      → OneAnswer (lab-degree recording marks text target) r (distance ∷ value ∷ []) (distance-after ∷ value-after ∷ [])
-  pub of-lab-pair : {recording : List ℕ} {curve : ℕ} {target : ℤ} {earlier later r earlier-after later-after : ℕ}
+      → OneAnswer (labDegreeRefusals recording marks text target) r (distance ∷ value ∷ []) (distance-after ∷ value-after ∷ [])
+  pub of-lab-pair : (recording : List ℕ) (curve : ℕ) (target : ℤ) {earlier later r earlier-after later-after : ℕ}
       → LabPairCall recording curve target earlier later r earlier-after later-after
-      → OneAnswer (lab-pair recording curve target) r (earlier ∷ later ∷ []) (earlier-after ∷ later-after ∷ [])
+      → OneAnswer (labPairRefusals recording curve target) r (earlier ∷ later ∷ []) (earlier-after ∷ later-after ∷ [])
   pub of-report-start : {count : ℕ} {text : List ℕ} {target : ℤ} {report : List ℕ} {r : ℕ} {after : List ℕ} → ReportStartCall count text target report r after
       → Started count text target report r after
   pub of-report-add : {report recording : List ℕ} {met empty distances mean r : ℕ} {after : List ℕ} {met-after empty-after distances-after mean-after : ℕ}
       → ReportAddCall report recording met empty distances mean r after met-after empty-after distances-after mean-after
       → HandedIn r (met ∷ empty ∷ distances ∷ mean ∷ []) (met-after ∷ empty-after ∷ distances-after ∷ mean-after ∷ []) report after
-  pub of-entry : {recording out : List ℕ} {r : ℕ} {after : List ℕ} → EntryCall recording out r after → OneAnswer (entry recording (length out)) r out after
-  pub of-find : {summary : List ℕ} {curve : ℕ} {level : ℤ} {out : List ℕ} {r : ℕ} {after : List ℕ} → FindCall summary curve level out r after
-      → OneAnswer (find summary curve level (length out)) r out after
+  pub of-entry : (recording : List ℕ) {out : List ℕ} {r : ℕ} {after : List ℕ} → EntryCall recording out r after → OneAnswer (entryRefusals recording (length out)) r out after
+  pub of-find : (summary : List ℕ) (curve : ℕ) (level : ℤ) {out : List ℕ} {r : ℕ} {after : List ℕ} → FindCall summary curve level out r after
+      → OneAnswer (findRefusals summary curve level (length out)) r out after
 
 -- ---- DEMAND 2
 
@@ -146,16 +144,16 @@ pub record RunTold (bit low high low-after high-after : ℕ) : Type 0 where
 -- document 02, Paper 9, of the two sets that the band call tells of, each empty or one run: the text's one reading is a question on extremes alone, and a
 -- whole number of the axis lies in the first if and only if the question is true with it of every curve within e, in the second if and only if of at
 -- least one. Bit 0 tells of the first, bit 1 of the second, and no other bit is set
-pub record BandTold (recording text : List ℕ) (e r low high lowest highest low-after high-after lowest-after highest-after : ℕ) : Type 0 where
+pub record BandTold (recording text : List ℕ) (e r certain-low certain-high possible-low possible-high certain-low-after certain-high-after possible-low-after possible-high-after : ℕ) : Type 0 where
   pub asked : Listed
   pub extreme : OfExtremes asked
   pub reads : ReadsWhole text (listed asked)
   pub only : (t : Text) → ReadsWhole text t → t ≡ listed asked
   pub two-bits : lowIn r < 4
-  pub first-run : RunTold (lowIn r % 2) low high low-after high-after
-  pub second-run : RunTold (lowIn r / 2) lowest highest lowest-after highest-after
-  pub certain : (z : ℤ) → OfAxis z → InRun (lowIn r % 2) low-after high-after z ↔ Certain asked e (readings recording) z
-  pub possible : (z : ℤ) → OfAxis z → InRun (lowIn r / 2) lowest-after highest-after z ↔ Possible asked e (readings recording) z
+  pub first-run : RunTold (lowIn r % 2) certain-low certain-high certain-low-after certain-high-after
+  pub second-run : RunTold (lowIn r / 2) possible-low possible-high possible-low-after possible-high-after
+  pub certain : (z : ℤ) → OfAxis z → InRun (lowIn r % 2) certain-low-after certain-high-after z ↔ Certain asked e (readings recording) z
+  pub possible : (z : ℤ) → OfAxis z → InRun (lowIn r / 2) possible-low-after possible-high-after z ↔ Possible asked e (readings recording) z
 
 -- document 02, Paper 6, of what the order call tells: 0, every line of the sheet is met, and both places stay; or 1, and there stand "the time of the first
 -- record whose addition breaks a line, and the number, from 0, of the first line that this addition breaks"
@@ -181,9 +179,9 @@ pub record Demand2 : Type 0 where
   pub degree-told : {recording text : List ℕ} (target : ℤ) {distance value r distance-after value-after : ℕ}
       → DegreeCall recording text target distance value r distance-after value-after → numberIn r ≡ 0
       → (v : ℕ) × (x : Value) × (whole v ≡ target) × Near recording text v x × Degrees (result x) distance value r distance-after value-after
-  pub band-told : {recording text : List ℕ} (e : ℕ) {low high lowest highest r low-after high-after lowest-after highest-after : ℕ}
-      → BandCall recording text (pos e) low high lowest highest r low-after high-after lowest-after highest-after → numberIn r ≡ 0
-      → BandTold recording text e r low high lowest highest low-after high-after lowest-after highest-after
+  pub band-told : {recording text : List ℕ} (e : ℕ) {certain-low certain-high possible-low possible-high r certain-low-after certain-high-after possible-low-after possible-high-after : ℕ}
+      → BandCall recording text (pos e) certain-low certain-high possible-low possible-high r certain-low-after certain-high-after possible-low-after possible-high-after → numberIn r ≡ 0
+      → BandTold recording text e r certain-low certain-high possible-low possible-high certain-low-after certain-high-after possible-low-after possible-high-after
   pub pair-told : {recording : List ℕ} {curve : ℕ} {target : ℤ} {earlier later r earlier-after later-after : ℕ}
       → PairCall recording curve target earlier later r earlier-after later-after → numberIn r ≡ 0
       → PairTold recording curve target earlier later r earlier-after later-after
@@ -216,9 +214,9 @@ pub record AskedOfKept (marks text : List ℕ) : Type 0 where
   pub marked : (t : Text) → ReadsWhole text t → (k : ℕ) → List·Memᴰ k (afterTimes t) → List·Memᴰ k (map markIndex (marksOf marks))
 
 -- r and `after` are right as an answer about the recording `full`, of any length, whichever readings were asked: the set that 2 fixes of it, or the
--- refusal that the table fixes of it, by the lines `ks`
-pub record RightOf (full text out ks : List ℕ) (r : ℕ) (after : List ℕ) : Type 0 where
-  pub refusal : ByTheTable (question full text (length out)) ks r
+-- refusal that these lines of the table fix of it
+pub record RightOf (refusals : List Row) (full text out : List ℕ) (r : ℕ) (after : List ℕ) : Type 0 where
+  pub refusal : ByTheTable refusals r
   pub set : numberIn r ≡ 0 → SetWritten full text out r after
 
 module _ (marks : List ℕ) (cs : List Call) (xs : List Returned) where
@@ -237,7 +235,7 @@ module _ (marks : List ℕ) (cs : List Call) (xs : List Returned) where
 pub record LikeFull (recording text out out′ : List ℕ) (r r′ : ℕ) (after after′ : List ℕ) : Type 0 where
   pub same : r ≡ r′
   pub same-bytes : numberIn r ≡ 0 → (written : List ℕ) × Wrote written out r after × Wrote written out′ r′ after′
-  pub right : RightOf recording text out (1 ∷ 2 ∷ 3 ∷ acceptedOrder) r after
+  pub right : RightOf (questionRefusals recording text (length out)) recording text out r after
 
 -- `held` is in the place of the recording: what a call returns and leaves on it, it returns and leaves on the recording, of a text that may be asked of
 -- kept readings; and "under the same marks, with room, thins back to exactly the kept readings" (document 02, Paper 10)
@@ -247,9 +245,9 @@ pub record InPlaceOf (marks recording held : List ℕ) : Type 0 where
       → DegreeCall held text target distance value r distance-after value-after → DegreeCall recording text target distance value r distance-after value-after
   pub pair : (curve : ℕ) (target : ℤ) {earlier later r earlier-after later-after : ℕ}
       → PairCall held curve target earlier later r earlier-after later-after → PairCall recording curve target earlier later r earlier-after later-after
-  pub band : {text : List ℕ} (e : ℤ) {low high lowest highest r low-after high-after lowest-after highest-after : ℕ} → AskedOfKept marks text
-      → BandCall held text e low high lowest highest r low-after high-after lowest-after highest-after
-      → BandCall recording text e low high lowest highest r low-after high-after lowest-after highest-after
+  pub band : {text : List ℕ} (e : ℤ) {certain-low certain-high possible-low possible-high r certain-low-after certain-high-after possible-low-after possible-high-after : ℕ} → AskedOfKept marks text
+      → BandCall held text e certain-low certain-high possible-low possible-high r certain-low-after certain-high-after possible-low-after possible-high-after
+      → BandCall recording text e certain-low certain-high possible-low possible-high r certain-low-after certain-high-after possible-low-after possible-high-after
   pub order-sheet : (sheet : List ℕ) {time line r time-after line-after : ℕ} → OrderCall held sheet time line r time-after line-after
       → OrderCall recording sheet time line r time-after line-after
   pub entry : {out : List ℕ} {r : ℕ} {after : List ℕ} → EntryCall held out r after → EntryCall recording out r after
@@ -278,7 +276,7 @@ pub record Demand3 (marks : List ℕ) : Type 0 where
   pub pinned-cut : AcceptedMarks marks → (cs : List Call) (xs : List Returned) → PinnedCalls marks [] cs xs → Accepted (wholeFrom [] cs) → CutBetween cs
       → LongEnough (marksOf marks) [] cs → CutWhole marks cs xs
   pub beyond : AcceptedMarks marks → (cs : List Call) (xs : List Returned) → CallsMade marks [] cs xs → {text : List ℕ} → AskedOfKept marks text
-      → {out : List ℕ} {r : ℕ} {after : List ℕ} → QuestionCall (heldAt [] xs) text out r after → RightOf (takenFrom [] cs xs) text out acceptedOrder r after
+      → {out : List ℕ} {r : ℕ} {after : List ℕ} → QuestionCall (heldAt [] xs) text out r after → RightOf (acceptedRows (takenFrom [] cs xs) text (length out)) (takenFrom [] cs xs) text out r after
   pub bad-marks : marksLine marks .meets ≡ true → (cs : List Call) (xs : List Returned) → CallsMade marks [] cs xs
       → ((x : Returned) → List·Memᴰ x xs → ¬ (numberIn (x .returned) ≡ 0)) × (heldAt [] xs ≡ [])
 

@@ -1,16 +1,13 @@
--- Document 01, "When no result is given": the table of refusals, to which document 02 adds, each condition by its meaning, and the order of each call.
+-- Document 01, "When no result is given": the table of refusals, to which document 02 adds: each condition by its meaning, and of each call its refusals in turn.
 use Prim.Native.Nat.{ℕ, _*_, _/_, _%_, _≤_, _<_}
 use mathlib.Core.Path.{_≡_}
 use mathlib.Core.Bool.{Bool, true, false}
 use mathlib.Core.Logic.{_⊎_}
-use mathlib.Core.List.{List, [], _∷_, List·Memᴰ}
+use mathlib.Core.List.{List, [], _∷_, _++_, List·Memᴰ}
 use lib.IntN.{ℤ, pos}
 use lib.ListN.{length}
 use lib.Signed.{_≤ℤ_}
 use Rattle.number.specs.Axis.{OfAxis}
-use Rattle.refusal.specs.Numbers.{numberOf}
-use Rattle.refusal.specs.declared.Refusal.{Refusal}
-use Rattle.refusal.specs.declared.Refusal.the-variants.{PartialRecord, TooManyRecords, BadRecord, NoRecord, TextLength, NoReading, TextTooLarge, TooManyRuns, TooManyTops, ShortOutput, BadMarks, BadTarget, BadSheet, NotForLaboratory, NoReport, BadBand, NotBandQuestion, BadMoment, TooManyKept, BadSummary}
 use Rattle.recording.specs.Condition.{pick}
 use Rattle.recording.specs.Reading.{top, curveOf}
 use Rattle.recording.specs.Recording.{Raw, records, readings, lawful, mostRecords, mostPigments}
@@ -19,7 +16,7 @@ use Rattle.tops.specs.Tops.{mostTops}
 use Rattle.grammar.specs.Syntax.{Text, Listed, listed}
 use Rattle.grammar.specs.Grammar.{ReadsWhole}
 use Rattle.grammar.specs.Size.{nodes, openAt, mostBytes, mostNodes, mostOpen}
-use Rattle.meaning.specs.Overfull.{IsSet, Overfull, TooManyTops as OverTops}
+use Rattle.meaning.specs.Overfull.{IsSet, Overfull, TooManyTops}
 use Rattle.band.specs.Band.{widest, OfExtremes}
 use Rattle.thin.specs.Thin.{keptBytes}
 use Rattle.marks.specs.Marks.{marksOf, mostMarks, latestMark}
@@ -29,55 +26,33 @@ use Rattle.lab.specs.Lab.{LaboratoryText}
 use Rattle.entry.specs.Entry.{entryBytes}
 use Rattle.listing.specs.Listing.{mostEntries, entryCount, listing}
 
--- what a call is handed; of an output its length
-pub data Request : Type 0 where
-  question : (recording text : List ℕ) (room : ℕ) → Request
-  degree : (recording text : List ℕ) (target : ℤ) → Request
-  pair : (recording : List ℕ) (curve : ℕ) (target : ℤ) → Request
-  thin : (recording marks : List ℕ) (room : ℕ) → Request
-  band : (recording text : List ℕ) (e : ℤ) → Request
-  ordering : (recording sheet : List ℕ) → Request
-  lab-question : (recording marks text : List ℕ) (room : ℕ) → Request
-  lab-degree : (recording marks text : List ℕ) (target : ℤ) → Request
-  lab-pair : (recording : List ℕ) (curve : ℕ) (target : ℤ) → Request
-  naming : (count : ℕ) (text : List ℕ) (target : ℤ) (room : ℕ) → Request
-  entry : (recording : List ℕ) (room : ℕ) → Request
-  find : (summary : List ℕ) (curve : ℕ) (level : ℤ) (room : ℕ) → Request
+-- ---- THE CONDITIONS
 
-abbrev pub recordingIn : Request → List ℕ
-recordingIn (question r t n) = r
-recordingIn (degree r t g) = r
-recordingIn (pair r c g) = r
-recordingIn (thin r m n) = r
-recordingIn (band r t e) = r
-recordingIn (ordering r s) = r
-recordingIn (lab-question r m t n) = r
-recordingIn (lab-degree r m t g) = r
-recordingIn (lab-pair r c g) = r
-recordingIn (naming c t g n) = []
-recordingIn (entry r n) = r
-recordingIn (find s c l n) = []
+-- 1: the recording is not in records of 16 bytes
+abbrev pub PartialRecord : List ℕ → Type 0
+PartialRecord recording = ¬ (length recording % 16 ≡ 0)
 
--- the text; a call that takes none has no line about it
-abbrev pub textIn : Request → List ℕ
-textIn (question r t n) = t
-textIn (degree r t g) = t
-textIn (pair r c g) = []
-textIn (thin r m n) = []
-textIn (band r t e) = t
-textIn (ordering r s) = []
-textIn (lab-question r m t n) = t
-textIn (lab-degree r m t g) = t
-textIn (lab-pair r c g) = []
-textIn (naming c t g n) = t
-textIn (entry r n) = []
-textIn (find s c l n) = []
+-- 2: it has over 4,096 of them
+abbrev pub RecordsOver : List ℕ → Type 0
+RecordsOver recording = mostRecords < length recording / 16
 
--- record i is the first out of its rules
+-- 3: record i is the first out of its rules
 pub record FirstBroken (xs : List Raw) (i : ℕ) : Type 0 where
   pub inside : i < length xs
   pub broken : lawful xs i ≡ false
   pub first : (j : ℕ) → j < i → lawful xs j ≡ true
+
+-- 4: it has no record
+abbrev pub NoRecord : List ℕ → Type 0
+NoRecord recording = length (records recording) ≡ 0
+
+-- 5: the text is empty, or over 256 bytes long
+abbrev pub LengthBad : List ℕ → Type 0
+LengthBad text = (length text ≡ 0) ⊎ (mostBytes < length text)
+
+-- 6: it has no reading
+abbrev pub NoReading : List ℕ → Type 0
+NoReading text = (t : Text) → ¬ ReadsWhole text t
 
 -- the text has a reading of which P holds
 abbrev pub ReadWith : List ℕ → (Text → Type 0) → Type 0
@@ -87,215 +62,153 @@ ReadWith text P = (t : Text) × ReadsWhole text t × P t
 abbrev pub OpenTooDeep : List ℕ → Type 0
 OpenTooDeep text = (i : ℕ) × (i < length text) × (mostOpen < openAt text i)
 
--- the text's set at the first record has more runs than room for 8 bytes each
-abbrev pub SetLonger : List ℕ → ℕ → Text → Type 0
-SetLonger recording room t = (f : ℕ → Bool) × IsSet f (readings recording) t 0 × (room < 8 * runCount f)
+-- 7: its reading has over 32 nodes, or it has too many brackets open
+abbrev pub TextTooLarge : List ℕ → Type 0
+TextTooLarge text = ReadWith text (λ t. (mostNodes < nodes t) ⊎ OpenTooDeep text)
 
--- 9: over 256 tops of a curve between whose tops the text, or the pair call, takes differences
-abbrev pub TopsOver : Request → Type 0
-TopsOver (question r t n) = ReadWith t (OverTops (readings r))
-TopsOver (degree r t g) = ReadWith t (OverTops (readings r))
-TopsOver (pair r c g) = mostTops < length (pick (top (curveOf c)) (readings r))
-TopsOver (thin r m n) = ⊥
-TopsOver (band r t e) = ⊥
-TopsOver (ordering r s) = ⊥
-TopsOver (lab-question r m t n) = ReadWith t (OverTops (readings r))
-TopsOver (lab-degree r m t g) = ReadWith t (OverTops (readings r))
-TopsOver (lab-pair r c g) = mostTops < length (pick (top (curveOf c)) (readings r))
-TopsOver (naming c t g n) = ⊥
-TopsOver (entry r n) = ⊥
-TopsOver (find s c l n) = ⊥
+-- 8: some node's set at some record has over 256 runs
+abbrev pub RunsOver : (recording text : List ℕ) → Type 0
+RunsOver recording text = ReadWith text (Overfull (readings recording))
 
--- 10: the output is shorter than the result, or the bytes for a report under way than one
-abbrev pub OutputShort : Request → Type 0
-OutputShort (question r t n) = ReadWith t (SetLonger r n)
-OutputShort (degree r t g) = ⊥
-OutputShort (pair r c g) = ⊥
-OutputShort (thin r m n) = n < length (keptBytes (marksOf m) r)
-OutputShort (band r t e) = ⊥
-OutputShort (ordering r s) = ⊥
-OutputShort (lab-question r m t n) = ReadWith t (SetLonger r n)
-OutputShort (lab-degree r m t g) = ⊥
-OutputShort (lab-pair r c g) = ⊥
-OutputShort (naming c t g n) = n < reportBytes
-OutputShort (entry r n) = n < entryBytes
-OutputShort (find s c l n) = n < length (listing (curveOf c) l s)
+-- 9: over 256 tops of a curve between whose tops the text takes differences; or the pair call
+abbrev pub TopsOver : (recording text : List ℕ) → Type 0
+TopsOver recording text = ReadWith text (TooManyTops (readings recording))
+
+abbrev pub TopsOfCurveOver : (recording : List ℕ) (curve : ℕ) → Type 0
+TopsOfCurveOver recording curve = mostTops < length (pick (top (curveOf curve)) (readings recording))
+
+-- 10: the output is shorter than the result. Of the question call: the text's set at the first record has more runs than room for 8 bytes each
+abbrev pub SetLonger : (recording text : List ℕ) (room : ℕ) → Type 0
+SetLonger recording text room = ReadWith text (λ t. (f : ℕ → Bool) × IsSet f (readings recording) t 0 × (room < 8 * runCount f))
 
 -- 11: the marks are not 4 bytes each, over 8, or too large
 abbrev pub MarksOff : List ℕ → Type 0
-MarksOff m = ¬ (length m % 4 ≡ 0) ⊎ ((mostMarks < length m / 4) ⊎ ((k : ℕ) × List·Memᴰ k (marksOf m) × (latestMark < k)))
-
-abbrev pub MarksBad : Request → Type 0
-MarksBad (question r t n) = ⊥
-MarksBad (degree r t g) = ⊥
-MarksBad (pair r c g) = ⊥
-MarksBad (thin r m n) = MarksOff m
-MarksBad (band r t e) = ⊥
-MarksBad (ordering r s) = ⊥
-MarksBad (lab-question r m t n) = MarksOff m
-MarksBad (lab-degree r m t g) = MarksOff m
-MarksBad (lab-pair r c g) = ⊥
-MarksBad (naming c t g n) = ⊥
-MarksBad (entry r n) = ⊥
-MarksBad (find s c l n) = ⊥
+MarksOff marks = ¬ (length marks % 4 ≡ 0) ⊎ ((mostMarks < length marks / 4) ⊎ ((k : ℕ) × List·Memᴰ k (marksOf marks) × (latestMark < k)))
 
 -- 12: the target, or the level, is off the axis, or the curve number is not 0 or 1
-abbrev pub TargetBad : Request → Type 0
-TargetBad (question r t n) = ⊥
-TargetBad (degree r t g) = ¬ OfAxis g
-TargetBad (pair r c g) = (1 < c) ⊎ ¬ OfAxis g
-TargetBad (thin r m n) = ⊥
-TargetBad (band r t e) = ⊥
-TargetBad (ordering r s) = ⊥
-TargetBad (lab-question r m t n) = ⊥
-TargetBad (lab-degree r m t g) = ¬ OfAxis g
-TargetBad (lab-pair r c g) = (1 < c) ⊎ ¬ OfAxis g
-TargetBad (naming c t g n) = ¬ OfAxis g
-TargetBad (entry r n) = ⊥
-TargetBad (find s c l n) = (1 < c) ⊎ ¬ OfAxis l
+abbrev pub TargetBad : ℕ → ℤ → Type 0
+TargetBad curve target = (1 < curve) ⊎ ¬ OfAxis target
 
 -- 13: the sheet has an odd length, over 32 lines, or a number that is not 1 to 16
-abbrev pub SheetBad : Request → Type 0
-SheetBad (question r t n) = ⊥
-SheetBad (degree r t g) = ⊥
-SheetBad (pair r c g) = ⊥
-SheetBad (thin r m n) = ⊥
-SheetBad (band r t e) = ⊥
-SheetBad (ordering r s) = ¬ (length s % 2 ≡ 0) ⊎ ((mostLines < length s / 2) ⊎ ((k : ℕ) × List·Memᴰ k s × ¬ ((1 ≤ k) × (k ≤ mostPigments))))
-SheetBad (lab-question r m t n) = ⊥
-SheetBad (lab-degree r m t g) = ⊥
-SheetBad (lab-pair r c g) = ⊥
-SheetBad (naming c t g n) = ⊥
-SheetBad (entry r n) = ⊥
-SheetBad (find s c l n) = ⊥
+abbrev pub SheetBad : List ℕ → Type 0
+SheetBad sheet = ¬ (length sheet % 2 ≡ 0) ⊎ ((mostLines < length sheet / 2) ⊎ ((k : ℕ) × List·Memᴰ k sheet × ¬ ((1 ≤ k) × (k ≤ mostPigments))))
 
--- 14: what a laboratory asks is no laboratory text under these marks, or a pair of tops of B
-abbrev pub NotLaboratory : Request → Type 0
-NotLaboratory (question r t n) = ⊥
-NotLaboratory (degree r t g) = ⊥
-NotLaboratory (pair r c g) = ⊥
-NotLaboratory (thin r m n) = ⊥
-NotLaboratory (band r t e) = ⊥
-NotLaboratory (ordering r s) = ⊥
-NotLaboratory (lab-question r m t n) = ReadWith t (λ p. ¬ LaboratoryText (marksOf m) p)
-NotLaboratory (lab-degree r m t g) = ReadWith t (λ p. ¬ LaboratoryText (marksOf m) p)
-NotLaboratory (lab-pair r c g) = c ≡ 1
-NotLaboratory (naming c t g n) = ⊥
-NotLaboratory (entry r n) = ⊥
-NotLaboratory (find s c l n) = ⊥
+-- 14: what a laboratory asks is no laboratory text under these marks; or a pair of tops of B, whose number is 1
+abbrev pub NotLaboratory : (marks text : List ℕ) → Type 0
+NotLaboratory marks text = ReadWith text (λ t. ¬ LaboratoryText (marksOf marks) t)
 
 -- 15: a named count of 0 or over 1,000. (Of a recording that is handed in, 15 is what the fold says: Reports)
-abbrev pub CountBad : Request → Type 0
-CountBad (question r t n) = ⊥
-CountBad (degree r t g) = ⊥
-CountBad (pair r c g) = ⊥
-CountBad (thin r m n) = ⊥
-CountBad (band r t e) = ⊥
-CountBad (ordering r s) = ⊥
-CountBad (lab-question r m t n) = ⊥
-CountBad (lab-degree r m t g) = ⊥
-CountBad (lab-pair r c g) = ⊥
-CountBad (naming c t g n) = (c ≡ 0) ⊎ (mostBatches < c)
-CountBad (entry r n) = ⊥
-CountBad (find s c l n) = ⊥
+abbrev pub CountBad : ℕ → Type 0
+CountBad count = (count ≡ 0) ⊎ (mostBatches < count)
 
 -- 16: the band is not 0 to 1,000,000 units
-abbrev pub BandBad : Request → Type 0
-BandBad (question r t n) = ⊥
-BandBad (degree r t g) = ⊥
-BandBad (pair r c g) = ⊥
-BandBad (thin r m n) = ⊥
-BandBad (band r t e) = ¬ ((pos 0 ≤ℤ e) × (e ≤ℤ pos widest))
-BandBad (ordering r s) = ⊥
-BandBad (lab-question r m t n) = ⊥
-BandBad (lab-degree r m t g) = ⊥
-BandBad (lab-pair r c g) = ⊥
-BandBad (naming c t g n) = ⊥
-BandBad (entry r n) = ⊥
-BandBad (find s c l n) = ⊥
+abbrev pub BandBad : ℤ → Type 0
+BandBad e = ¬ ((pos 0 ≤ℤ e) × (e ≤ℤ pos widest))
 
 -- the text is one question on extremes alone; brackets are no node of it
 abbrev pub OneExtreme : Text → Type 0
 OneExtreme t = (q : Listed) × (t ≡ listed q) × OfExtremes q
 
 -- 17: the text is not one such question alone
-abbrev pub NotOneExtreme : Request → Type 0
-NotOneExtreme (question r t n) = ⊥
-NotOneExtreme (degree r t g) = ⊥
-NotOneExtreme (pair r c g) = ⊥
-NotOneExtreme (thin r m n) = ⊥
-NotOneExtreme (band r t e) = ReadWith t (λ p. ¬ OneExtreme p)
-NotOneExtreme (ordering r s) = ⊥
-NotOneExtreme (lab-question r m t n) = ⊥
-NotOneExtreme (lab-degree r m t g) = ⊥
-NotOneExtreme (lab-pair r c g) = ⊥
-NotOneExtreme (naming c t g n) = ⊥
-NotOneExtreme (entry r n) = ⊥
-NotOneExtreme (find s c l n) = ⊥
+abbrev pub NotOneExtreme : List ℕ → Type 0
+NotOneExtreme text = ReadWith text (λ t. ¬ OneExtreme t)
+
+-- 18 and 19 are of the steps of a live run, whose page is LiveRuns
 
 -- 20: the summary is not in entries of 32 bytes, or has over 2,048 of them
-abbrev pub SummaryBad : Request → Type 0
-SummaryBad (question r t n) = ⊥
-SummaryBad (degree r t g) = ⊥
-SummaryBad (pair r c g) = ⊥
-SummaryBad (thin r m n) = ⊥
-SummaryBad (band r t e) = ⊥
-SummaryBad (ordering r s) = ⊥
-SummaryBad (lab-question r m t n) = ⊥
-SummaryBad (lab-degree r m t g) = ⊥
-SummaryBad (lab-pair r c g) = ⊥
-SummaryBad (naming c t g n) = ⊥
-SummaryBad (entry r n) = ⊥
-SummaryBad (find s c l n) = ¬ (length s % entryBytes ≡ 0) ⊎ (mostEntries < entryCount s)
+abbrev pub SummaryBad : List ℕ → Type 0
+SummaryBad summary = ¬ (length summary % entryBytes ≡ 0) ⊎ (mostEntries < entryCount summary)
 
--- THE TABLE: the condition of each line is met by the request
-abbrev pub Met : Request → Refusal → Type 0
-Met q PartialRecord = ¬ (length (recordingIn q) % 16 ≡ 0)
-Met q TooManyRecords = mostRecords < length (recordingIn q) / 16
-Met q (BadRecord i) = FirstBroken (records (recordingIn q)) i
-Met q NoRecord = length (records (recordingIn q)) ≡ 0
-Met q TextLength = (length (textIn q) ≡ 0) ⊎ (mostBytes < length (textIn q))
-Met q NoReading = (t : Text) → ¬ ReadsWhole (textIn q) t
-Met q TextTooLarge = ReadWith (textIn q) (λ t. (mostNodes < nodes t) ⊎ OpenTooDeep (textIn q))
-Met q TooManyRuns = ReadWith (textIn q) (Overfull (readings (recordingIn q)))
-Met q TooManyTops = TopsOver q
-Met q ShortOutput = OutputShort q
-Met q BadMarks = MarksBad q
-Met q BadTarget = TargetBad q
-Met q BadSheet = SheetBad q
-Met q NotForLaboratory = NotLaboratory q
-Met q NoReport = CountBad q
-Met q BadBand = BandBad q
-Met q NotBandQuestion = NotOneExtreme q
-Met q BadSummary = SummaryBad q
--- 18 and 19 are of the steps of a live run, whose page is LiveRuns
-Met q BadMoment = ⊥
-Met q TooManyKept = ⊥
+-- ---- THE TABLE
 
--- 4 to 10 in the question call's order: the lines for an accepted recording
-abbrev pub acceptedOrder : List ℕ
-acceptedOrder = 4 ∷ 5 ∷ 6 ∷ 7 ∷ 9 ∷ 8 ∷ 10 ∷ []
+-- a line of it: the number of a refusal, and its condition, of the place that is told with it
+pub record Row : Type 1 where
+  pub number : ℕ
+  pub Met : (place : ℕ) → Type 0
 
--- THE ORDER of each call
-abbrev pub order : Request → List ℕ
-order (question r t n) = 1 ∷ 2 ∷ 3 ∷ acceptedOrder
-order (degree r t g) = 1 ∷ 2 ∷ 3 ∷ 4 ∷ 5 ∷ 6 ∷ 7 ∷ 12 ∷ 9 ∷ 8 ∷ []
-order (pair r c g) = 1 ∷ 2 ∷ 3 ∷ 4 ∷ 12 ∷ 9 ∷ []
-order (thin r m n) = 1 ∷ 2 ∷ 3 ∷ 11 ∷ 10 ∷ []
-order (band r t e) = 1 ∷ 2 ∷ 3 ∷ 4 ∷ 5 ∷ 6 ∷ 7 ∷ 16 ∷ 17 ∷ []
-order (ordering r s) = 1 ∷ 2 ∷ 3 ∷ 4 ∷ 13 ∷ []
-order (lab-question r m t n) = 1 ∷ 2 ∷ 3 ∷ 4 ∷ 5 ∷ 6 ∷ 7 ∷ 11 ∷ 14 ∷ 9 ∷ 8 ∷ 10 ∷ []
-order (lab-degree r m t g) = 1 ∷ 2 ∷ 3 ∷ 4 ∷ 5 ∷ 6 ∷ 7 ∷ 11 ∷ 14 ∷ 12 ∷ 9 ∷ 8 ∷ []
-order (lab-pair r c g) = 1 ∷ 2 ∷ 3 ∷ 4 ∷ 12 ∷ 14 ∷ 9 ∷ []
-order (naming c t g n) = 15 ∷ 5 ∷ 6 ∷ 7 ∷ 12 ∷ 10 ∷ []
-order (entry r n) = 1 ∷ 2 ∷ 3 ∷ 4 ∷ 10 ∷ []
-order (find s c l n) = 20 ∷ 12 ∷ 10 ∷ []
+infix 70 _when_
+-- every line but that of 3 tells the place 0
+abbrev pub _when_ : ℕ → Type 0 → Row
+n when P = record { number = n; Met = λ place. (place ≡ 0) × P }
 
--- no line of these numbers is met
-abbrev pub NoneMet : Request → List ℕ → Type 0
-NoneMet q ks = (x : Refusal) → List·Memᴰ (numberOf x) ks → ¬ Met q x
+-- 1 to 3 of a recording
+abbrev pub recordingRows : List ℕ → List Row
+recordingRows recording =
+    1 when PartialRecord recording
+    ∷ 2 when RecordsOver recording
+    ∷ record { number = 3; Met = FirstBroken (records recording) }
+    ∷ []
 
--- x is the first line of these numbers, in their order, that is met
-abbrev pub FirstMet : Request → List ℕ → Refusal → Type 0
-FirstMet q [] x = ⊥
-FirstMet q (k ∷ ks) x = ((numberOf x ≡ k) × Met q x) ⊎ (((y : Refusal) → numberOf y ≡ k → ¬ Met q y) × FirstMet q ks x)
+-- 5 to 7 of a text
+abbrev pub textRows : List ℕ → List Row
+textRows text = 5 when LengthBad text ∷ 6 when NoReading text ∷ 7 when TextTooLarge text ∷ []
+
+-- 1 to 7 of a recording that is asked a text
+abbrev pub askingRows : (recording text : List ℕ) → List Row
+askingRows recording text = recordingRows recording ++ 4 when NoRecord recording ∷ textRows text
+
+-- 1 to 7, 11 and 14 of a laboratory's text
+abbrev pub labAskingRows : (recording marks text : List ℕ) → List Row
+labAskingRows recording marks text = askingRows recording text ++ 11 when MarksOff marks ∷ 14 when NotLaboratory marks text ∷ []
+
+-- 4 to 10, in the question call's order: the lines for an accepted recording
+abbrev pub acceptedRows : (recording text : List ℕ) (room : ℕ) → List Row
+acceptedRows recording text room =
+    4 when NoRecord recording ∷ textRows text ++ 9 when TopsOver recording text ∷ 8 when RunsOver recording text ∷ 10 when SetLonger recording text room ∷ []
+
+-- THE REFUSALS OF EACH CALL, in turn; of an output, the room is its length
+abbrev pub questionRefusals : (recording text : List ℕ) (room : ℕ) → List Row
+questionRefusals recording text room = recordingRows recording ++ acceptedRows recording text room
+
+abbrev pub degreeRefusals : (recording text : List ℕ) (target : ℤ) → List Row
+degreeRefusals recording text target = askingRows recording text ++ 12 when (¬ OfAxis target) ∷ 9 when TopsOver recording text ∷ 8 when RunsOver recording text ∷ []
+
+abbrev pub pairRefusals : (recording : List ℕ) (curve : ℕ) (target : ℤ) → List Row
+pairRefusals recording curve target = recordingRows recording ++ 4 when NoRecord recording ∷ 12 when TargetBad curve target ∷ 9 when TopsOfCurveOver recording curve ∷ []
+
+abbrev pub thinRefusals : (recording marks : List ℕ) (room : ℕ) → List Row
+thinRefusals recording marks room = recordingRows recording ++ 11 when MarksOff marks ∷ 10 when (room < length (keptBytes (marksOf marks) recording)) ∷ []
+
+abbrev pub bandRefusals : (recording text : List ℕ) (e : ℤ) → List Row
+bandRefusals recording text e = askingRows recording text ++ 16 when BandBad e ∷ 17 when NotOneExtreme text ∷ []
+
+abbrev pub orderRefusals : (recording sheet : List ℕ) → List Row
+orderRefusals recording sheet = recordingRows recording ++ 4 when NoRecord recording ∷ 13 when SheetBad sheet ∷ []
+
+abbrev pub labQuestionRefusals : (recording marks text : List ℕ) (room : ℕ) → List Row
+labQuestionRefusals recording marks text room =
+    labAskingRows recording marks text ++ 9 when TopsOver recording text ∷ 8 when RunsOver recording text ∷ 10 when SetLonger recording text room ∷ []
+
+abbrev pub labDegreeRefusals : (recording marks text : List ℕ) (target : ℤ) → List Row
+labDegreeRefusals recording marks text target =
+    labAskingRows recording marks text ++ 12 when (¬ OfAxis target) ∷ 9 when TopsOver recording text ∷ 8 when RunsOver recording text ∷ []
+
+abbrev pub labPairRefusals : (recording : List ℕ) (curve : ℕ) (target : ℤ) → List Row
+labPairRefusals recording curve target =
+    recordingRows recording ++ 4 when NoRecord recording ∷ 12 when TargetBad curve target ∷ 14 when (curve ≡ 1) ∷ 9 when TopsOfCurveOver recording curve ∷ []
+
+abbrev pub reportStartRefusals : (count : ℕ) (text : List ℕ) (target : ℤ) (room : ℕ) → List Row
+reportStartRefusals count text target room = 15 when CountBad count ∷ textRows text ++ 12 when (¬ OfAxis target) ∷ 10 when (room < reportBytes) ∷ []
+
+abbrev pub entryRefusals : (recording : List ℕ) (room : ℕ) → List Row
+entryRefusals recording room = recordingRows recording ++ 4 when NoRecord recording ∷ 10 when (room < entryBytes) ∷ []
+
+abbrev pub findRefusals : (summary : List ℕ) (curve : ℕ) (level : ℤ) (room : ℕ) → List Row
+findRefusals summary curve level room =
+    20 when SummaryBad summary ∷ 12 when TargetBad curve level ∷ 10 when (room < length (listing (curveOf curve) level summary)) ∷ []
+
+-- ---- WHAT IT SAYS
+
+-- the condition of a line is not met, whatever the place
+abbrev pub Unmet : Row → Type 0
+Unmet w = (place : ℕ) → ¬ w .Met place
+
+-- no line is met
+abbrev pub NoneMet : List Row → Type 0
+NoneMet [] = Unit {0}
+NoneMet (w ∷ ws) = Unmet w × NoneMet ws
+
+-- the first line that is met has this number, and is met with this place
+abbrev pub FirstMet : List Row → (number place : ℕ) → Type 0
+FirstMet [] n p = ⊥
+FirstMet (w ∷ ws) n p = ((n ≡ w .number) × w .Met p) ⊎ (Unmet w × FirstMet ws n p)

@@ -50,13 +50,13 @@ unfolding Holds
 says-holds q recording z t e = subst (λ (p : Text). Holds (readings recording) z p 0 ↔ Says q (readings recording) z) (sym e) (λ h. h, λ h. h)
 
 pub band-today : (recording text out : List ℕ) (r : ℕ) (after : List ℕ) → QuestionCall recording text out r after → numberIn r ≡ 0
-    → (low high lowest highest r′ a b c d : ℕ) → BandCall recording text (pos 0) low high lowest highest r′ a b c d → numberIn r′ ≡ 0
+    → (certain-low certain-high possible-low possible-high r′ a b c d : ℕ) → BandCall recording text (pos 0) certain-low certain-high possible-low possible-high r′ a b c d → numberIn r′ ≡ 0
     → (written : List ℕ) × Wrote written out r after × ((z : ℤ) → OfAxis z → (InRun (lowIn r′ % 2) a b z ↔ inBytes written z) × (InRun (lowIn r′ / 2) c d z ↔ inBytes written z))
-band-today recording text out r after w k low high lowest highest r′ a b c d u l =
+band-today recording text out r after w k certain-low certain-high possible-low possible-high r′ a b c d u l =
     let v = demands .two .set-written w k in
     let s : Fixed recording text (v .written) = v .set in
-    let t : BandTold recording text 0 r′ low high lowest highest a b c d = demands .two .band-told 0 u l in
-    let g = band-given recording text (pos 0) low high lowest highest r′ a b c d u l in
+    let t : BandTold recording text 0 r′ certain-low certain-high possible-low possible-high a b c d = demands .two .band-told 0 u l in
+    let g = band-given recording text (pos 0) certain-low certain-high possible-low possible-high r′ a b c d u l in
     let range : InRange (readings recording) = accepted-recorded recording (shown recording text (pos 0) (g .0) (g .1) .accepted) .in-range in (
       v .written,
       v .wrote,
@@ -135,9 +135,9 @@ module _ (recording text : List ℕ) (x : Bands) (h : bandOf recording text (pos
 
 -- WHERE THE BAND CALL IS NOT REFUSED AT e = 0, the question call is not, given room for one run
 pub today-answered : (recording text out : List ℕ) (r : ℕ) (after : List ℕ) → QuestionCall recording text out r after
-    → (low high lowest highest r′ a b c d : ℕ) → BandCall recording text (pos 0) low high lowest highest r′ a b c d → numberIn r′ ≡ 0 → 8 ≤ length out → numberIn r ≡ 0
-today-answered recording text out r after w low high lowest highest r′ a b c d u l k =
-    let g = band-given recording text (pos 0) low high lowest highest r′ a b c d u l in
+    → (certain-low certain-high possible-low possible-high r′ a b c d : ℕ) → BandCall recording text (pos 0) certain-low certain-high possible-low possible-high r′ a b c d → numberIn r′ ≡ 0 → 8 ≤ length out → numberIn r ≡ 0
+today-answered recording text out r after w certain-low certain-high possible-low possible-high r′ a b c d u l k =
+    let g = band-given recording text (pos 0) certain-low certain-high possible-low possible-high r′ a b c d u l in
     let n = setBytes-length (answer recording text) in
     let m = today-runs recording text (g .0) (g .1) in
     ap numberIn (w .returned ∙ ap (λ (o : Outcome (List ℕ)). packed (counted o)) (today-written recording text (g .0) (g .1) (length out) k))

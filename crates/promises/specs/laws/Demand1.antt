@@ -41,8 +41,8 @@ use Rattle.listing.specs.Listing.{listing}
 use Rattle.listing.specs.Call.{badSummary, levelLines, findOf}
 use Rattle.mill.specs.Calls.{BandCall, OrderCall}
 use Rattle.mill.specs.laws.Calls.{thin-in-half, question-in-half, degree-in-half, pair-in-half, band-in-half, order-in-half, lab-question-in-half, lab-degree-in-half, lab-pair-in-half, entry-in-half, find-in-half}
-use Rattle.promises.specs.Table.{Request, question, degree, pair, thin, order, band, ordering, lab-question, lab-degree, lab-pair, naming, entry, find}
-use Rattle.promises.specs.laws.Table.{number-bounds, AsTable, met-there, judged-told}
+use Rattle.promises.specs.Table.{Row, FirstMet, questionRefusals, degreeRefusals, pairRefusals, thinRefusals, bandRefusals, orderRefusals, labQuestionRefusals, labDegreeRefusals, labPairRefusals, reportStartRefusals, entryRefusals, findRefusals}
+use Rattle.promises.specs.laws.Table.{AsTable, first-met, judged-told}
 use Rattle.promises.specs.laws.CallLines.{agree-question, agree-degree, agree-pair, agree-thin, agree-band, agree-order, agree-lab-question, agree-lab-degree, agree-lab-pair, agree-naming, agree-entry, agree-find}
 use Rattle.promises.specs.Output.{Wrote}
 use Rattle.promises.specs.Demands.{ByTheTable, OneAnswer, Started, HandedIn, Demand1}
@@ -50,30 +50,28 @@ use Rattle.recording.specs.Reading.{curveOf}
 
 -- ---- DEMAND 1: the number that is returned
 
-module _ (q : Request) (ks : List ℕ) where
+module _ (ws : List Row) where
   -- a packed outcome, judged by the table
-  pub judged-number : (o : Outcome ℕ) (r : ℕ) → r ≡ packed o → InHalf o → AsTable q ks o → ByTheTable q ks r
+  pub judged-number : (o : Outcome ℕ) (r : ℕ) → r ≡ packed o → InHalf o → AsTable ws o → ByTheTable ws r
   judged-number (result n) r e h t =
       let z : numberIn r ≡ 0 = ap numberIn e ∙ number-result n h in
       record { in-64-bits = omega arith; a-result = (λ k. t, λ k. z); a-refusal = λ k. absurd (k z) }
   judged-number (refused n p) r e h t =
       let k : numberIn r ≡ n = ap numberIn e ∙ number-refused n p h in
-      let b = number-bounds (t .0) in
-      let m = t .2 in
-      let there = met-there q ks (t .0) (t .1) in
+      let b = t .1 in
       record {
         in-64-bits = omega arith;
-        a-result = (λ z. absurd (omega arith), λ none. absurd (none (t .0) (there .0) (there .1)));
-        a-refusal = λ z. (t .0, t .1, k ∙ t .2, ap lowIn e ∙ low-refused n p h ∙ t .3);
+        a-result = (λ z. absurd (omega arith), λ none. absurd (first-met ws n p (t .0) none));
+        a-refusal = λ z. subst (λ (m : ℕ). FirstMet ws m (lowIn r)) (sym k) (subst (FirstMet ws n) (sym (ap lowIn e ∙ low-refused n p h)) (t .0));
       }
 
-  pub told-counted : (o : Outcome (List ℕ)) → AsTable q ks o → AsTable q ks (counted o)
+  pub told-counted : (o : Outcome (List ℕ)) → AsTable ws o → AsTable ws (counted o)
   told-counted (result b) t = t
   told-counted (refused n p) t = t
 
-  pub told-numbered : (o : Outcome ℕ) → AsTable q ks o → Numbered o
+  pub told-numbered : (o : Outcome ℕ) → AsTable ws o → Numbered o
   told-numbered (result n) t = tt
-  told-numbered (refused n p) t = let b = number-bounds (t .0) in let m = t .2 in omega arith
+  told-numbered (refused n p) t = t .1 .0
 
 -- a call that writes bytes and is refused leaves its output
 pub kept-output : (o : Outcome (List ℕ)) (out : List ℕ) (r : ℕ) (after : List ℕ) → InHalf (counted o) → Writes o out r after → ¬ (numberIn r ≡ 0) → after ≡ out
@@ -107,149 +105,132 @@ writes-alike {o} e h k {out} {out′} {r} {r′} {after} {after′} w w′ =
 
 -- ---- DEMAND 1, of each call
 
-pub question-told : (bytes text : List ℕ) (room : ℕ) → AsTable (question bytes text room) (order (question bytes text room)) (questionOf bytes text room)
+pub question-told : (bytes text : List ℕ) (room : ℕ) → AsTable (questionRefusals bytes text room) (questionOf bytes text room)
 unfolding questionOf
-question-told bytes text room =
-    judged-told (question bytes text room) (askingLines bytes text ++ (setLines bytes (read text) ++ (outputLine room (setBytes (answer bytes text)) ∷ [])))
-    (order (question bytes text room)) (setBytes (answer bytes text)) (agree-question bytes text room)
+question-told bytes text room = judged-told (agree-question bytes text room) _
 
-pub thin-told : (bytes marks : List ℕ) (room : ℕ) → AsTable (thin bytes marks room) (order (thin bytes marks room)) (thinOf bytes marks room)
+pub thin-told : (bytes marks : List ℕ) (room : ℕ) → AsTable (thinRefusals bytes marks room) (thinOf bytes marks room)
 unfolding thinOf
-thin-told bytes marks room =
-    judged-told (thin bytes marks room) (recordingLines bytes ++ marksLine marks ∷ outputLine room (keptBytes (marksOf marks) bytes) ∷ [])
-    (order (thin bytes marks room)) (keptBytes (marksOf marks) bytes) (agree-thin bytes marks room)
+thin-told bytes marks room = judged-told (agree-thin bytes marks room) _
 
 -- a call that writes bytes
-writes-answered : (q : Request) (o : Outcome (List ℕ)) (out : List ℕ) (r : ℕ) (after : List ℕ) → AsTable q (order q) o → InHalf (counted o) → Writes o out r after
-    → OneAnswer q r out after
-writes-answered q o out r after t h w = record {
-  result-or-refusal = judged-number q (order q) (counted o) r (w .returned) h (told-counted q (order q) o t);
+writes-answered : (ws : List Row) (o : Outcome (List ℕ)) (out : List ℕ) (r : ℕ) (after : List ℕ) → AsTable ws o → InHalf (counted o) → Writes o out r after
+    → OneAnswer ws r out after
+writes-answered ws o out r after t h w = record {
+  result-or-refusal = judged-number ws (counted o) r (w .returned) h (told-counted ws o t);
   refusal-writes-nothing = kept-output o out r after h w;
 }
 
-pub degree-told : (bytes text : List ℕ) (target : ℤ) → AsTable (degree bytes text target) (order (degree bytes text target)) (nearnessOf bytes text target)
+pub degree-told : (bytes text : List ℕ) (target : ℤ) → AsTable (degreeRefusals bytes text target) (nearnessOf bytes text target)
 unfolding nearnessOf
-degree-told bytes text target =
-    judged-told (degree bytes text target) (askingLines bytes text ++ (targetLine target ∷ setLines bytes (read text))) (order (degree bytes text target))
-    (valueOf (answer bytes text) (index target)) (agree-degree bytes text target)
+degree-told bytes text target = judged-told (agree-degree bytes text target) _
 
 -- two places, of any call that tells a distance and a degree
-degrees-answered : (q : Request) (o : Outcome Value) (distance degree′ r first second : ℕ) → AsTable q (order q) o → InHalf (valueTold o) → Degrees o distance degree′ r first second
-    → OneAnswer q r (distance ∷ degree′ ∷ []) (first ∷ second ∷ [])
-degrees-answered q (result met) distance degree′ r first second t h d = record { result-or-refusal = judged-number q (order q) (result 0) r (d .returned) (omega arith) t; refusal-writes-nothing = λ k. absurd (k (ap numberIn (d .returned))) }
-degrees-answered q (result (short x y)) distance degree′ r first second t h d = record { result-or-refusal = judged-number q (order q) (result 1) r (d .returned) (omega arith) t; refusal-writes-nothing = λ k. absurd (k (ap numberIn (d .returned))) }
-degrees-answered q (result noValue) distance degree′ r first second t h d = record { result-or-refusal = judged-number q (order q) (result 2) r (d .returned) (omega arith) t; refusal-writes-nothing = λ k. absurd (k (ap numberIn (d .returned))) }
-degrees-answered q (refused n i) distance degree′ r first second t h d = record {
-  result-or-refusal = judged-number q (order q) (refused n i) r (d .returned) h t;
+degrees-answered : (ws : List Row) (o : Outcome Value) (distance degree′ r first second : ℕ) → AsTable ws o → InHalf (valueTold o) → Degrees o distance degree′ r first second
+    → OneAnswer ws r (distance ∷ degree′ ∷ []) (first ∷ second ∷ [])
+degrees-answered ws (result met) distance degree′ r first second t h d = record { result-or-refusal = judged-number ws (result 0) r (d .returned) (omega arith) t; refusal-writes-nothing = λ k. absurd (k (ap numberIn (d .returned))) }
+degrees-answered ws (result (short x y)) distance degree′ r first second t h d = record { result-or-refusal = judged-number ws (result 1) r (d .returned) (omega arith) t; refusal-writes-nothing = λ k. absurd (k (ap numberIn (d .returned))) }
+degrees-answered ws (result noValue) distance degree′ r first second t h d = record { result-or-refusal = judged-number ws (result 2) r (d .returned) (omega arith) t; refusal-writes-nothing = λ k. absurd (k (ap numberIn (d .returned))) }
+degrees-answered ws (refused n i) distance degree′ r first second t h d = record {
+  result-or-refusal = judged-number ws (refused n i) r (d .returned) h t;
   refusal-writes-nothing = λ k. ap₂ (λ (x y : ℕ). x ∷ y ∷ []) (d .first-place) (d .second-place);
 }
 
-pub pair-told : (bytes : List ℕ) (curve : ℕ) (target : ℤ) → AsTable (pair bytes curve target) (order (pair bytes curve target)) (pairOf bytes curve target)
+pub pair-told : (bytes : List ℕ) (curve : ℕ) (target : ℤ) → AsTable (pairRefusals bytes curve target) (pairOf bytes curve target)
 unfolding pairOf
-pair-told bytes curve target =
-    judged-told (pair bytes curve target) (pairLines bytes curve target) (order (pair bytes curve target)) (firstPair (readings bytes) (curveOf curve) target)
-    (agree-pair bytes curve target)
+pair-told bytes curve target = judged-told (agree-pair bytes curve target) _
 
 -- and of any call that tells a pair
-pairs-answered : (q : Request) (o : Outcome Given) (earlier later r first second : ℕ) → AsTable q (order q) o → InHalf (pairTold o) → Pairs o earlier later r first second
-    → OneAnswer q r (earlier ∷ later ∷ []) (first ∷ second ∷ [])
-pairs-answered q (result (times t u)) earlier later r first second a h c = record { result-or-refusal = judged-number q (order q) (result 1) r (c .returned) (omega arith) a; refusal-writes-nothing = λ k. absurd (k (ap numberIn (c .returned))) }
-pairs-answered q (result none) earlier later r first second a h c = record { result-or-refusal = judged-number q (order q) (result 0) r (c .returned) (omega arith) a; refusal-writes-nothing = λ k. absurd (k (ap numberIn (c .returned))) }
-pairs-answered q (refused n i) earlier later r first second a h c = record {
-  result-or-refusal = judged-number q (order q) (refused n i) r (c .returned) h a;
+pairs-answered : (ws : List Row) (o : Outcome Given) (earlier later r first second : ℕ) → AsTable ws o → InHalf (pairTold o) → Pairs o earlier later r first second
+    → OneAnswer ws r (earlier ∷ later ∷ []) (first ∷ second ∷ [])
+pairs-answered ws (result (times t u)) earlier later r first second a h c = record { result-or-refusal = judged-number ws (result 1) r (c .returned) (omega arith) a; refusal-writes-nothing = λ k. absurd (k (ap numberIn (c .returned))) }
+pairs-answered ws (result none) earlier later r first second a h c = record { result-or-refusal = judged-number ws (result 0) r (c .returned) (omega arith) a; refusal-writes-nothing = λ k. absurd (k (ap numberIn (c .returned))) }
+pairs-answered ws (refused n i) earlier later r first second a h c = record {
+  result-or-refusal = judged-number ws (refused n i) r (c .returned) h a;
   refusal-writes-nothing = λ k. ap₂ (λ (x y : ℕ). x ∷ y ∷ []) (c .first-place) (c .second-place);
 }
 
 -- ---- the laboratory's calls
 
 pub lab-question-told : (bytes marks text : List ℕ) (room : ℕ)
-    → AsTable (lab-question bytes marks text room) (order (lab-question bytes marks text room)) (labQuestionOf bytes marks text room)
+    → AsTable (labQuestionRefusals bytes marks text room) (labQuestionOf bytes marks text room)
 unfolding labQuestionOf
-lab-question-told bytes marks text room =
-    judged-told (lab-question bytes marks text room) (labAskingLines bytes marks text ++ (setLines bytes (read text) ++ (outputLine room (setBytes (answer bytes text)) ∷ [])))
-    (order (lab-question bytes marks text room)) (setBytes (answer bytes text)) (agree-lab-question bytes marks text room)
+lab-question-told bytes marks text room = judged-told (agree-lab-question bytes marks text room) _
 
 pub lab-degree-told : (bytes marks text : List ℕ) (target : ℤ)
-    → AsTable (lab-degree bytes marks text target) (order (lab-degree bytes marks text target)) (labDegreeOf bytes marks text target)
+    → AsTable (labDegreeRefusals bytes marks text target) (labDegreeOf bytes marks text target)
 unfolding labDegreeOf
-lab-degree-told bytes marks text target =
-    judged-told (lab-degree bytes marks text target) (labAskingLines bytes marks text ++ (targetLine target ∷ setLines bytes (read text)))
-    (order (lab-degree bytes marks text target)) (valueOf (answer bytes text) (index target)) (agree-lab-degree bytes marks text target)
+lab-degree-told bytes marks text target = judged-told (agree-lab-degree bytes marks text target) _
 
-pub lab-pair-told : (bytes : List ℕ) (curve : ℕ) (target : ℤ) → AsTable (lab-pair bytes curve target) (order (lab-pair bytes curve target)) (labPairOf bytes curve target)
+pub lab-pair-told : (bytes : List ℕ) (curve : ℕ) (target : ℤ) → AsTable (labPairRefusals bytes curve target) (labPairOf bytes curve target)
 unfolding labPairOf
-lab-pair-told bytes curve target =
-    judged-told (lab-pair bytes curve target) (recordingLines bytes ++ (noRecord bytes ∷ badTarget curve target ∷ curveLine curve ∷ tooManyTops bytes curve ∷ []))
-    (order (lab-pair bytes curve target)) (firstPair (readings bytes) (curveOf curve) target) (agree-lab-pair bytes curve target)
+lab-pair-told bytes curve target = judged-told (agree-lab-pair bytes curve target) _
 
-pub band-judged : (bytes text : List ℕ) (e : ℤ) → AsTable (band bytes text e) (order (band bytes text e)) (bandOf bytes text e)
+pub band-judged : (bytes text : List ℕ) (e : ℤ) → AsTable (bandRefusals bytes text e) (bandOf bytes text e)
 unfolding bandOf
-band-judged bytes text e =
-    judged-told (band bytes text e) (askingLines bytes text ++ (widthLine e ∷ extremeLine (read text) ∷ [])) (order (band bytes text e))
-    (bandsOf (theQuestion (read text)) (widthOf e) (coded bytes)) (agree-band bytes text e)
+band-judged bytes text e = judged-told (agree-band bytes text e) _
 
 pub filled-few : (p : Part) → filled p ≤ 1
 filled-few empty = omega arith
 filled-few (run l h) = omega arith
 
 -- the four places of the band call
-band-answered : (bytes text : List ℕ) (e : ℤ) (low high lowest highest r a b c d : ℕ) → BandCall bytes text e low high lowest highest r a b c d
-    → OneAnswer (band bytes text e) r (low ∷ high ∷ lowest ∷ highest ∷ []) (a ∷ b ∷ c ∷ d ∷ [])
-band-answered bytes text e low high lowest highest r a b c d w =
+band-answered : (bytes text : List ℕ) (e : ℤ) (certain-low certain-high possible-low possible-high r a b c d : ℕ) → BandCall bytes text e certain-low certain-high possible-low possible-high r a b c d
+    → OneAnswer (bandRefusals bytes text e) r (certain-low ∷ certain-high ∷ possible-low ∷ possible-high ∷ []) (a ∷ b ∷ c ∷ d ∷ [])
+band-answered bytes text e certain-low certain-high possible-low possible-high r a b c d w =
     go (bandOf bytes text e) refl (band-judged bytes text e) w
   where
-    q : Request
-    q = band bytes text e
+    ws : List Row
+    ws = bandRefusals bytes text e
 
-    go : (o : Outcome Bands) → bandOf bytes text e ≡ o → AsTable q (order q) o → InBands o low high lowest highest r a b c d
-        → OneAnswer q r (low ∷ high ∷ lowest ∷ highest ∷ []) (a ∷ b ∷ c ∷ d ∷ [])
+    go : (o : Outcome Bands) → bandOf bytes text e ≡ o → AsTable ws o → InBands o certain-low certain-high possible-low possible-high r a b c d
+        → OneAnswer ws r (certain-low ∷ certain-high ∷ possible-low ∷ possible-high ∷ []) (a ∷ b ∷ c ∷ d ∷ [])
     go (result x) h t w =
         let m = filled-few (x .certain) in let n = filled-few (x .possible) in
         let small : filled (x .certain) + 2 * filled (x .possible) < half = omega arith in
         record {
-          result-or-refusal = judged-number q (order q) (bandTold (result x)) r (w .returned) small t;
+          result-or-refusal = judged-number ws (bandTold (result x)) r (w .returned) small t;
           refusal-writes-nothing = λ k. absurd (k (ap numberIn (w .returned) ∙ number-result (filled (x .certain) + 2 * filled (x .possible)) small));
         }
     go (refused n i) h t w = record {
-      result-or-refusal = judged-number q (order q) (refused n i) r (w .returned) (subst (λ (o : Outcome Bands). InHalf (bandTold o)) h (band-in-half bytes text e)) t;
+      result-or-refusal = judged-number ws (refused n i) r (w .returned) (subst (λ (o : Outcome Bands). InHalf (bandTold o)) h (band-in-half bytes text e)) t;
       refusal-writes-nothing = λ k. let f = w .first-place in let g = w .second-place in let u = w .third-place in let v = w .fourth-place in λ j. f j ∷ g j ∷ u j ∷ v j ∷ [];
     }
 
-pub order-judged : (bytes sheet : List ℕ) → AsTable (ordering bytes sheet) (order (ordering bytes sheet)) (orderOf bytes sheet)
+pub order-judged : (bytes sheet : List ℕ) → AsTable (orderRefusals bytes sheet) (orderOf bytes sheet)
 unfolding orderOf
-order-judged bytes sheet =
-    judged-told (ordering bytes sheet) (orderLines bytes sheet) (order (ordering bytes sheet)) (finding (sheetOf sheet) (readings bytes)) (agree-order bytes sheet)
+order-judged bytes sheet = judged-told (agree-order bytes sheet) _
 
 -- the two places of the order call
 order-answered : (bytes sheet : List ℕ) (time line r first second : ℕ) → OrderCall bytes sheet time line r first second
-    → OneAnswer (ordering bytes sheet) r (time ∷ line ∷ []) (first ∷ second ∷ [])
+    → OneAnswer (orderRefusals bytes sheet) r (time ∷ line ∷ []) (first ∷ second ∷ [])
 order-answered bytes sheet time line r first second w = go (orderOf bytes sheet) refl (order-judged bytes sheet) w
   where
-    q : Request
-    q = ordering bytes sheet
+    ws : List Row
+    ws = orderRefusals bytes sheet
 
-    go : (o : Outcome Finding) → orderOf bytes sheet ≡ o → AsTable q (order q) o → Orders o time line r first second → OneAnswer q r (time ∷ line ∷ []) (first ∷ second ∷ [])
-    go (result allMet) e t w = record { result-or-refusal = judged-number q (order q) (result 0) r (w .returned) (omega arith) t; refusal-writes-nothing = λ k. absurd (k (ap numberIn (w .returned))) }
-    go (result (brokenAt u k)) e t w = record { result-or-refusal = judged-number q (order q) (result 1) r (w .returned) (omega arith) t; refusal-writes-nothing = λ k. absurd (k (ap numberIn (w .returned))) }
+    go : (o : Outcome Finding) → orderOf bytes sheet ≡ o → AsTable ws o → Orders o time line r first second → OneAnswer ws r (time ∷ line ∷ []) (first ∷ second ∷ [])
+    go (result allMet) e t w = record { result-or-refusal = judged-number ws (result 0) r (w .returned) (omega arith) t; refusal-writes-nothing = λ k. absurd (k (ap numberIn (w .returned))) }
+    go (result (brokenAt u k)) e t w = record { result-or-refusal = judged-number ws (result 1) r (w .returned) (omega arith) t; refusal-writes-nothing = λ k. absurd (k (ap numberIn (w .returned))) }
     go (refused n i) e t w = record {
-      result-or-refusal = judged-number q (order q) (refused n i) r (w .returned) (subst (λ (o : Outcome Finding). InHalf (findingTold o)) e (order-in-half bytes sheet)) t;
+      result-or-refusal = judged-number ws (refused n i) r (w .returned) (subst (λ (o : Outcome Finding). InHalf (findingTold o)) e (order-in-half bytes sheet)) t;
       refusal-writes-nothing = λ k. ap₂ (λ (x y : ℕ). x ∷ y ∷ []) (w .first-place) (w .second-place);
     }
 
 -- ---- the report
 
-told-answer : (q : Request) (ks : List ℕ) (o : Outcome Answer) → AsTable q ks o → AsTable q ks (answerTold o)
-told-answer q ks (result taken) t = t
-told-answer q ks (result (given f)) t = t
-told-answer q ks (refused n p) t = t
+told-answer : (ws : List Row) (o : Outcome Answer) → AsTable ws o → AsTable ws (answerTold o)
+told-answer ws (result taken) t = t
+told-answer ws (result (given f)) t = t
+told-answer ws (refused n p) t = t
 
 mean-small : (m : MeanDegree) → meanTold m < half
 mean-small noMean = omega arith
 mean-small (meanDegree x) = omega arith
 
 module _ (n : Naming) where
-  naming-told : (room : ℕ) → AsTable (naming (n .count) (n .text) (n .target) room) (order (naming (n .count) (n .text) (n .target) room)) (named room n)
-  naming-told room = judged-told (naming (n .count) (n .text) (n .target) room) (namingLines n room) (order (naming (n .count) (n .text) (n .target) room)) taken (agree-naming n room)
+  naming-told : (room : ℕ) → AsTable (reportStartRefusals (n .count) (n .text) (n .target) room) (named room n)
+  naming-told room = judged-told (agree-naming n room) taken
 
   naming-half : (room : ℕ) → InHalf (answerTold (named room n))
   naming-half room = by (named room n) refl
@@ -261,8 +242,8 @@ module _ (n : Naming) where
 
   pub start-answered : (old : List ℕ) (r : ℕ) (new : List ℕ) → Starts n old r new → Started (n .count) (n .text) (n .target) old r new
   start-answered old r new w = record {
-    result-or-refusal = judged-number (naming (n .count) (n .text) (n .target) (length old)) (order (naming (n .count) (n .text) (n .target) (length old))) (answerTold (named (length old) n)) r (w .returned)
-        (naming-half (length old)) (told-answer (naming (n .count) (n .text) (n .target) (length old)) (order (naming (n .count) (n .text) (n .target) (length old))) (named (length old) n) (naming-told (length old)));
+    result-or-refusal = judged-number (reportStartRefusals (n .count) (n .text) (n .target) (length old)) (answerTold (named (length old) n)) r (w .returned)
+        (naming-half (length old)) (told-answer (reportStartRefusals (n .count) (n .text) (n .target) (length old)) (named (length old) n) (naming-told (length old)));
     too-short-stays = λ h. w .state ∙ start-short n old h;
     refusal-only-ends = λ k. ends (namedIndex n (length old)) refl k;
   }
@@ -326,46 +307,43 @@ module _ (b recording : List ℕ) (m e d x r : ℕ) (after : List ℕ) (m′ e�
 
 -- ---- the calls of a summary
 
-pub entry-judged : (bytes : List ℕ) (room : ℕ) → AsTable (entry bytes room) (order (entry bytes room)) (entryOf bytes room)
+pub entry-judged : (bytes : List ℕ) (room : ℕ) → AsTable (entryRefusals bytes room) (entryOf bytes room)
 unfolding entryOf
-entry-judged bytes room =
-    judged-told (entry bytes room) (recordingLines bytes ++ entryLines bytes room) (order (entry bytes room)) (reckoned (readings bytes)) (agree-entry bytes room)
+entry-judged bytes room = judged-told (agree-entry bytes room) _
 
 pub find-judged : (summary : List ℕ) (curve : ℕ) (level : ℤ) (room : ℕ)
-    → AsTable (find summary curve level room) (order (find summary curve level room)) (findOf summary curve level room)
+    → AsTable (findRefusals summary curve level room) (findOf summary curve level room)
 unfolding findOf
-find-judged summary curve level room =
-    judged-told (find summary curve level room) (badSummary summary ∷ levelLines summary curve level room) (order (find summary curve level room))
-    (listing (curveOf curve) level summary) (agree-find summary curve level room)
+find-judged summary curve level room = judged-told (agree-find summary curve level room) _
 
 pub demand-1 : Demand1
 demand-1 = record {
-  of-question = λ {recording} {text} {out} {r} {after} w.
-      writes-answered (question recording text (length out)) (questionOf recording text (length out)) out r after (question-told recording text (length out)) (question-in-half recording text (length out)) w;
-  of-degree = λ {recording} {text} {target} {distance} {value} {r} {distance-after} {value-after} d.
-      degrees-answered (degree recording text target) (nearnessOf recording text target) distance value r distance-after value-after (degree-told recording text target) (degree-in-half recording text target) d;
-  of-pair = λ {recording} {curve} {target} {earlier} {later} {r} {earlier-after} {later-after} c.
-      pairs-answered (pair recording curve target) (pairOf recording curve target) earlier later r earlier-after later-after (pair-told recording curve target) (pair-in-half recording curve target) c;
-  of-thin = λ {recording} {marks} {out} {r} {after} w.
-      writes-answered (thin recording marks (length out)) (thinOf recording marks (length out)) out r after (thin-told recording marks (length out)) (thin-in-half recording marks (length out)) w;
-  of-band = λ {recording} {text} {e} {low} {high} {lowest} {highest} {r} {low-after} {high-after} {lowest-after} {highest-after} w.
-      band-answered recording text e low high lowest highest r low-after high-after lowest-after highest-after w;
-  of-order = λ {recording} {sheet} {time} {line} {r} {time-after} {line-after} w. order-answered recording sheet time line r time-after line-after w;
-  of-lab-question = λ {recording} {marks} {text} {out} {r} {after} w.
-      writes-answered (lab-question recording marks text (length out)) (labQuestionOf recording marks text (length out)) out r after
+  of-question = λ recording text {out} {r} {after} w.
+      writes-answered (questionRefusals recording text (length out)) (questionOf recording text (length out)) out r after (question-told recording text (length out)) (question-in-half recording text (length out)) w;
+  of-degree = λ recording text target {distance} {value} {r} {distance-after} {value-after} d.
+      degrees-answered (degreeRefusals recording text target) (nearnessOf recording text target) distance value r distance-after value-after (degree-told recording text target) (degree-in-half recording text target) d;
+  of-pair = λ recording curve target {earlier} {later} {r} {earlier-after} {later-after} c.
+      pairs-answered (pairRefusals recording curve target) (pairOf recording curve target) earlier later r earlier-after later-after (pair-told recording curve target) (pair-in-half recording curve target) c;
+  of-thin = λ recording marks {out} {r} {after} w.
+      writes-answered (thinRefusals recording marks (length out)) (thinOf recording marks (length out)) out r after (thin-told recording marks (length out)) (thin-in-half recording marks (length out)) w;
+  of-band = λ recording text e {certain-low} {certain-high} {possible-low} {possible-high} {r} {certain-low-after} {certain-high-after} {possible-low-after} {possible-high-after} w.
+      band-answered recording text e certain-low certain-high possible-low possible-high r certain-low-after certain-high-after possible-low-after possible-high-after w;
+  of-order = λ recording sheet {time} {line} {r} {time-after} {line-after} w. order-answered recording sheet time line r time-after line-after w;
+  of-lab-question = λ recording marks text {out} {r} {after} w.
+      writes-answered (labQuestionRefusals recording marks text (length out)) (labQuestionOf recording marks text (length out)) out r after
       (lab-question-told recording marks text (length out)) (lab-question-in-half recording marks text (length out)) w;
-  of-lab-degree = λ {recording} {marks} {text} {target} {distance} {value} {r} {distance-after} {value-after} d.
-      degrees-answered (lab-degree recording marks text target) (labDegreeOf recording marks text target) distance value r distance-after value-after
+  of-lab-degree = λ recording marks text target {distance} {value} {r} {distance-after} {value-after} d.
+      degrees-answered (labDegreeRefusals recording marks text target) (labDegreeOf recording marks text target) distance value r distance-after value-after
       (lab-degree-told recording marks text target) (lab-degree-in-half recording marks text target) d;
-  of-lab-pair = λ {recording} {curve} {target} {earlier} {later} {r} {earlier-after} {later-after} c.
-      pairs-answered (lab-pair recording curve target) (labPairOf recording curve target) earlier later r earlier-after later-after
+  of-lab-pair = λ recording curve target {earlier} {later} {r} {earlier-after} {later-after} c.
+      pairs-answered (labPairRefusals recording curve target) (labPairOf recording curve target) earlier later r earlier-after later-after
       (lab-pair-told recording curve target) (lab-pair-in-half recording curve target) c;
   of-report-start = λ {count} {text} {target} {report} {r} {after} w. start-answered (record { count = count; text = text; target = target }) report r after w;
   of-report-add = λ {report} {recording} {met} {empty} {distances} {mean} {r} {after} {met-after} {empty-after} {distances-after} {mean-after} w.
       handed-in report recording met empty distances mean r after met-after empty-after distances-after mean-after w;
-  of-entry = λ {recording} {out} {r} {after} w.
-      writes-answered (entry recording (length out)) (entryOf recording (length out)) out r after (entry-judged recording (length out)) (entry-in-half recording (length out)) w;
-  of-find = λ {summary} {curve} {level} {out} {r} {after} w.
-      writes-answered (find summary curve level (length out)) (findOf summary curve level (length out)) out r after
+  of-entry = λ recording {out} {r} {after} w.
+      writes-answered (entryRefusals recording (length out)) (entryOf recording (length out)) out r after (entry-judged recording (length out)) (entry-in-half recording (length out)) w;
+  of-find = λ summary curve level {out} {r} {after} w.
+      writes-answered (findRefusals summary curve level (length out)) (findOf summary curve level (length out)) out r after
       (find-judged summary curve level (length out)) (find-in-half summary curve level (length out)) w;
 }

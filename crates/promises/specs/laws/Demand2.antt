@@ -53,8 +53,8 @@ use Rattle.reply.specs.laws.Unpacked.{low-result, number-refused}
 use Rattle.boundary.specs.Boundary.{Degrees, valueTold, Pairs, pairTold, filled, bandTold, lowAfter, highAfter, InBands, findingTold, Orders}
 use Rattle.mill.specs.Calls.{QuestionCall, DegreeCall, PairCall, BandCall, OrderCall}
 use Rattle.mill.specs.laws.Calls.{question-in-half, degree-in-half, band-in-half, order-in-half, pair-in-half}
-use Rattle.promises.specs.Table.{Request, question, degree, order, acceptedOrder, band, ordering, pair}
-use Rattle.promises.specs.laws.Table.{number-bounds, AsTable, judged-told}
+use Rattle.promises.specs.Table.{Row, acceptedRows, questionRefusals, degreeRefusals, pairRefusals, bandRefusals, orderRefusals}
+use Rattle.promises.specs.laws.Table.{AsTable, judged-told}
 use Rattle.promises.specs.laws.CallLines.{InPlace, in-its-place, answer-is, agree-asked}
 use Rattle.promises.specs.Demands.{Fixed, SetWritten, InRun, End, RunTold, BandTold, OrderTold, PairTold}
 use Rattle.promises.specs.laws.Demand1.{told-counted, told-numbered, wrote, question-told, degree-told, band-judged, filled-few, order-judged, pair-told}
@@ -81,9 +81,8 @@ module _ (full held text : List ℕ) (place : InPlace full held text) (room : �
   unfolding questionOf
   question-of-held = judged-pass (recordingLines held) (noRecord held ∷ asked) (setBytes (answer held text)) (place .accepted)
 
-  pub stood-told : AsTable (question full text room) acceptedOrder (questionOf held text room)
-  stood-told = subst (AsTable (question full text room) acceptedOrder) (sym question-of-held)
-      (judged-told (question full text room) (noRecord held ∷ asked) acceptedOrder (setBytes (answer held text)) (agree-asked full held text place room))
+  pub stood-told : AsTable (acceptedRows full text room) (questionOf held text room)
+  stood-told = subst (AsTable (acceptedRows full text room)) (sym question-of-held) (judged-told (agree-asked full held text place room) (setBytes (answer held text)))
 
   pub stood-fixed : (written : List ℕ) → questionOf held text room ≡ result written → Fixed full text written
   stood-fixed written e =
@@ -110,9 +109,9 @@ module _ (full held text : List ℕ) (place : InPlace full held text) (room : �
 pub written-set : (recording text out : List ℕ) (r : ℕ) (after : List ℕ) → QuestionCall recording text out r after → numberIn r ≡ 0 → SetWritten recording text out r after
 written-set recording text out r after w z =
     let o : Outcome (List ℕ) = questionOf recording text (length out) in
-    let q : Request = question recording text (length out) in
+    let ws : List Row = questionRefusals recording text (length out) in
     let b = wrote o out r after (question-in-half recording text (length out))
-    (told-numbered q (order q) (counted o) (told-counted q (order q) o (question-told recording text (length out)))) w z in
+    (told-numbered ws (counted o) (told-counted ws o (question-told recording text (length out)))) w z in
     record { written = b .0; set = stood-fixed recording recording text (own recording text (b .0) (b .1)) (length out) (b .0) (b .1); wrote = b .2 }
   where
     own : (recording text written : List ℕ) → questionOf recording text (length out) ≡ result written → InPlace recording recording text
@@ -128,10 +127,9 @@ degree-meant recording text target distance value r first second d z = go (nearn
         let n = nearness-says recording text target x e in
         (index target, x, n .1, n .2, subst (λ (o : Outcome Value). Degrees o distance value r first second) e d)
     go (refused n p) e =
-        let q : Request = degree recording text target in
-        let t : AsTable q (order q) {R = Value} (refused n p) = subst (λ (o : Outcome Value). AsTable q (order q) o) e (degree-told recording text target) in
-        let b = number-bounds (t .0) in
-        let m = t .2 in
+        let ws : List Row = degreeRefusals recording text target in
+        let t : AsTable ws {R = Value} (refused n p) = subst (λ (o : Outcome Value). AsTable ws o) e (degree-told recording text target) in
+        let b = t .1 .0 in
         let k : numberIn r ≡ n = ap numberIn (d .returned ∙ ap (λ (o : Outcome Value). packed (valueTold o)) e) ∙ number-refused n p (subst (λ (o : Outcome Value). InHalf (valueTold o)) e (degree-in-half recording text target)) in
         absurd (omega arith)
 
@@ -174,28 +172,27 @@ module _ (low high low-after high-after : ℕ) where
       }
 
 -- the call gives two sets where it is not refused
-pub band-given : (recording text : List ℕ) (e : ℤ) (low high lowest highest r a b c d : ℕ) → BandCall recording text e low high lowest highest r a b c d → numberIn r ≡ 0
+pub band-given : (recording text : List ℕ) (e : ℤ) (certain-low certain-high possible-low possible-high r a b c d : ℕ) → BandCall recording text e certain-low certain-high possible-low possible-high r a b c d → numberIn r ≡ 0
     → (x : Bands) × (bandOf recording text e ≡ result x)
-band-given recording text e low high lowest highest r a b c d w z = go (bandOf recording text e) refl w
+band-given recording text e certain-low certain-high possible-low possible-high r a b c d w z = go (bandOf recording text e) refl w
   where
-    go : (o : Outcome Bands) → bandOf recording text e ≡ o → InBands o low high lowest highest r a b c d → (x : Bands) × (bandOf recording text e ≡ result x)
+    go : (o : Outcome Bands) → bandOf recording text e ≡ o → InBands o certain-low certain-high possible-low possible-high r a b c d → (x : Bands) × (bandOf recording text e ≡ result x)
     go (result x) h w = (x, h)
     go (refused n p) h w =
-        let q : Request = band recording text e in
-        let t : AsTable q (order q) {R = Bands} (refused n p) = subst (λ (o : Outcome Bands). AsTable q (order q) o) h (band-judged recording text e) in
-        let f = number-bounds (t .0) in
-        let m = t .2 in
+        let ws : List Row = bandRefusals recording text e in
+        let t : AsTable ws {R = Bands} (refused n p) = subst (λ (o : Outcome Bands). AsTable ws o) h (band-judged recording text e) in
+        let f = t .1 .0 in
         let k : numberIn r ≡ n = ap numberIn (w .returned) ∙ number-refused n p (subst (λ (o : Outcome Bands). InHalf (bandTold o)) h (band-in-half recording text e)) in
         absurd (omega arith)
 
-pub band-meaning : (recording text : List ℕ) (e low high lowest highest r a b c d : ℕ) → BandCall recording text (pos e) low high lowest highest r a b c d → numberIn r ≡ 0
-    → BandTold recording text e r low high lowest highest a b c d
-band-meaning recording text e low high lowest highest r a b c d w z =
-    let g = band-given recording text (pos e) low high lowest highest r a b c d w z in
-    sets (g .0) (g .1) (subst (λ (o : Outcome Bands). InBands o low high lowest highest r a b c d) (g .1) w)
+pub band-meaning : (recording text : List ℕ) (e certain-low certain-high possible-low possible-high r a b c d : ℕ) → BandCall recording text (pos e) certain-low certain-high possible-low possible-high r a b c d → numberIn r ≡ 0
+    → BandTold recording text e r certain-low certain-high possible-low possible-high a b c d
+band-meaning recording text e certain-low certain-high possible-low possible-high r a b c d w z =
+    let g = band-given recording text (pos e) certain-low certain-high possible-low possible-high r a b c d w z in
+    sets (g .0) (g .1) (subst (λ (o : Outcome Bands). InBands o certain-low certain-high possible-low possible-high r a b c d) (g .1) w)
   where
-    sets : (x : Bands) → bandOf recording text (pos e) ≡ result x → InBands (result x) low high lowest highest r a b c d
-        → BandTold recording text e r low high lowest highest a b c d
+    sets : (x : Bands) → bandOf recording text (pos e) ≡ result x → InBands (result x) certain-low certain-high possible-low possible-high r a b c d
+        → BandTold recording text e r certain-low certain-high possible-low possible-high a b c d
     sets x h w =
         let m = filled-few (x .certain) in let n = filled-few (x .possible) in
         let small : filled (x .certain) + 2 * filled (x .possible) < half = omega arith in
@@ -210,18 +207,18 @@ band-meaning recording text e low high lowest highest r a b c d w z =
           reads = t .reads;
           only = t .only;
           two-bits = omega arith;
-          first-run = subst (λ (bit : ℕ). RunTold bit low high a b) (sym first) (part-told low high a b (x .certain) (o .0) (w .first-place) (w .second-place));
-          second-run = subst (λ (bit : ℕ). RunTold bit lowest highest c d) (sym second) (part-told lowest highest c d (x .possible) (o .1) (w .third-place) (w .fourth-place));
+          first-run = subst (λ (bit : ℕ). RunTold bit certain-low certain-high a b) (sym first) (part-told certain-low certain-high a b (x .certain) (o .0) (w .first-place) (w .second-place));
+          second-run = subst (λ (bit : ℕ). RunTold bit possible-low possible-high c d) (sym second) (part-told possible-low possible-high c d (x .possible) (o .1) (w .third-place) (w .fourth-place));
           certain = λ y i.
               let k = index-of y i in
               subst (λ (v : ℤ). InRun (lowIn r % 2) a b v ↔ Certain (t .question) e (readings recording) v) (k .2)
               (subst (λ (bit : ℕ). InRun bit a b (whole (k .0)) ↔ Certain (t .question) e (readings recording) (whole (k .0))) (sym first)
-              (then (part-run low high a b (x .certain) (o .0) (w .first-place) (w .second-place) (k .0)) (t .means .certain (k .0) (k .1))));
+              (then (part-run certain-low certain-high a b (x .certain) (o .0) (w .first-place) (w .second-place) (k .0)) (t .means .certain (k .0) (k .1))));
           possible = λ y i.
               let k = index-of y i in
               subst (λ (v : ℤ). InRun (lowIn r / 2) c d v ↔ Possible (t .question) e (readings recording) v) (k .2)
               (subst (λ (bit : ℕ). InRun bit c d (whole (k .0)) ↔ Possible (t .question) e (readings recording) (whole (k .0))) (sym second)
-              (then (part-run lowest highest c d (x .possible) (o .1) (w .third-place) (w .fourth-place) (k .0)) (t .means .possible (k .0) (k .1))));
+              (then (part-run possible-low possible-high c d (x .possible) (o .1) (w .third-place) (w .fourth-place) (k .0)) (t .means .possible (k .0) (k .1))));
         }
 
 -- ---- DEMAND 2, of the pair call
@@ -250,9 +247,9 @@ pair-meaning bytes curve target earlier later r first second w z = go (pairOf by
           a-pair = λ h. subst (FirstFitting (readings bytes) (curveOf curve) target) (sym (ap₂ times (w .first-place) (w .second-place))) (given-pair bytes curve target (times t u) e);
         }
     go (refused n i) e w =
-        let q : Request = pair bytes curve target in
+        let ws : List Row = pairRefusals bytes curve target in
         let k = number-refused n i (subst (λ (o : Outcome Given). InHalf (pairTold o)) e (pair-in-half bytes curve target)) in
-        let b = told-numbered q (order q) (refused n i) (subst (AsTable q (order q)) e (pair-told bytes curve target)) in
+        let b = told-numbered ws (refused n i) (subst (AsTable ws) e (pair-told bytes curve target)) in
         let h = ap numberIn (w .returned) in
         absurd (omega arith)
 
@@ -282,8 +279,8 @@ order-meaning bytes sheet time line r first second w z = go (orderOf bytes sheet
           broken = λ h. subst (TrueFinding (readings bytes) (sheetOf sheet)) (sym (ap₂ brokenAt (w .first-place) (w .second-place))) (true-of (brokenAt t k) e);
         }
     go (refused n i) e w =
-        let q : Request = ordering bytes sheet in
+        let ws : List Row = orderRefusals bytes sheet in
         let k = number-refused n i (subst (λ (o : Outcome Finding). InHalf (findingTold o)) e (order-in-half bytes sheet)) in
-        let b = told-numbered q (order q) (refused n i) (subst (AsTable q (order q)) e (order-judged bytes sheet)) in
+        let b = told-numbered ws (refused n i) (subst (AsTable ws) e (order-judged bytes sheet)) in
         let h = ap numberIn (w .returned) in
         absurd (omega arith)

@@ -2,6 +2,7 @@
 use Prim.Native.Nat.{ℕ}
 use mathlib.Core.Path.{_≡_, refl, sym, ap, subst, _∙_}
 use mathlib.Core.List.{List, [], map}
+use lib.ListN.{length}
 use Rattle.thin.specs.Thin.{keptBytes}
 use Rattle.marks.specs.Marks.{marksOf}
 use Rattle.thin.specs.Model.{joinAfter}
@@ -9,7 +10,7 @@ use Rattle.thin.specs.laws.Model.{kept-none, as-the-model}
 use Rattle.thin.specs.Cut.{allWritten}
 use Rattle.thin.specs.laws.Cut.{as-the-whole}
 use Rattle.mill.specs.Calls.{QuestionCall}
-use Rattle.promises.specs.Table.{acceptedOrder}
+use Rattle.promises.specs.Table.{acceptedRows}
 use Rattle.thin.specs.laws.Selection.{kept-selection}
 use Rattle.promises.specs.laws.StandIn.{selection-stands}
 use Rattle.promises.specs.laws.KeptAsFull.{selected-as-full}
@@ -43,7 +44,7 @@ demand-3 marks = record {
       let join : List ℕ = joinAfter ks [] cs in
       let every = list-as-model marks fine cs xs t in
       let same-join : takenFrom [] cs xs ≡ join = taken-join ks [] cs xs [] (every .as-the-model) in
-      subst (λ (j : List ℕ). RightOf j text out acceptedOrder r after) (sym same-join)
+      subst (λ (j : List ℕ). RightOf (acceptedRows j text (length out)) j text out r after) (sym same-join)
       (stands-in join (keptBytes ks join) text out (in-place marks join (keptBytes ks join) text (selection-stands ks join (keptBytes ks join) (accepted-after ks cs [] refl (nothing-accepted ks)) (kept-selection ks join)) l) r after
       (subst (λ (h : List ℕ). QuestionCall h text out r after) (every .held ∙ ap (keptBytes ks) same-join) w));
   bad-marks = bad-calls marks;
@@ -56,8 +57,8 @@ demands = record {
   two = record {
     set-written = λ {recording} {text} {out} {r} {after} w z. written-set recording text out r after w z;
     degree-told = λ {recording} {text} target {distance} {value} {r} {distance-after} {value-after} d z. degree-meant recording text target distance value r distance-after value-after d z;
-    band-told = λ {recording} {text} e {low} {high} {lowest} {highest} {r} {low-after} {high-after} {lowest-after} {highest-after} w z.
-        band-meaning recording text e low high lowest highest r low-after high-after lowest-after highest-after w z;
+    band-told = λ {recording} {text} e {certain-low} {certain-high} {possible-low} {possible-high} {r} {certain-low-after} {certain-high-after} {possible-low-after} {possible-high-after} w z.
+        band-meaning recording text e certain-low certain-high possible-low possible-high r certain-low-after certain-high-after possible-low-after possible-high-after w z;
     pair-told = λ {recording} {curve} {target} {earlier} {later} {r} {earlier-after} {later-after} w z.
         pair-meaning recording curve target earlier later r earlier-after later-after w z;
     order-told = λ {recording} {sheet} {time} {line} {r} {time-after} {line-after} w z. order-meaning recording sheet time line r time-after line-after w z;

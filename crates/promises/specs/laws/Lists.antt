@@ -10,7 +10,6 @@ use lib.ListN.{length}
 use borrow.Author.Tests.{eqb-true, ne-eqb}
 use Rattle.number.specs.Least.{least}
 use Rattle.refusal.specs.Outcome.{Outcome, result, refused}
-use Rattle.refusal.specs.declared.Refusal.the-variants.{BadMarks}
 use Rattle.recording.specs.Recording.{firstBad, Accepted}
 use Rattle.recording.specs.Output.{counted}
 use Rattle.recording.specs.laws.Outcome.{no-result}
@@ -25,8 +24,8 @@ use Rattle.reply.specs.Reply.{numberIn, lowIn, unpacked}
 use Rattle.reply.specs.laws.Unpacked.{unpacked-packed}
 use Rattle.mill.specs.Calls.{ThinCall}
 use Rattle.mill.specs.laws.Calls.{thin-in-half}
-use Rattle.promises.specs.Table.{Request, thin, order}
-use Rattle.promises.specs.laws.CallLines.{agree-marks}
+use Rattle.promises.specs.Table.{Row, thinRefusals}
+use Rattle.promises.specs.laws.CallLines.{off-marks}
 use Rattle.thin.specs.laws.Selection.{kept-selection, selection-accepted}
 use Rattle.promises.specs.CallsMade.{Returned, readOff, CallsMade, heldAt, takenNext, takenFrom}
 use Rattle.promises.specs.Demands.{EveryList}
@@ -39,10 +38,10 @@ pub read-thinned : (marks held : List ℕ) (c : Call) (x : Returned) → ThinCal
 read-thinned marks held c x w =
     let bytes : List ℕ = held ++ c .piece in
     let room : ℕ = length (c .output) in
-    let q : Request = thin bytes marks room in
+    let ws : List Row = thinRefusals bytes marks room in
     let o : Outcome (List ℕ) = thinOf bytes marks room in
     let e : unpacked (x .returned) ≡ counted o = ap unpacked (w .returned)
-    ∙ unpacked-packed (counted o) (thin-in-half bytes marks room) (told-numbered q (order q) (counted o) (told-counted q (order q) o (thin-told bytes marks room))) in
+    ∙ unpacked-packed (counted o) (thin-in-half bytes marks room) (told-numbered ws (counted o) (told-counted ws o (thin-told bytes marks room))) in
     ap₂ (λ (a : Outcome ℕ) (b : List ℕ). record { answer = a; output = b }) e (w .output)
 
 pub thinned-calls : (marks held : List ℕ) (cs : List Call) (xs : List Returned) → CallsMade marks held cs xs
@@ -81,8 +80,7 @@ bad-calls marks bad [] [] t = (λ x m. absurd (List·Memᴰ·not-nil m), refl)
 bad-calls marks bad [] (x ∷ xs) t = absurd t
 bad-calls marks bad (c ∷ cs) [] t = absurd t
 bad-calls marks bad (c ∷ cs) (x ∷ xs) t =
-    let not-0 : ¬ (numberIn (x .returned) ≡ 0) = λ z. demand-1 .of-thin (t .0) .result-or-refusal .a-result .0 z BadMarks
-    (List·Memᴰ·tail (List·Memᴰ·tail (List·Memᴰ·tail (List·Memᴰ·head refl)))) (agree-marks (c .piece) marks (length (c .output)) .met bad) in
+    let not-0 : ¬ (numberIn (x .returned) ≡ 0) = λ z. demand-1 .of-thin (c .piece) marks (t .0) .result-or-refusal .a-result .0 z .1 .1 .1 .0 0 (refl, off-marks marks .0 bad) in
     let none-held : heldNext [] (readOff x) ≡ [] = ap (λ (b : Bool). heldNext [] (record {
       answer = cond b (result (lowIn (x .returned))) (refused (numberIn (x .returned)) (lowIn (x .returned)));
       output = x .output;

@@ -38,8 +38,8 @@ use Rattle.boundary.specs.Boundary.{Degrees, valueTold, distanceAfter, degreeAf
 use Rattle.mill.specs.laws.Calls.{lab-question-in-half}
 use Rattle.promises.specs.StandIn.{StandIn}
 use Rattle.promises.specs.Secrecy.{Public, the-batch, the-additions, AllButB, SamePlaces, SameToLab, Secrecy}
-use Rattle.promises.specs.Table.{Request, order, lab-question, lab-degree, lab-pair}
-use Rattle.promises.specs.laws.Table.{AsTable, number-bounds}
+use Rattle.promises.specs.Table.{Row, labQuestionRefusals, labDegreeRefusals, labPairRefusals}
+use Rattle.promises.specs.laws.Table.{AsTable}
 use Rattle.promises.specs.laws.StandIn.{judged-behind, same-noRecord, stand-same, meant-val, meant-lines}
 use Rattle.promises.specs.laws.KeptAsFull.{selected-stands}
 use Rattle.promises.specs.laws.Demand1.{told-counted, told-numbered, writes-alike, lab-question-told, lab-degree-told, lab-pair-told}
@@ -170,16 +170,16 @@ pairs-alike o h t u t′ u′ r r′ f g f′ g′ w w′ = record {
     go (refused n p) h w w′ e = let a = w .returned in absurd (omega arith)
 
 -- a value, and a pair, told by the table has a number that is not 0
-value-numbered : (q : Request) (ks : List ℕ) (o : Outcome Value) → AsTable q ks o → Numbered (valueTold o)
-value-numbered q ks (result met) t = tt
-value-numbered q ks (result (short x y)) t = tt
-value-numbered q ks (result noValue) t = tt
-value-numbered q ks (refused n p) t = let b = number-bounds (t .0) in let m = t .2 in omega arith
+value-numbered : (ws : List Row) (o : Outcome Value) → AsTable ws o → Numbered (valueTold o)
+value-numbered ws (result met) t = tt
+value-numbered ws (result (short x y)) t = tt
+value-numbered ws (result noValue) t = tt
+value-numbered ws (refused n p) t = t .1 .0
 
-pair-numbered : (q : Request) (ks : List ℕ) (o : Outcome Given) → AsTable q ks o → Numbered (pairTold o)
-pair-numbered q ks (result (times x y)) t = tt
-pair-numbered q ks (result none) t = tt
-pair-numbered q ks (refused n p) t = let b = number-bounds (t .0) in let m = t .2 in omega arith
+pair-numbered : (ws : List Row) (o : Outcome Given) → AsTable ws o → Numbered (pairTold o)
+pair-numbered ws (result (times x y)) t = tt
+pair-numbered ws (result none) t = tt
+pair-numbered ws (refused n p) t = t .1 .0
 
 -- ---- SECRECY
 
@@ -187,24 +187,24 @@ same-to-lab : (marks recording other held held′ : List ℕ) → AllButB record
     → SameToLab marks held held′
 same-to-lab marks recording other held held′ two s s′ = record {
   question = λ text {out} {out′} e {r} {r′} {after} {after′} w w′.
-      let q : Request = lab-question held marks text (length out) in
+      let ws : List Row = labQuestionRefusals held marks text (length out) in
       let o : Outcome (List ℕ) = labQuestionOf held marks text (length out) in
       let same : o ≡ labQuestionOf held′ marks text (length out′) =
       same-question marks recording other held held′ two s s′ text (length out) ∙ ap (labQuestionOf held′ marks text) e in
       let k = writes-alike same (lab-question-in-half held marks text (length out))
-      (told-numbered q (order q) (counted o) (told-counted q (order q) o (lab-question-told held marks text (length out)))) w w′ in
+      (told-numbered ws (counted o) (told-counted ws o (lab-question-told held marks text (length out)))) w w′ in
       record {
         number = k .0;
         written = k .1;
         memory = λ m. w .output ∙ ap₂ outputAfter same m ∙ sym (w′ .output);
       };
   degree = λ text target {distance} {value} {distance′} {value′} {r} {r′} {distance-after = f} {value-after = g} {distance-after′ = f′} {value-after′ = g′} w w′.
-      let q : Request = lab-degree held marks text target in
-      degrees-alike (labDegreeOf held marks text target) (value-numbered q (order q) (labDegreeOf held marks text target) (lab-degree-told held marks text target)) distance value distance′ value′ r r′ f g f′ g′ w
+      let ws : List Row = labDegreeRefusals held marks text target in
+      degrees-alike (labDegreeOf held marks text target) (value-numbered ws (labDegreeOf held marks text target) (lab-degree-told held marks text target)) distance value distance′ value′ r r′ f g f′ g′ w
       (subst (λ (o : Outcome Value). Degrees o distance′ value′ r′ f′ g′) (sym (same-degree marks recording other held held′ two s s′ text target)) w′);
   pair = λ number target {earlier} {later} {earlier′} {later′} {r} {r′} {earlier-after = f} {later-after = g} {earlier-after′ = f′} {later-after′ = g′} w w′.
-      let q : Request = lab-pair held number target in
-      pairs-alike (labPairOf held number target) (pair-numbered q (order q) (labPairOf held number target) (lab-pair-told held number target)) earlier later earlier′ later′ r r′ f g f′ g′ w
+      let ws : List Row = labPairRefusals held number target in
+      pairs-alike (labPairOf held number target) (pair-numbered ws (labPairOf held number target) (lab-pair-told held number target)) earlier later earlier′ later′ r r′ f g f′ g′ w
       (subst (λ (o : Outcome Given). Pairs o earlier′ later′ r′ f′ g′) (sym (same-pair marks recording other held held′ two s s′ number target)) w′);
 }
 

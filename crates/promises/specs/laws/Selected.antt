@@ -22,7 +22,7 @@ use Rattle.boundary.specs.Boundary.{Writes}
 use Rattle.boundary.specs.laws.Boundary.{degrees-same, pairs-same, bands-same, orders-same}
 use Rattle.mill.specs.Calls.{QuestionCall, ThinCall}
 use Rattle.mill.specs.laws.Calls.{thin-in-half, question-in-half}
-use Rattle.promises.specs.Table.{Request, question, degree, pair, order, acceptedOrder, band, ordering}
+use Rattle.promises.specs.Table.{Row, acceptedRows, questionRefusals}
 use Rattle.promises.specs.laws.Table.{AsTable}
 use Rattle.promises.specs.laws.CallLines.{InPlace}
 use Rattle.promises.specs.laws.Operator.{unwritten-propositional}
@@ -51,15 +51,15 @@ in-place marks full held text s l = record {
 }
 
 pub stands-in : (full held text out : List ℕ) → InPlace full held text → (r : ℕ) (after : List ℕ) → QuestionCall held text out r after
-    → RightOf full text out acceptedOrder r after
+    → RightOf (acceptedRows full text (length out)) full text out r after
 stands-in full held text out place r after w =
     let o : Outcome (List ℕ) = questionOf held text (length out) in
-    let q : Request = question full text (length out) in
-    let t : AsTable q acceptedOrder (counted o) = told-counted q acceptedOrder o (stood-told full held text place (length out)) in
+    let ws : List Row = acceptedRows full text (length out) in
+    let t : AsTable ws (counted o) = told-counted ws o (stood-told full held text place (length out)) in
     let h : InHalf (counted o) = question-in-half held text (length out) in
     record {
-      refusal = judged-number q acceptedOrder (counted o) r (w .returned) h t;
-      set = λ z. let b = wrote o out r after h (told-numbered q acceptedOrder (counted o) t) w z in
+      refusal = judged-number ws (counted o) r (w .returned) h t;
+      set = λ z. let b = wrote o out r after h (told-numbered ws (counted o) t) w z in
           record { written = b .0; set = stood-fixed full held text place (length out) (b .0) (b .1); wrote = b .2 };
     }
 
@@ -107,10 +107,10 @@ module _ (marks recording held : List ℕ) (fine : AcceptedMarks marks) (a : Acc
 same-written : (recording text : List ℕ) {out out′ : List ℕ} {r r′ : ℕ} {after after′ : List ℕ} → length out ≡ length out′ → QuestionCall recording text out r after
     → QuestionCall recording text out′ r′ after′ → (r ≡ r′) × (numberIn r ≡ 0 → (b : List ℕ) × Wrote b out r after × Wrote b out′ r′ after′)
 same-written recording text {out} e w w′ =
-    let q : Request = question recording text (length out) in
+    let ws : List Row = questionRefusals recording text (length out) in
     let o : Outcome (List ℕ) = questionOf recording text (length out) in
     writes-alike (ap (questionOf recording text) e) (question-in-half recording text (length out))
-    (told-numbered q (order q) (counted o) (told-counted q (order q) o (question-told recording text (length out)))) w w′
+    (told-numbered ws (counted o) (told-counted ws o (question-told recording text (length out)))) w w′
 
 -- "the same set in the same bytes, or the same refusal": of every selection that includes the kept readings
 pub like-full : (marks : List ℕ) → AcceptedMarks marks → {recording held text : List ℕ} → Accepted recording → Selection (marksOf marks) recording held → AskedOfKept marks text
@@ -122,5 +122,5 @@ like-full marks fine {recording} {held} {text} a s l {out} {out′} e {r} {r′}
     record {
       same = k .0;
       same-bytes = k .1;
-      right = record { refusal = demand-1 .of-question v .result-or-refusal; set = λ z. written-set recording text out r after v z };
+      right = record { refusal = demand-1 .of-question recording text v .result-or-refusal; set = λ z. written-set recording text out r after v z };
     }
