@@ -1,23 +1,18 @@
 -- By the answer: the ends of each set that is not empty are written, else nothing; the place of a refusal fits in the low half.
-use Prim.Native.Nat.{ℕ, _+_, _*_, _≤_}
+use Prim.Native.Nat.{ℕ, _+_, _*_}
 use native.Mathlib.Omega.{arith}
 use mathlib.Core.Path.{_≡_, refl, sym, ap₂, subst}
 use Rattle.band.specs.Call.{partOf, outcomeOf}
-use Rattle.band.specs.Means.{Part, empty, run}
 use Rattle.band.specs.declared.Bands.{Bands as Pair}
 use Rattle.band.specs.declared.InBand.{InBand}
 use Rattle.band.specs.declared.InBand.the-variants.{Sets}
 use Rattle.reply.specs.Reply.{InHalf}
 use Rattle.boundary.specs.Boundary.{filled, bandTold, lowAfter, highAfter, InBands}
 use Rattle.boundary.specs.inner.Fits.{EndsIn}
+use Rattle.boundary.specs.laws.Boundary.{filled-one}
 use borrow.Author.Needs.{needs}
 use Rattle.boundary.proofs.tell_bands.Statement.{statement}
 use Rattle.boundary.proofs.tell_bands.Tie as tie
-
--- a set adds at most one bit
-filled-one : (p : Part) {n : ℕ} → n ≡ filled p → n ≤ 1
-filled-one empty e = omega arith
-filled-one (run l h) e = omega arith
 
 -- what the two sets return and leave
 sets-left : (x : InBand) (b : Pair) → x ≡ Sets b → (certain-low certain-high possible-low possible-high : ℕ) {f s first second third fourth : ℕ}
@@ -45,12 +40,12 @@ put-ends-requires-2 c κs =
 mul-result : tie.Need-mul-result
 mul-result c =
     let z = c .before .before .before .before .before .before .before .answer .given in
-    omega (arith, filled-one (partOf (z .0 .0 .possible)) (c .put-ends2 .ensures .0))
+    omega (arith, filled-one (partOf (z .0 .0 .possible)), c .put-ends2 .ensures .0)
 
 add-result : tie.Need-add-result
 add-result c =
     let z = c .before .before .before .before .before .before .before .answer .given in
-    omega (arith, filled-one (partOf (z .0 .0 .possible)) (c .put-ends2 .ensures .0), filled-one (partOf (z .0 .0 .certain)) (c .before .before .before .put-ends .ensures .0))
+    omega (arith, filled-one (partOf (z .0 .0 .possible)), c .put-ends2 .ensures .0, filled-one (partOf (z .0 .0 .certain)), c .before .before .before .put-ends .ensures .0)
 
 enum-known-answer-2 : tie.Need-enum-known-answer-2
 enum-known-answer-2 c = search needs

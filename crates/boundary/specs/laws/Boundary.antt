@@ -1,5 +1,6 @@
--- What a call that writes bytes answers, packed; and that equal outcomes are told alike.
-use Prim.Native.Nat.{ℕ}
+-- What a call that writes bytes answers, packed; the bits of the band call; and that equal outcomes are told alike.
+use Prim.Native.Nat.{ℕ, _≤_}
+use native.Mathlib.Omega.{arith}
 use mathlib.Core.Path.{_≡_, ap, _∙_, subst}
 use mathlib.Core.List.{List}
 use Rattle.refusal.specs.Outcome.{Outcome}
@@ -7,14 +8,19 @@ use Rattle.recording.specs.Output.{Answers, reported}
 use Rattle.recording.specs.declared.Written.{Written}
 use Rattle.degree.specs.Degree.{Value}
 use Rattle.pair.specs.Pair.{Given}
-use Rattle.band.specs.Means.{Bands}
+use Rattle.band.specs.Means.{Part, empty, run, Bands}
 use Rattle.sheet.specs.Finding.{Finding}
 use Rattle.reply.specs.Reply.{packed}
-use Rattle.boundary.specs.Boundary.{Writes, Degrees, Pairs, InBands, Orders}
+use Rattle.boundary.specs.Boundary.{Writes, Degrees, Pairs, filled, InBands, Orders}
 
 pub writes : (outcome : Outcome (List ℕ)) (old : List ℕ) (w : Written) (new : List ℕ) (r : ℕ) → Answers outcome old w new → r ≡ packed (reported w)
     → Writes outcome old r new
 writes outcome old w new r a e = record { returned = e ∙ ap packed (a .answer); output = a .output }
+
+-- a set adds at most one bit
+pub filled-one : (p : Part) → filled p ≤ 1
+filled-one empty = omega arith
+filled-one (run l h) = omega arith
 
 -- ---- the same outcome, told alike
 

@@ -27,7 +27,7 @@ use Rattle.question.specs.laws.Size.{answered-few}
 use Rattle.degree.specs.Degree.{Value, met, short, noValue, valueOf, targetLine, nearnessOf}
 use Rattle.degree.specs.laws.Call.{short-numbers}
 use Rattle.band.specs.Call.{widthOf, theQuestion, widthLine, extremeLine, bandOf}
-use Rattle.band.specs.Means.{Part, empty, run, Bands}
+use Rattle.band.specs.Means.{Bands}
 use Rattle.band.specs.inner.Ends.{bandsOf}
 use Rattle.band.specs.laws.OnAxis.{given-on-axis}
 use Rattle.pair.specs.Pair.{Given, times, none, firstPair, acceptedLines, pairOf}
@@ -45,7 +45,8 @@ use Rattle.lab.specs.Lab.{labQuestionOf, labDegreeOf, labPairOf}
 use Rattle.lab.specs.laws.Plain.{PlainOr14, PlainOr11Or14, question-plain, degree-plain, pair-plain}
 use Rattle.reply.specs.Reply.{InHalf}
 use Rattle.reply.specs.laws.Place.{plain-place, place-below}
-use Rattle.boundary.specs.Boundary.{valueTold, pairTold, filled, bandTold, findingTold}
+use Rattle.boundary.specs.Boundary.{valueTold, pairTold, bandTold, findingTold}
+use Rattle.boundary.specs.laws.Boundary.{filled-one}
 use Rattle.boundary.specs.inner.Fits.{NumbersIn, EndsIn}
 
 -- ---- bytes written
@@ -155,11 +156,6 @@ pair-in-half bytes curve g = go (pairOf bytes curve g) refl
     go (result (times t u)) e = omega arith
     go (result none) e = omega arith
     go (refused n p) e = place-below bytes (acceptedLines bytes curve g) (firstPair (readings bytes) (curveOf curve) g) n p (refl, (refl, (refl, tt))) e
-
--- a set adds at most one bit
-filled-one : (p : Part) → filled p ≤ 1
-filled-one empty = omega arith
-filled-one (run l h) = omega arith
 
 pub band-in-half : (bytes text : List ℕ) (e : ℤ) → InHalf (bandTold (bandOf bytes text e))
 unfolding bandOf

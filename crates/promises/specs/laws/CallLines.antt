@@ -1,10 +1,10 @@
 -- The lines of each call agree with the table. For the question call this is said of readings that stand in for a recording, of which the recording
 -- itself is one case and its kept readings another.
-use Prim.Native.Nat.{ℕ, _*_, _/_, _%_, _≤_, _<_}
+use Prim.Native.Nat.{ℕ, _/_, _%_, _≤_, _<_}
 use native.Mathlib.Omega.{arith}
 use mathlib.Core.Path.{_≡_, refl, sym, ap, subst, _∙_}
-use mathlib.Core.Bool.{Bool, true, false, So, _||_, not, true≢false, false≢true}
-use mathlib.Core.Logic.{_⊎_, inl, inr, ⊎-elim, _↔_}
+use mathlib.Core.Bool.{Bool, true, false, So, _||_, true≢false, false≢true}
+use mathlib.Core.Logic.{_⊎_, ⊎-elim, _↔_}
 use mathlib.Core.List.{List, [], _∷_, _++_, List·Memᴰ, List·Memᴰ·head, List·Memᴰ·tail, List·Memᴰ·not-nil, List·Memᴰ·cases-cons}
 use lib.Dec.{eqb, ltb, leb→le, le→leb}
 use lib.IntN.{ℤ, pos, negsuc}
@@ -16,7 +16,7 @@ use Rattle.number.specs.Least.{least}
 use Rattle.number.specs.laws.Boolean.{clash, by-test, same, or-left, or-right, or-none, none-left, none-right, then, either, so-or}
 use Rattle.number.specs.laws.Least.{least-holds, least-first}
 use Rattle.number.specs.laws.Order.{less-or-not}
-use Rattle.refusal.specs.Outcome.{Line, line, NoneMeets}
+use Rattle.refusal.specs.Outcome.{Line, NoneMeets}
 use Rattle.recording.specs.Condition.{pick, someOf}
 use Rattle.recording.specs.Reading.{top, curveOf}
 use Rattle.recording.specs.Recording.{records, readings, recordingLines, noRecord, mostPigments, Accepted}
@@ -27,12 +27,12 @@ use Rattle.targets.specs.Target.{offAxis}
 use Rattle.tops.specs.Tops.{mostTops}
 use Rattle.grammar.specs.Syntax.{Text}
 use Rattle.grammar.specs.Grammar.{ReadsWhole}
-use Rattle.grammar.specs.Size.{nodes, openAt, tooDeep, mostBytes, mostNodes, mostOpen}
+use Rattle.grammar.specs.Size.{openAt, tooDeep, mostBytes, mostOpen}
 use Rattle.text.specs.Told.{textLines, tooLarge}
 use Rattle.meaning.specs.Alike.{Same}
 use Rattle.meaning.specs.inner.Coded.{coded}
 use Rattle.meaning.specs.Meaning.{Holds}
-use Rattle.meaning.specs.Overfull.{IsSet, Overfull, TooManyTops}
+use Rattle.meaning.specs.Overfull.{IsSet}
 use Rattle.meaning.specs.laws.Recorded.{accepted-recorded}
 use Rattle.meaning.specs.inner.Truth.{refused8, refused9}
 use Rattle.meaning.specs.laws.Truth.{val-holds}
@@ -43,21 +43,20 @@ use Rattle.degree.specs.Degree.{degreeLines, targetLine}
 use Rattle.band.specs.Band.{widest}
 use Rattle.band.specs.Call.{badBand, oneExtreme, widthLine, extremeLine}
 use Rattle.band.specs.laws.Meant.{test-extreme, one-alone}
-use Rattle.pair.specs.Pair.{badTarget, tooManyTops, pairLines, acceptedLines}
+use Rattle.pair.specs.Pair.{badTarget, tooManyTops, pairLines}
 use Rattle.thin.specs.Thin.{keptBytes}
 use Rattle.marks.specs.Marks.{marksOf, mostMarks, latestMark, marksLine}
 use Rattle.sheet.specs.Sheet.{mostLines, noPigment, badSheet}
-use Rattle.sheet.specs.Call.{sheetLines, orderLines}
-use Rattle.lab.specs.Lab.{LaboratoryText, textLine, curveLine, askerLines, labAskingLines}
+use Rattle.sheet.specs.Call.{orderLines}
+use Rattle.lab.specs.Lab.{LaboratoryText, curveLine, askerLines, labAskingLines}
 use Rattle.lab.specs.laws.Laboratory.{fourteen-text}
-use Rattle.report.specs.Report.{Naming, mostBatches, reportBytes, badCount, namingLines}
+use Rattle.report.specs.Report.{Naming, mostBatches, reportBytes, namingLines}
 use Rattle.entry.specs.Entry.{entryBytes}
-use Rattle.entry.specs.inner.Reckoned.{reckoned}
 use Rattle.entry.specs.Call.{entryLines}
 use Rattle.entry.specs.laws.Reckoned.{length-reckoned}
 use Rattle.listing.specs.Listing.{mostEntries, entryCount, listing}
 use Rattle.listing.specs.Call.{badSummary, levelLines}
-use Rattle.promises.specs.Table.{NoRecord, TopsOfCurveOver, recordingRows, ReadWith, OpenTooDeep, TextTooLarge, RunsOver, TopsOver, SetLonger, MarksOff, TargetBad, SheetBad, NotLaboratory, BandBad, OneExtreme, NotOneExtreme, Row, _when_, textRows, askingRows, acceptedRows, questionRefusals, degreeRefusals, pairRefusals, thinRefusals, bandRefusals, orderRefusals, labQuestionRefusals, labDegreeRefusals, labPairRefusals, reportStartRefusals, entryRefusals, findRefusals}
+use Rattle.promises.specs.Table.{NoRecord, TopsOfCurveOver, recordingRows, ReadWith, OpenTooDeep, TextTooLarge, RunsOver, TopsOver, SetLonger, MarksOff, TargetBad, SheetBad, NotLaboratory, BandBad, OneExtreme, Row, _when_, textRows, askingRows, acceptedRows, questionRefusals, degreeRefusals, pairRefusals, thinRefusals, bandRefusals, orderRefusals, labQuestionRefusals, labDegreeRefusals, labPairRefusals, reportStartRefusals, entryRefusals, findRefusals}
 use Rattle.promises.specs.laws.Table.{agrees, Agree, done, next, _⊳_, so-eq, so-lt, so-none, agree-recording}
 
 -- ---- tests by what they decide

@@ -1,31 +1,25 @@
 -- DEMAND 1, proved of each call: an answer by the table, and a refusal writes nothing.
-use Prim.Native.Nat.{ℕ, _+_, _*_, _≤_, _<_}
+use Prim.Native.Nat.{ℕ, _+_, _*_, _<_}
 use native.Mathlib.Omega.{arith}
 use mathlib.Core.Path.{_≡_, refl, sym, ap, ap₂, subst, _∙_}
-use mathlib.Core.List.{List, [], _∷_, _++_}
+use mathlib.Core.List.{List, [], _∷_}
 use lib.IntN.{ℤ}
 use lib.ListN.{length, drop}
 use Rattle.refusal.specs.Outcome.{Outcome, result, refused}
-use Rattle.recording.specs.Recording.{readings, recordingLines, noRecord}
-use Rattle.recording.specs.Output.{counted, outputLine}
-use Rattle.runs.specs.Runs.{setBytes}
-use Rattle.question.specs.Question.{read, answer, askingLines, setLines, questionOf}
-use Rattle.degree.specs.Degree.{Value, met, short, noValue, valueOf, targetLine, nearnessOf}
-use Rattle.meaning.specs.inner.Coded.{coded, index}
-use Rattle.band.specs.Call.{widthOf, theQuestion, widthLine, extremeLine, bandOf}
-use Rattle.band.specs.Means.{Part, empty, run, Bands}
-use Rattle.band.specs.inner.Ends.{bandsOf}
-use Rattle.pair.specs.Pair.{Given, times, none, firstPair, badTarget, tooManyTops, pairLines, pairOf}
-use Rattle.lab.specs.Lab.{curveLine, labAskingLines, labQuestionOf, labDegreeOf, labPairOf}
-use Rattle.sheet.specs.Sheet.{sheetOf}
+use Rattle.recording.specs.Output.{counted}
+use Rattle.question.specs.Question.{questionOf}
+use Rattle.degree.specs.Degree.{Value, met, short, noValue, nearnessOf}
+use Rattle.band.specs.Call.{bandOf}
+use Rattle.band.specs.Means.{Bands}
+use Rattle.pair.specs.Pair.{Given, times, none, pairOf}
+use Rattle.lab.specs.Lab.{labQuestionOf, labDegreeOf, labPairOf}
 use Rattle.sheet.specs.Finding.{Finding, allMet, brokenAt}
-use Rattle.sheet.specs.inner.Found.{finding}
-use Rattle.sheet.specs.Call.{orderLines, orderOf}
-use Rattle.thin.specs.Thin.{keptBytes, thinOf}
-use Rattle.marks.specs.Marks.{marksOf, marksLine}
+use Rattle.sheet.specs.Call.{orderOf}
+use Rattle.thin.specs.Thin.{thinOf}
 use Rattle.reply.specs.Reply.{half, packed, InHalf, numberIn, lowIn}
 use Rattle.reply.specs.laws.Unpacked.{Numbered, number-result, low-result, number-refused, low-refused}
 use Rattle.boundary.specs.Boundary.{Writes, Degrees, valueTold, Pairs, pairTold, filled, bandTold, InBands, findingTold, Orders}
+use Rattle.boundary.specs.laws.Boundary.{filled-one}
 use Rattle.degree.specs.inner.Reach.{mapped}
 use Rattle.report.specs.Report.{MeanDegree, noMean, meanDegree, Naming, namingLines, named, Answer, taken, given}
 use Rattle.report.specs.inner.Running.{Addition, stopped, last, figuresIn, answerIn}
@@ -35,10 +29,8 @@ use Rattle.report_state.specs.Call.{meanTold, answerTold, Reports, namedIndex, 
 use Rattle.report_state.specs.laws.Start.{named-mapped, start-short, start-ends}
 use Rattle.report_state.specs.laws.Add.{Fine, in-fine}
 use Rattle.reply.specs.laws.Place.{plain-place}
-use Rattle.entry.specs.inner.Reckoned.{reckoned}
-use Rattle.entry.specs.Call.{entryLines, entryOf}
-use Rattle.listing.specs.Listing.{listing}
-use Rattle.listing.specs.Call.{badSummary, levelLines, findOf}
+use Rattle.entry.specs.Call.{entryOf}
+use Rattle.listing.specs.Call.{findOf}
 use Rattle.mill.specs.Calls.{BandCall, OrderCall}
 use Rattle.mill.specs.laws.Calls.{thin-in-half, question-in-half, degree-in-half, pair-in-half, band-in-half, order-in-half, lab-question-in-half, lab-degree-in-half, lab-pair-in-half, entry-in-half, find-in-half}
 use Rattle.promises.specs.Table.{Row, FirstMet, questionRefusals, degreeRefusals, pairRefusals, thinRefusals, bandRefusals, orderRefusals, labQuestionRefusals, labDegreeRefusals, labPairRefusals, reportStartRefusals, entryRefusals, findRefusals}
@@ -46,7 +38,6 @@ use Rattle.promises.specs.laws.Table.{AsTable, first-met, judged-told}
 use Rattle.promises.specs.laws.CallLines.{agree-question, agree-degree, agree-pair, agree-thin, agree-band, agree-order, agree-lab-question, agree-lab-degree, agree-lab-pair, agree-naming, agree-entry, agree-find}
 use Rattle.promises.specs.Output.{Wrote}
 use Rattle.promises.specs.Demands.{ByTheTable, OneAnswer, Started, HandedIn, Demand1}
-use Rattle.recording.specs.Reading.{curveOf}
 
 -- ---- DEMAND 1: the number that is returned
 
@@ -170,10 +161,6 @@ pub band-judged : (bytes text : List ℕ) (e : ℤ) → AsTable (bandRefusals by
 unfolding bandOf
 band-judged bytes text e = judged-told (agree-band bytes text e) _
 
-pub filled-few : (p : Part) → filled p ≤ 1
-filled-few empty = omega arith
-filled-few (run l h) = omega arith
-
 -- the four places of the band call
 band-answered : (bytes text : List ℕ) (e : ℤ) (certain-low certain-high possible-low possible-high r a b c d : ℕ) → BandCall bytes text e certain-low certain-high possible-low possible-high r a b c d
     → OneAnswer (bandRefusals bytes text e) r (certain-low ∷ certain-high ∷ possible-low ∷ possible-high ∷ []) (a ∷ b ∷ c ∷ d ∷ [])
@@ -186,7 +173,7 @@ band-answered bytes text e certain-low certain-high possible-low possible-high r
     go : (o : Outcome Bands) → bandOf bytes text e ≡ o → AsTable ws o → InBands o certain-low certain-high possible-low possible-high r a b c d
         → OneAnswer ws r (certain-low ∷ certain-high ∷ possible-low ∷ possible-high ∷ []) (a ∷ b ∷ c ∷ d ∷ [])
     go (result x) h t w =
-        let m = filled-few (x .certain) in let n = filled-few (x .possible) in
+        let m = filled-one (x .certain) in let n = filled-one (x .possible) in
         let small : filled (x .certain) + 2 * filled (x .possible) < half = omega arith in
         record {
           result-or-refusal = judged-number ws (bandTold (result x)) r (w .returned) small t;

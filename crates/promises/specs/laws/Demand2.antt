@@ -29,12 +29,11 @@ use Rattle.question.specs.laws.Answer.{answered-accepted}
 use Rattle.question.specs.laws.Lines.{read-reads, reads-read}
 use Rattle.degree.specs.Nearest.{Near}
 use Rattle.degree.specs.laws.Nearest.{nearness-says}
-use Rattle.degree.specs.Degree.{Value, met, nearnessOf}
+use Rattle.degree.specs.Degree.{Value, nearnessOf}
 use Rattle.meaning.specs.inner.Coded.{index}
 use Rattle.band.specs.Band.{Certain, Possible}
 use Rattle.band.specs.Call.{bandOf}
-use Rattle.band.specs.Means.{Part, empty, run, InPart, Bands}
-use Rattle.band.specs.Means.{Meant}
+use Rattle.band.specs.Means.{Part, empty, run, InPart, Bands, Meant}
 use Rattle.band.specs.inner.OnAxis.{EndsOnAxis}
 use Rattle.band.specs.laws.OnAxis.{given-on-axis}
 use Rattle.band.specs.laws.Meant.{band-meant}
@@ -51,13 +50,14 @@ use Rattle.sheet.specs.laws.Finding.{finding-true}
 use Rattle.reply.specs.Reply.{half, packed, InHalf, numberIn, lowIn}
 use Rattle.reply.specs.laws.Unpacked.{low-result, number-refused}
 use Rattle.boundary.specs.Boundary.{Degrees, valueTold, Pairs, pairTold, filled, bandTold, lowAfter, highAfter, InBands, findingTold, Orders}
+use Rattle.boundary.specs.laws.Boundary.{filled-one}
 use Rattle.mill.specs.Calls.{QuestionCall, DegreeCall, PairCall, BandCall, OrderCall}
 use Rattle.mill.specs.laws.Calls.{question-in-half, degree-in-half, band-in-half, order-in-half, pair-in-half}
 use Rattle.promises.specs.Table.{Row, acceptedRows, questionRefusals, degreeRefusals, pairRefusals, bandRefusals, orderRefusals}
 use Rattle.promises.specs.laws.Table.{AsTable, judged-told}
 use Rattle.promises.specs.laws.CallLines.{InPlace, in-its-place, answer-is, agree-asked}
 use Rattle.promises.specs.Demands.{Fixed, SetWritten, InRun, End, RunTold, BandTold, OrderTold, PairTold}
-use Rattle.promises.specs.laws.Demand1.{told-counted, told-numbered, wrote, question-told, degree-told, band-judged, filled-few, order-judged, pair-told}
+use Rattle.promises.specs.laws.Demand1.{told-counted, told-numbered, wrote, question-told, degree-told, band-judged, order-judged, pair-told}
 
 -- ---- DEMAND 2
 
@@ -194,7 +194,7 @@ band-meaning recording text e certain-low certain-high possible-low possible-hig
     sets : (x : Bands) → bandOf recording text (pos e) ≡ result x → InBands (result x) certain-low certain-high possible-low possible-high r a b c d
         → BandTold recording text e r certain-low certain-high possible-low possible-high a b c d
     sets x h w =
-        let m = filled-few (x .certain) in let n = filled-few (x .possible) in
+        let m = filled-one (x .certain) in let n = filled-one (x .possible) in
         let small : filled (x .certain) + 2 * filled (x .possible) < half = omega arith in
         let is : lowIn r ≡ filled (x .certain) + 2 * filled (x .possible) = ap lowIn (w .returned) ∙ low-result (filled (x .certain) + 2 * filled (x .possible)) small in
         let first : lowIn r % 2 ≡ filled (x .certain) = omega arith in

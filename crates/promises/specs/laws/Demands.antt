@@ -6,14 +6,13 @@ use lib.ListN.{length}
 use Rattle.thin.specs.Thin.{keptBytes}
 use Rattle.marks.specs.Marks.{marksOf}
 use Rattle.thin.specs.Model.{joinAfter}
-use Rattle.thin.specs.laws.Model.{kept-none, as-the-model}
+use Rattle.thin.specs.laws.Model.{kept-none}
 use Rattle.thin.specs.Cut.{allWritten}
 use Rattle.thin.specs.laws.Cut.{as-the-whole}
 use Rattle.mill.specs.Calls.{QuestionCall}
 use Rattle.promises.specs.Table.{acceptedRows}
 use Rattle.thin.specs.laws.Selection.{kept-selection}
 use Rattle.promises.specs.laws.StandIn.{selection-stands}
-use Rattle.promises.specs.laws.KeptAsFull.{selected-as-full}
 use Rattle.promises.specs.CallsMade.{readOff, takenFrom}
 use Rattle.promises.specs.Demands.{RightOf, Demand3, Demands}
 use Rattle.promises.specs.laws.Demand1.{demand-1}

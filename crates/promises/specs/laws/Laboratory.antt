@@ -5,7 +5,7 @@ use mathlib.Core.Logic.{⊎-elim}
 use mathlib.Core.List.{List}
 use lib.IntN.{ℤ}
 use lib.ListN.{length}
-use Rattle.refusal.specs.Outcome.{Outcome, refused}
+use Rattle.refusal.specs.Outcome.{Outcome}
 use Rattle.recording.specs.Output.{counted}
 use Rattle.degree.specs.Degree.{Value}
 use Rattle.pair.specs.Pair.{Given}

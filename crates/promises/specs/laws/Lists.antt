@@ -4,7 +4,7 @@ use native.Mathlib.Omega.{arith}
 use mathlib.Core.Path.{_≡_, refl, sym, ap, ap₂, subst, _∙_}
 use mathlib.Core.Bool.{Bool, true, false, cond}
 use mathlib.Core.Logic.{⊎-elim}
-use mathlib.Core.List.{List, [], _∷_, _++_, map, List·Memᴰ, List·Memᴰ·head, List·Memᴰ·tail, List·Memᴰ·not-nil, List·Memᴰ·cases-cons}
+use mathlib.Core.List.{List, [], _∷_, _++_, map, List·Memᴰ, List·Memᴰ·not-nil, List·Memᴰ·cases-cons}
 use lib.Dec.{eqb}
 use lib.ListN.{length}
 use borrow.Author.Tests.{eqb-true, ne-eqb}
@@ -13,8 +13,6 @@ use Rattle.refusal.specs.Outcome.{Outcome, result, refused}
 use Rattle.recording.specs.Recording.{firstBad, Accepted}
 use Rattle.recording.specs.Output.{counted}
 use Rattle.recording.specs.laws.Outcome.{no-result}
-use Rattle.question.specs.Question.{answer}
-use Rattle.degree.specs.Degree.{met}
 use Rattle.thin.specs.Thin.{keptBytes, thinOf}
 use Rattle.marks.specs.Marks.{marksOf, marksLine, AcceptedMarks}
 use Rattle.thin.specs.Model.{Call, Left, leftBy, thinned, heldNext, calls, heldAfter, modelStep, joinNext, model, joinAfter}

@@ -3,7 +3,7 @@
 use Prim.Native.Nat.{ℕ, _*_, zero, suc, _+_, _-_, _≤_, _<_}
 use native.Mathlib.Omega.{arith}
 use mathlib.Core.Path.{_≡_, refl, sym, ap, _∙_, subst, fun-ext}
-use mathlib.Core.Bool.{Bool, true, false, _&&_, _||_, not, cond, So, false≢true}
+use mathlib.Core.Bool.{Bool, true, false, _&&_, _||_, not, cond, So}
 use mathlib.Core.Logic.{⊎-elim, _↔_}
 use mathlib.Core.List.{List, [], _∷_, _++_, map, List·Memᴰ, List·Memᴰ·head, List·Memᴰ·tail, List·Memᴰ·not-nil, List·Memᴰ·cases-cons}
 use lib.Dec.{leb, ltb, eqb}
@@ -33,11 +33,10 @@ use Rattle.grammar.specs.Size.{tooDeep}
 use Rattle.grammar.specs.Syntax.{ge, eq, of, v, number, Atom, compare, pigment, Listed, high, low, lowafter, capafter, peaks, dips, cross, crossup, dose, ampl, gaps, lag, Text, atom, listed, next, until}
 use Rattle.text.specs.Told.{textLines}
 use Rattle.grammar.specs.laws.Unique.{reading-is}
-use Rattle.number.specs.laws.Boolean.{same, then, back, either, both, so-or, so-and, or-none, and-left, and-right}
+use Rattle.number.specs.laws.Boolean.{same, then, back, or-none, and-left, and-right}
 use Rattle.meaning.specs.inner.Coded.{Coded, coded, index}
 use Rattle.meaning.specs.Meaning.{Holds}
 use Rattle.meaning.specs.laws.Pick.{Each}
-use Rattle.meaning.specs.inner.Recorded.{InRange}
 use Rattle.meaning.specs.Ranges.{Run, InRuns}
 use Rattle.meaning.specs.laws.Lines.{Example, Holding, within, OnAxis, in-runs}
 use Rattle.meaning.specs.laws.R1Lines as r1
@@ -49,7 +48,7 @@ use Rattle.meaning.specs.laws.Run.{starts, run-count, Convex, const-convex, poi
 use Rattle.meaning.specs.laws.Recorded.{accepted-recorded}
 use Rattle.meaning.specs.inner.Truth.{allOf, codedAt, lastCoded, untilFrom, val, someNode, overAt, refused8, refused9}
 use Rattle.meaning.specs.laws.Truth.{val-holds}
-use Rattle.meaning.specs.laws.Whole.{Stands, stands-whole, le-index}
+use Rattle.meaning.specs.laws.Whole.{Stands}
 use Rattle.question.specs.Question.{theText, read, answer, askingLines, setLines, questionOf}
 use Rattle.thin.specs.Thin.{keptBytes, thinOf}
 use Rattle.marks.specs.Marks.{marksOf, marksLine, AcceptedMarks}

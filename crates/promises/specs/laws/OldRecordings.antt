@@ -2,7 +2,7 @@
 use Prim.Native.Nat.{ℕ, suc, _/_, _%_, _<_}
 use native.Mathlib.Omega.{arith}
 use native.Mathlib.Decide.{decLt}
-use mathlib.Core.Path.{_≡_, refl, sym, ap, ap₂, _∙_, subst, fun-ext}
+use mathlib.Core.Path.{_≡_, sym, ap, ap₂, _∙_, subst, fun-ext}
 use mathlib.Core.Bool.{Bool, _&&_, not}
 use mathlib.Core.Logic.{⊎-elim}
 use mathlib.Core.List.{List, [], _∷_, _++_, List·Memᴰ, List·Memᴰ·not-nil, List·Memᴰ·cases-cons}
@@ -17,9 +17,9 @@ use Rattle.recording.specs.laws.Record.{length-records, getD-chunks, byte-of}
 use Rattle.recording.specs.laws.Pigment.{Each, NoAdditions, ZeroPigments, zero-fits, no-additions}
 use Rattle.kept.specs.laws.Unpigmented.{limit-unpigmented}
 use Rattle.marks.specs.Marks.{marksOf, marksLine}
-use Rattle.thin.specs.Thin.{keptBytes, thinOf}
+use Rattle.thin.specs.Thin.{thinOf}
 use Rattle.thin.specs.laws.KeptBytes.{old-keptBytes}
-use Rattle.promises.specs.OldRecordings.{Old, firstBadBefore, linesBefore, keptBefore, thinBefore, AsBefore}
+use Rattle.promises.specs.OldRecordings.{Old, firstBadBefore, linesBefore, thinBefore, AsBefore}
 
 -- by index and from record to record
 

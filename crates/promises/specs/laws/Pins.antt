@@ -10,7 +10,6 @@ use Rattle.number.specs.Axis.{whole}
 use Rattle.refusal.specs.Outcome.{Outcome, result, refused}
 use Rattle.recording.specs.Recording.{Accepted}
 use Rattle.recording.specs.laws.Acceptance.{Sound, accepted-sound, sound-accepted}
-use Rattle.question.specs.Question.{answer}
 use Rattle.thin.specs.Thin.{keptBytes, thinOf}
 use Rattle.marks.specs.Marks.{marksOf, AcceptedMarks}
 use Rattle.thin.specs.Model.{Call, Left, leftBy, heldNext, joinNext}

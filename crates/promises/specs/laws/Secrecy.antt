@@ -1,5 +1,5 @@
 -- SECRECY holds: a laboratory text names the public parts only, so it means the same of both recordings, and of every selection in the place of either.
-use Prim.Native.Nat.{ℕ, zero, suc, _+_, _≤_}
+use Prim.Native.Nat.{ℕ, zero, suc, _≤_}
 use native.Mathlib.Omega.{arith}
 use mathlib.Core.Path.{_≡_, refl, sym, ap, ap₂, subst, _∙_, fun-ext}
 use mathlib.Core.Bool.{Bool, false, _||_}

@@ -11,10 +11,8 @@ use Rattle.recording.specs.laws.Outcome.{judged-none, append-none}
 use Rattle.grammar.specs.Syntax.{Text}
 use Rattle.grammar.specs.Grammar.{ReadsWhole}
 use Rattle.meaning.specs.Alike.{Plain}
-use Rattle.number.specs.laws.Boolean.{same}
 use Rattle.question.specs.Question.{read, questionOf}
 use Rattle.question.specs.laws.Lines.{read-reads}
-use Rattle.band.specs.Means.{empty}
 use Rattle.thin.specs.Thin.{keptBytes, thinOf}
 use Rattle.marks.specs.Marks.{marksOf, marksLine, AcceptedMarks}
 use Rattle.reply.specs.Reply.{InHalf, numberIn}

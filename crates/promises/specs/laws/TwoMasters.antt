@@ -1,17 +1,14 @@
 -- Recordings R6 and R7, our own, which differ in B alone and keep different readings: secrecy is not empty, and each part of refusal 14 is needed. A is 11, 19, 14, 15, 16 at T 0 to 40;
 -- B is 0, but 4 at T 20 in R6 and 3 at T 30 in R7; all is flat. So R6 keeps T 0, 10, 20, 40, and R7 T 0, 10, 30, 40.
-use Prim.Native.Nat.{ℕ, _<_}
-use native.Mathlib.Omega.{arith}
-use mathlib.Core.Path.{_≡_, refl, sym, ap, subst, _∙_}
+use Prim.Native.Nat.{ℕ}
+use mathlib.Core.Path.{_≡_, refl, _∙_}
 use mathlib.Core.Bool.{true}
 use mathlib.Core.List.{List, [], _∷_, _++_, map}
 use lib.IntN.{pos}
 use lib.Signed.{leZ-yes}
-use Rattle.number.specs.Axis.{axis}
 use Rattle.number.specs.Least.{least}
 use Rattle.number.specs.Words.{offsetBinary, signed}
-use Rattle.refusal.specs.Outcome.{refused, NoneMeets}
-use Rattle.recording.specs.Condition.{someOf}
+use Rattle.refusal.specs.Outcome.{refused}
 use Rattle.recording.specs.Reading.{Reading, A, B, value, nothing}
 use Rattle.recording.specs.Recording.{reading, readings, inRange, fieldsOf, fields, lawful, firstBad, Accepted}
 use Rattle.runs.specs.laws.Cuts.{lowCuts, highCuts}
@@ -20,16 +17,14 @@ use Rattle.grammar.specs.Size.{tooDeep}
 use Rattle.grammar.specs.Syntax.{high, lowafter, listed}
 use Rattle.grammar.specs.inner.Lexer.{unsignedAt, numberAt, operandAt, comparisonAt, timedAt, argumentsAt, namedAt, headedAt, leafAt}
 use Rattle.grammar.specs.inner.Parse.{parse, parsed}
-use Rattle.text.specs.Told.{textLines}
 use Rattle.meaning.specs.Ranges.{_to_, Lo, Hi}
 use Rattle.meaning.specs.Named.{Channel, SameChannel, Agree, none, more}
 use Rattle.meaning.specs.inner.Recorded.{InRange}
 use Rattle.meaning.specs.inner.Coded.{Coded, code, codedValue, codedAfter}
 use Rattle.meaning.specs.inner.Truth.{truth, val, someNode, refused9}
 use Rattle.meaning.specs.laws.Extreme.{Greatest, Least, greatest-some, least-some}
-use Rattle.meaning.specs.laws.Lines.{Example, _is_, at, Holding, within, up-to, from-on, told}
+use Rattle.meaning.specs.laws.Lines.{_is_, at, Holding, up-to, from-on, told}
 use Rattle.meaning.specs.laws.Pick.{all-at}
-use Rattle.question.specs.Question.{questionOf}
 use Rattle.marks.specs.Marks.{marksOf}
 use Rattle.lab.specs.Lab.{labQuestionOf}
 use Rattle.lab.specs.inner.Barred.{notForLaboratory}
