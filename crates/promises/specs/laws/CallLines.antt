@@ -91,9 +91,6 @@ deep-open : (text : List ℕ) → So (tooDeep text) ↔ OpenTooDeep text
 unfolding tooDeep
 deep-open text = (to, from)
   where
-    over : ℕ → Bool
-    over i = ltb mostOpen (openAt text i)
-
     to : So (tooDeep text) → OpenTooDeep text
     to h =
         let l = ltb-true _ (length text) h in
@@ -129,7 +126,7 @@ pub in-its-place : (bytes text : List ℕ) → Accepted bytes → InPlace bytes 
 in-its-place bytes text a = record {
   accepted = a;
   empty = (λ e. e, λ e. e);
-  same = λ someOf n t r. record { truth = λ z. (λ h. h, λ h. h); eight = (λ h. h, λ h. h); nine = (λ h. h, λ h. h) };
+  same = λ some n t r. record { truth = λ z. (λ h. h, λ h. h); eight = (λ h. h, λ h. h); nine = (λ h. h, λ h. h) };
 }
 
 module _ (full held text : List ℕ) (place : InPlace full held text) where
