@@ -11,12 +11,18 @@ ghost use lib.ListN.{length};
 ghost use Rattle.runs.specs.Set.{slotWords, sharedWords};
 ghost use Rattle.meaning.specs.inner.Coded.{coded};
 ghost use Rattle.grammar.specs.Size.{temporal};
+ghost use Rattle.evaluation.specs.inner.Slots.{Sized};
 ghost use Rattle.evaluation.specs.inner.Evaluate.{Node, Leaves};
 ghost use Rattle.evaluation.specs.inner.Evaluation.{textOf, Asking, Evaluates};
 use grammar::kinds;
 use runset::RunSet;
 use runset::SHARED;
 use slots::TABLE;
+
+// A slot to each node, and the words that joining is lent. References to them fit in a register, where a slice does not.
+type Sets = [u32; TABLE];
+
+type Shared = [u32; SHARED];
 
 // Evaluates node n of a text at record i, and the nodes under it: its set goes to its slot in `own`, its children's to theirs in `other`, and so on by turns.
 // Says whether one has too many runs.
@@ -25,12 +31,13 @@ fn eval(
     rec: &[u8],
     i: usize,
     n: usize,
-    own: &mut [u32],
-    other: &mut [u32],
-    shared: &mut [u32],
+    own: &mut Sets,
+    other: &mut Sets,
+    shared: &mut Shared,
 ) -> bool
     requires { ⌜ Node (now table) (now rec) i n (now own) (now other) × (length (now shared) ≡ sharedWords) ⌝ }
-    ensures { λ r. ⌜ Leaves (now (table .entry)) (now (rec .entry)) i n (now (own .entry)) (now (other .entry)) (now (own .exit)) (now (other .exit)) r ⌝ }
+    ensures { λ r. ⌜ Leaves (now (table .entry)) (now (rec .entry)) i n (now (own .entry)) (now (other .entry)) (now (own .exit)) (now (other .exit)) r
+        × Sized (now (own .exit)) × Sized (now (other .exit)) × (length (now (shared .exit)) ≡ sharedWords) ⌝ }
 {
     let row = rows::row_at(table, n);
     let kind = row.kind;

@@ -29,38 +29,20 @@ loop-holds c =
 sub-i : tie.Need-sub-i Inv-loop μ-loop
 sub-i c = search needs
 
-slice-aggregate-eval : tie.Need-slice-aggregate-eval Inv-loop μ-loop
-slice-aggregate-eval c = search needs
-
-slice-aggregate-eval-2 : tie.Need-slice-aggregate-eval-2 Inv-loop μ-loop
-slice-aggregate-eval-2 c = search needs
-
-slice-aggregate-eval-3 : tie.Need-slice-aggregate-eval-3 Inv-loop μ-loop
-slice-aggregate-eval-3 c = search needs
-
 eval-requires : tie.Need-eval-requires Inv-loop μ-loop
 eval-requires c κs =
     (into-b (c .before .before .before .before .before .before .before .before .before .args .table .now) (c .before .before .before .before .before .before .before .before .before .args .count) (c .before .before .before .before .before .before .before .before .before .args .rec .now) (c .before .before .before .before .before .before .before .before .before .pre .0) (c .before .before .before .before .before .loop .i) (c .before .before .before .before .before .loop .a) (c .before .before .before .before .before .loop .b) (c .before .before .before .before .before .loop .flip) (c .before .before .before .before .before .loop .inv .0) (c .before .before .before .before .loop-test .taken) (c .before .before .before .if1 .taken), c .before .before .before .before .before .loop .inv .1)
 
 returns : tie.Need-returns Inv-loop μ-loop
 returns c =
-    over-b (c .before .before .before .before .before .before .before .before .before .before .before .before .before .before .args .table .now) (c .before .before .before .before .before .before .before .before .before .before .before .before .before .before .args .count) (c .before .before .before .before .before .before .before .before .before .before .before .before .before .before .args .rec .now) (c .before .before .before .before .before .before .before .before .before .before .before .before .before .before .pre .0) (c .before .before .before .before .before .before .before .before .before .before .loop .i) (c .before .before .before .before .before .before .before .before .before .before .loop .a) (c .before .before .before .before .before .before .before .before .before .before .loop .b) (c .before .before .before .before .before .before .before .before .before .before .loop .flip) (c .before .before .before .before .before .before .before .before .before .before .loop .inv .0) (c .before .before .before .before .before .before .before .before .before .loop-test .taken) _ _ _ (c .before .before .before .before .before .before .before .before .before .before .before .before .before .before .pre .1) _ (c .before .before .before .before .before .before .before .before .if1 .taken) (c .before .before .before .before .eval .ensures) (c .if2 .taken)
+    over-b (c .before .before .before .before .before .before .before .before .before .before .before .args .table .now) (c .before .before .before .before .before .before .before .before .before .before .before .args .count) (c .before .before .before .before .before .before .before .before .before .before .before .args .rec .now) (c .before .before .before .before .before .before .before .before .before .before .before .pre .0) (c .before .before .before .before .before .before .before .loop .i) (c .before .before .before .before .before .before .before .loop .a) (c .before .before .before .before .before .before .before .loop .b) (c .before .before .before .before .before .before .before .loop .flip) (c .before .before .before .before .before .before .before .loop .inv .0) (c .before .before .before .before .before .before .loop-test .taken) _ _ _ (c .before .before .before .before .before .before .before .before .before .before .before .pre .1) _ (c .before .before .before .before .before .if1 .taken) (c .before .eval .ensures .0) (c .if2 .taken)
 
 loop-less : tie.Need-loop-less Inv-loop μ-loop
 loop-less c = search needs
 
 loop-again : tie.Need-loop-again Inv-loop μ-loop
 loop-again c =
-    (walked-b (c .before .before .before .before .before .before .before .before .before .before .before .before .before .before .args .table .now) (c .before .before .before .before .before .before .before .before .before .before .before .before .before .before .args .count) (c .before .before .before .before .before .before .before .before .before .before .before .before .before .before .args .rec .now) (c .before .before .before .before .before .before .before .before .before .before .before .before .before .before .pre .0) (c .before .before .before .before .before .before .before .before .before .before .loop .i) (c .before .before .before .before .before .before .before .before .before .before .loop .a) (c .before .before .before .before .before .before .before .before .before .before .loop .b) (c .before .before .before .before .before .before .before .before .before .before .loop .flip) (c .before .before .before .before .before .before .before .before .before .before .loop .inv .0) (c .before .before .before .before .before .before .before .before .before .loop-test .taken) _ _ _ (c .before .before .before .before .before .before .before .before .if1 .taken) (c .before .before .before .before .eval .ensures) (c .before .before .before .before .eval .kept .1 .1 .1 .1 .1 .0) (c .before .before .before .before .eval .kept .1 .1 .1 .1 .0) (c .if2 .left), c .before .before .before .before .eval .kept .1 .1 .1 .1 .1 .1 .0 ∙ c .before .before .before .before .before .before .before .before .before .before .loop .inv .1)
-
-slice-aggregate-eval-4 : tie.Need-slice-aggregate-eval-4 Inv-loop μ-loop
-slice-aggregate-eval-4 c = search needs
-
-slice-aggregate-eval-5 : tie.Need-slice-aggregate-eval-5 Inv-loop μ-loop
-slice-aggregate-eval-5 c = search needs
-
-slice-aggregate-eval-6 : tie.Need-slice-aggregate-eval-6 Inv-loop μ-loop
-slice-aggregate-eval-6 c = search needs
+    (walked-b (c .before .before .before .before .before .before .before .before .before .before .before .args .table .now) (c .before .before .before .before .before .before .before .before .before .before .before .args .count) (c .before .before .before .before .before .before .before .before .before .before .before .args .rec .now) (c .before .before .before .before .before .before .before .before .before .before .before .pre .0) (c .before .before .before .before .before .before .before .loop .i) (c .before .before .before .before .before .before .before .loop .a) (c .before .before .before .before .before .before .before .loop .b) (c .before .before .before .before .before .before .before .loop .flip) (c .before .before .before .before .before .before .before .loop .inv .0) (c .before .before .before .before .before .before .loop-test .taken) _ _ _ (c .before .before .before .before .before .if1 .taken) (c .before .eval .ensures .0) (c .before .eval .ensures .2 ∙ sym (c .before .before .before .before .before .before .before .loop .inv .0 .size-a)) (c .before .eval .ensures .1 ∙ sym (c .before .before .before .before .before .before .before .loop .inv .0 .size-b)) (c .if2 .left), c .before .eval .ensures .3)
 
 eval-requires-2 : tie.Need-eval-requires-2 Inv-loop μ-loop
 eval-requires-2 c κs =
@@ -68,14 +50,14 @@ eval-requires-2 c κs =
 
 returns-2 : tie.Need-returns-2 Inv-loop μ-loop
 returns-2 c =
-    over-a (c .before .before .before .before .before .before .before .before .before .before .before .before .before .before .args .table .now) (c .before .before .before .before .before .before .before .before .before .before .before .before .before .before .args .count) (c .before .before .before .before .before .before .before .before .before .before .before .before .before .before .args .rec .now) (c .before .before .before .before .before .before .before .before .before .before .before .before .before .before .pre .0) (c .before .before .before .before .before .before .before .before .before .before .loop .i) (c .before .before .before .before .before .before .before .before .before .before .loop .a) (c .before .before .before .before .before .before .before .before .before .before .loop .b) (c .before .before .before .before .before .before .before .before .before .before .loop .flip) (c .before .before .before .before .before .before .before .before .before .before .loop .inv .0) (c .before .before .before .before .before .before .before .before .before .loop-test .taken) _ _ _ (c .before .before .before .before .before .before .before .before .before .before .before .before .before .before .pre .1) _ (c .before .before .before .before .before .before .before .before .if1 .left) (c .before .before .before .before .eval2 .ensures) (c .if3 .taken)
+    over-a (c .before .before .before .before .before .before .before .before .before .before .before .args .table .now) (c .before .before .before .before .before .before .before .before .before .before .before .args .count) (c .before .before .before .before .before .before .before .before .before .before .before .args .rec .now) (c .before .before .before .before .before .before .before .before .before .before .before .pre .0) (c .before .before .before .before .before .before .before .loop .i) (c .before .before .before .before .before .before .before .loop .a) (c .before .before .before .before .before .before .before .loop .b) (c .before .before .before .before .before .before .before .loop .flip) (c .before .before .before .before .before .before .before .loop .inv .0) (c .before .before .before .before .before .before .loop-test .taken) _ _ _ (c .before .before .before .before .before .before .before .before .before .before .before .pre .1) _ (c .before .before .before .before .before .if1 .left) (c .before .eval2 .ensures .0) (c .if3 .taken)
 
 loop-less-2 : tie.Need-loop-less-2 Inv-loop μ-loop
 loop-less-2 c = search needs
 
 loop-again-2 : tie.Need-loop-again-2 Inv-loop μ-loop
 loop-again-2 c =
-    (walked-a (c .before .before .before .before .before .before .before .before .before .before .before .before .before .before .args .table .now) (c .before .before .before .before .before .before .before .before .before .before .before .before .before .before .args .count) (c .before .before .before .before .before .before .before .before .before .before .before .before .before .before .args .rec .now) (c .before .before .before .before .before .before .before .before .before .before .before .before .before .before .pre .0) (c .before .before .before .before .before .before .before .before .before .before .loop .i) (c .before .before .before .before .before .before .before .before .before .before .loop .a) (c .before .before .before .before .before .before .before .before .before .before .loop .b) (c .before .before .before .before .before .before .before .before .before .before .loop .flip) (c .before .before .before .before .before .before .before .before .before .before .loop .inv .0) (c .before .before .before .before .before .before .before .before .before .loop-test .taken) _ _ _ (c .before .before .before .before .before .before .before .before .if1 .left) (c .before .before .before .before .eval2 .ensures) (c .before .before .before .before .eval2 .kept .1 .1 .1 .1 .0) (c .before .before .before .before .eval2 .kept .1 .1 .1 .1 .1 .0) (c .if3 .left), c .before .before .before .before .eval2 .kept .1 .1 .1 .1 .1 .1 .0 ∙ c .before .before .before .before .before .before .before .before .before .before .loop .inv .1)
+    (walked-a (c .before .before .before .before .before .before .before .before .before .before .before .args .table .now) (c .before .before .before .before .before .before .before .before .before .before .before .args .count) (c .before .before .before .before .before .before .before .before .before .before .before .args .rec .now) (c .before .before .before .before .before .before .before .before .before .before .before .pre .0) (c .before .before .before .before .before .before .before .loop .i) (c .before .before .before .before .before .before .before .loop .a) (c .before .before .before .before .before .before .before .loop .b) (c .before .before .before .before .before .before .before .loop .flip) (c .before .before .before .before .before .before .before .loop .inv .0) (c .before .before .before .before .before .before .loop-test .taken) _ _ _ (c .before .before .before .before .before .if1 .left) (c .before .eval2 .ensures .0) (c .before .eval2 .ensures .1 ∙ sym (c .before .before .before .before .before .before .before .loop .inv .0 .size-a)) (c .before .eval2 .ensures .2 ∙ sym (c .before .before .before .before .before .before .before .loop .inv .0 .size-b)) (c .if3 .left), c .before .eval2 .ensures .3)
 
 slice-aggregate-set-in : tie.Need-slice-aggregate-set-in Inv-loop μ-loop
 slice-aggregate-set-in c = search needs
@@ -114,4 +96,4 @@ returns-4 c =
     let e : c .before .before .before .before .before .before .before .before .loop .i ≡ 0 = omega (arith, c .before .before .before .before .before .before .before .loop-test .left) in let w = subst (λ (i : ℕ). Walked (c .before .before .before .before .before .before .before .before .before .before .before .before .args .table .now) (c .before .before .before .before .before .before .before .before .before .before .before .before .args .count) (c .before .before .before .before .before .before .before .before .before .before .before .before .args .rec .now) i (c .before .before .before .before .before .before .before .before .loop .a) (c .before .before .before .before .before .before .before .before .loop .b) (c .before .before .before .before .before .before .before .before .loop .flip)) e (c .before .before .before .before .before .before .before .before .loop .inv .0) in done-b (c .before .before .before .before .before .before .before .before .before .before .before .before .args .table .now) (c .before .before .before .before .before .before .before .before .before .before .before .before .args .count) (c .before .before .before .before .before .before .before .before .before .before .before .before .args .rec .now) (c .before .before .before .before .before .before .before .before .before .before .before .before .pre .0) (c .before .before .before .before .before .before .before .before .loop .a) (c .before .before .before .before .before .before .before .before .loop .b) (c .before .before .before .before .before .before .before .before .loop .flip) w (c .before .before .before .before .before .before .before .before .before .before .before .before .pre .1) _ (c .before .before .before .before .before .before .if4 .left) (holds-same _ (c .before .before .before .before .set-in2 .ensures) (c .before .before .copy2 .ensures))
 
 pub walk-spec : {M : Type 1} → statement M
-walk-spec = tie.close (tie.spec Inv-loop μ-loop sub-root loop-holds sub-i slice-aggregate-eval slice-aggregate-eval-2 slice-aggregate-eval-3 eval-requires returns loop-less loop-again slice-aggregate-eval-4 slice-aggregate-eval-5 slice-aggregate-eval-6 eval-requires-2 returns-2 loop-less-2 loop-again-2 slice-aggregate-set-in set-in-requires copy-requires same-length returns-3 slice-aggregate-set-in-2 set-in-requires-2 copy-requires-2 same-length-2 returns-4)
+walk-spec = tie.close (tie.spec Inv-loop μ-loop sub-root loop-holds sub-i eval-requires returns loop-less loop-again eval-requires-2 returns-2 loop-less-2 loop-again-2 slice-aggregate-set-in set-in-requires copy-requires same-length returns-3 slice-aggregate-set-in-2 set-in-requires-2 copy-requires-2 same-length-2 returns-4)
