@@ -1,4 +1,3 @@
-pub mod Askable
 pub mod Evaluation
 pub mod Step
 pub mod Slots

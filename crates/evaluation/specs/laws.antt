@@ -3,6 +3,9 @@ pub mod Slots
 pub mod Step
 pub mod Tree
 pub mod Node
+pub mod Laid
+pub mod Stand
 pub mod Evaluate
+pub mod Line
 pub mod Walk
 pub mod Alone

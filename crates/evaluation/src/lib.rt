@@ -7,54 +7,56 @@ mod step;
 
 ghost use mathlib.Core.Path.{_≡_};
 ghost use mathlib.Core.Bool.{Bool, true, false};
-ghost use Prim.Native.Nat.{ℕ, _+_, _*_, _/_, _≤_, _<_};
 ghost use lib.ListN.{length};
 ghost use Rattle.runs.specs.Set.{slotWords, sharedWords};
 ghost use Rattle.meaning.specs.inner.Coded.{coded};
-ghost use Rattle.evaluation.specs.inner.Askable.{Askable};
 ghost use Rattle.grammar.specs.Size.{temporal};
-ghost use Rattle.evaluation.specs.inner.Evaluate.{Fit, Outcome};
+ghost use Rattle.evaluation.specs.inner.Slots.{Sized};
+ghost use Rattle.evaluation.specs.inner.Evaluate.{Node, Leaves};
 ghost use Rattle.evaluation.specs.inner.Evaluation.{textOf, Asking, Evaluates};
 use grammar::kinds;
 use runset::RunSet;
 use runset::SHARED;
 use slots::TABLE;
 
-// Evaluates node n of a text at record i, and the nodes under it: their sets go to their slots in `cur`. Says whether one has too many runs.
+// A slot to each node, and the words that joining is lent. References to them fit in a register, where a slice does not.
+type Sets = [u32; TABLE];
+
+type Shared = [u32; SHARED];
+
+// Evaluates node n of a text at record i, and the nodes under it: its set goes to its slot in `own`, its children's to theirs in `other`, and so on by turns.
+// Says whether one has too many runs.
 fn eval(
     table: &[u32],
-    count: usize,
     rec: &[u8],
     i: usize,
     n: usize,
-    later: &[u32],
-    cur: &mut [u32],
-    shared: &mut [u32],
-    out: &mut [u32],
+    own: &mut Sets,
+    other: &mut Sets,
+    shared: &mut Shared,
 ) -> bool
-    requires { ⌜ Fit (now table) count (coded (now rec)) i n (now later) (now cur) × Askable (now table) n (now rec)
-        × (length (now shared) ≡ sharedWords) × (length (now out) ≡ slotWords) ⌝ }
-    ensures { λ r. ⌜ Outcome (now (table .entry)) (coded (now (rec .entry))) i n (now (cur .entry)) (now (cur .exit)) r ⌝ }
+    requires { ⌜ Node (now table) (now rec) i n (now own) (now other) × (length (now shared) ≡ sharedWords) ⌝ }
+    ensures { λ r. ⌜ Leaves (now (table .entry)) (now (rec .entry)) i n (now (own .entry)) (now (other .entry)) (now (own .exit)) (now (other .exit)) r
+        × Sized (now (own .exit)) × Sized (now (other .exit)) × (length (now (shared .exit)) ≡ sharedWords) ⌝ }
 {
     let row = rows::row_at(table, n);
     let kind = row.kind;
     if kind < kinds::NOT {
-        let over = leaves::leaf(rec, i, row, out);
-        return slots::put(over, out, cur, n);
+        return node::leaf_at(rec, i, row, n, own);
     }
     let first = slots::size(row.first);
-    if eval(table, count, rec, i, first, later, cur, shared, out) {
+    if eval(table, rec, i, first, other, own, shared) {
         return true;
     }
     let last = i + 1 == rec.len() / 16;
     if kind < kinds::OR {
-        return node::one_at(kind, last, n, first, later, cur, out);
+        return node::one_at(kind, last, n, first, own, other, shared);
     }
     let second = slots::size(row.second);
-    if eval(table, count, rec, i, second, later, cur, shared, out) {
+    if eval(table, rec, i, second, other, own, shared) {
         return true;
     }
-    node::two_at(kind, last, n, first, second, later, cur, shared, out)
+    node::two_at(kind, last, n, first, second, own, other, shared)
 }
 
 // The set of a text without F, G, X, U and W: the first record is enough.
@@ -62,28 +64,18 @@ fn at_first(table: &[u32], count: usize, rec: &[u8], out: &mut [u32]) -> bool
     requires { ⌜ Asking (now table) count (now rec) × (temporal (textOf (now table) count) ≡ false) × (length (now out) ≡ slotWords) ⌝ }
     ensures { λ r. ⌜ Evaluates (coded (now (rec .entry))) (textOf (now (table .entry)) count) (now (out .exit)) r ⌝ }
 {
-    let later = [0u32; TABLE];
-    let mut cur = [0u32; TABLE];
+    let mut own = [0u32; TABLE];
+    let mut other = [0u32; TABLE];
     let mut shared = [0u32; SHARED];
     let root = count - 1;
-    if eval(
-        table,
-        count,
-        rec,
-        0,
-        root,
-        &later,
-        &mut cur,
-        &mut shared,
-        out,
-    ) {
+    if eval(table, rec, 0, root, &mut own, &mut other, &mut shared) {
         return true;
     }
-    RunSet::copy(slots::set_in(&cur, root), out);
+    RunSet::copy(slots::set_in(&own, root), out);
     false
 }
 
-// The set of a text with F, G, X, U or W: all records, from the last to the first. The table written last is `a` where `flip` is set.
+// The set of a text with F, G, X, U or W: all records, from the last to the first. The root's set of the record before lies in `a` where `flip` is set.
 fn walk(table: &[u32], count: usize, rec: &[u8], out: &mut [u32]) -> bool
     requires { ⌜ Asking (now table) count (now rec) × (temporal (textOf (now table) count) ≡ true) × (length (now out) ≡ slotWords) ⌝ }
     ensures { λ r. ⌜ Evaluates (coded (now (rec .entry))) (textOf (now (table .entry)) count) (now (out .exit)) r ⌝ }
@@ -97,12 +89,12 @@ fn walk(table: &[u32], count: usize, rec: &[u8], out: &mut [u32]) -> bool
     while 0 < i {
         i -= 1;
         if flip {
-            if eval(table, count, rec, i, root, &a, &mut b, &mut shared, out) {
+            if eval(table, rec, i, root, &mut b, &mut a, &mut shared) {
                 return true;
             }
             flip = false;
         } else {
-            if eval(table, count, rec, i, root, &b, &mut a, &mut shared, out) {
+            if eval(table, rec, i, root, &mut a, &mut b, &mut shared) {
                 return true;
             }
             flip = true;
@@ -117,11 +109,11 @@ fn walk(table: &[u32], count: usize, rec: &[u8], out: &mut [u32]) -> bool
 }
 
 // The set of a text at the first record, or that some node's set has too many runs. A text of one node needs no table of sets.
-pub fn evaluate(table: &[u32], count: usize, deep: bool, rec: &[u8], out: &mut [u32]) -> bool
-    requires { ⌜ Asking (now table) count (now rec) × (temporal (textOf (now table) count) ≡ deep) × (length (now out) ≡ slotWords) ⌝ }
+pub fn evaluate(table: &[u32], count: usize, ahead: bool, rec: &[u8], out: &mut [u32]) -> bool
+    requires { ⌜ Asking (now table) count (now rec) × (temporal (textOf (now table) count) ≡ ahead) × (length (now out) ≡ slotWords) ⌝ }
     ensures { λ r. ⌜ Evaluates (coded (now (rec .entry))) (textOf (now (table .entry)) count) (now (out .exit)) r ⌝ }
 {
-    if deep {
+    if ahead {
         return walk(table, count, rec, out);
     }
     let root = rows::row_at(table, count - 1);

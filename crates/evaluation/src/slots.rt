@@ -1,8 +1,8 @@
 // Tables of sets: a slot to each node.
 ghost use mathlib.Core.Path.{_≡_};
-ghost use mathlib.Core.Bool.{Bool, false};
-ghost use Prim.Native.Nat.{ℕ, _<_};
-ghost use Rattle.runs.specs.Set.{Valid, Makes};
+ghost use mathlib.Core.Bool.{false};
+ghost use Prim.Native.Nat.{_<_};
+ghost use Rattle.runs.specs.Set.{member, Valid};
 ghost use Rattle.grammar.specs.Size.{mostNodes};
 ghost use Rattle.evaluation.specs.inner.Slots.{slot, Sized, Puts};
 use runset::RunSet;
@@ -27,16 +27,12 @@ pub fn set_in(sets: &[u32], m: usize) -> &[u32]
     &sets[from..end]
 }
 
-// Puts what an operation made into slot m, unless it has too many runs; says whether it has.
-pub fn put(over: bool, set: &[u32], sets: &mut [u32], m: usize) -> bool
-    requires { ⌜ Sized (now sets) × (m < mostNodes) × (over ≡ false → Valid (now set)) ⌝ }
-    ensures { λ r. ⌜ ((f : ℕ → Bool) → Makes f (now (set .entry)) over → Puts f (now (sets .entry)) (now (sets .exit)) m r) ⌝ }
+// The same set, in slot m.
+pub fn put(set: &[u32], sets: &mut [u32], m: usize)
+    requires { ⌜ Valid (now set) × Sized (now sets) × (m < mostNodes) ⌝ }
+    ensures { λ r. ⌜ Puts (member (now (set .entry))) (now (sets .entry)) (now (sets .exit)) m false ⌝ }
 {
-    if over {
-        return true;
-    }
     let from = SLOT * m;
     let end = from + SLOT;
     RunSet::copy(set, &mut sets[from..end]);
-    false
 }

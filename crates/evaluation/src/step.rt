@@ -4,26 +4,22 @@ ghost use mathlib.Core.Bool.{Bool, true, false};
 ghost use Prim.Native.Nat.{ℕ, _≤_, _<_};
 ghost use lib.ListN.{length};
 ghost use Rattle.runs.specs.Set.{slotWords, sharedWords, member, Valid, Makes};
-ghost use Rattle.grammar.specs.inner.Kinds.{NOT, AND};
+ghost use Rattle.grammar.specs.inner.Kinds.{NOT, NEXT, AND};
 ghost use Rattle.grammar.specs.inner.Table.{unaryFrom, binaryFrom, kinds};
 ghost use Rattle.evaluation.specs.inner.Step.{unaryOf, binaryOf};
 use grammar::kinds;
 use runset::RunSet;
 
-// A node with one child: `!`, X, F, G. p is the child's set, own the node's and old the child's at the next record.
-pub fn one(kind: u32, last: bool, p: &[u32], own: &[u32], old: &[u32], out: &mut [u32]) -> bool
-    requires { ⌜ (unaryFrom ≤ kind) × (kind < binaryFrom) × Valid (now p) × (last ≡ false → NOT < kind → Valid (now own) × Valid (now old)) × (length (now out) ≡ slotWords) ⌝ }
-    ensures { λ r. ⌜ Makes (λ v. unaryOf kind last (member (now (p .entry)) v) (member (now (own .entry)) v) (member (now (old .entry)) v)) (now (out .exit)) r ⌝ }
+// A node with one child, `!`, F or G. p is the child's set, own the node's at the next record.
+pub fn one(kind: u32, last: bool, p: &[u32], own: &[u32], out: &mut [u32]) -> bool
+    requires { ⌜ (unaryFrom ≤ kind) × (kind < binaryFrom) × (kind ≡ NEXT → ⊥) × Valid (now p) × (last ≡ false → NOT < kind → Valid (now own)) × (length (now out) ≡ slotWords) ⌝ }
+    ensures { λ r. ⌜ ((old : ℕ → Bool) → Makes (λ v. unaryOf kind last (member (now (p .entry)) v) (member (now (own .entry)) v) (old v)) (now (out .exit)) r) ⌝ }
 {
     if kind == kinds::NOT {
         return RunSet::not(p, out);
     }
     if last {
         RunSet::copy(p, out);
-        return false;
-    }
-    if kind == kinds::NEXT {
-        RunSet::copy(old, out);
         return false;
     }
     if kind == kinds::FINALLY {

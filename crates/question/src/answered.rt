@@ -20,8 +20,8 @@ pub fn set_of(rec: &[u8], table: &[u32], count: usize, set: &mut [u32]) -> Verdi
     if crate::limits::asks(table, count, rec, count - 1) {
         return Verdict::Refused(Refusal::TooManyTops);
     }
-    let deep = text::table::is_temporal(table, count);
-    let over = evaluation::evaluate(table, count, deep, rec, set);
+    let ahead = text::table::is_temporal(table, count);
+    let over = evaluation::evaluate(table, count, ahead, rec, set);
     if over {
         return Verdict::Refused(Refusal::TooManyRuns);
     }

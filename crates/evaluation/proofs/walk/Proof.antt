@@ -1,171 +1,99 @@
--- Record by record from the last to the first, each table written in turn.
-use Prim.Native.Nat.{ℕ, _-_, _*_}
-use mathlib.Core.Path.{_≡_, refl, sym, ap, subst, _∙_}
-use mathlib.Core.Bool.{Bool, true, false}
-use mathlib.Core.List.{List}
+-- Record by record from the last to the first, the two tables by turns.
+use Prim.Native.Nat.{ℕ, _*_}
+use mathlib.Core.Path.{_≡_, refl, sym, subst, _∙_}
 use native.Mathlib.Omega.{arith}
 use lib.ListN.{length}
 use Rattle.runs.specs.Runs.{mostRuns}
 use Rattle.runs.specs.Set.{Valid}
+use Rattle.text.specs.laws.Table.{above}
 use Rattle.evaluation.specs.laws.Evaluate.{coded-length}
-use Rattle.evaluation.specs.laws.Walk.{Walked, walk-start, fit-into-a, fit-into-b, walked-a, walked-b, walk-over, walk-done, right-a, right-b, root-valid, holds-same}
+use Rattle.evaluation.specs.laws.Walk.{Walked, walk-start, into-a, into-b, walked-a, walked-b, over-a, over-b, valid-a, valid-b, done-a, done-b, holds-same}
 use borrow.Author.Needs.{needs}
 use Rattle.evaluation.proofs.walk.Statement.{statement}
 use Rattle.evaluation.proofs.walk.Tie as tie
 
 abbrev Inv-loop : tie.InvT-loop
-Inv-loop table count rec out₀ a₀ b₀ shared₀ root flip₀ i₀ out a b shared flip i =
-    Walked table count rec i a b flip × (length shared ≡ 4 * mostRuns) × (length out ≡ length out₀)
+Inv-loop table count rec out₀ a₀ b₀ shared₀ root flip₀ i₀ a b shared flip i = Walked table count rec i a b flip × (length shared ≡ 4 * mostRuns)
 
 abbrev μ-loop : tie.MeasureT-loop
-μ-loop table count rec out₀ a₀ b₀ shared₀ root flip₀ i₀ out a b shared flip i = i
+μ-loop table count rec out₀ a₀ b₀ shared₀ root flip₀ i₀ a b shared flip i = i
 
 sub-root : tie.Need-sub-root Inv-loop μ-loop
 sub-root c =
-    let s = c .before .before .before in
-    let a = s .args in
-    omega (arith, s .pre .0 .some)
+    omega (arith, above (c .before .before .before .pre .0 .laid))
 
 loop-holds : tie.Need-loop-holds Inv-loop μ-loop
 loop-holds c =
-    let s = c .before .before .before in
-    let a = s .args in
-    (walk-start (a .table .now) (a .count) (a .rec .now) (s .pre .0) _ _ _ (sym (coded-length (a .rec .now))) refl refl, refl, refl)
+    (walk-start (c .before .before .before .args .table .now) (c .before .before .before .args .count) (c .before .before .before .args .rec .now) (c .before .before .before .pre .0) _ _ _ (sym (coded-length (c .before .before .before .args .rec .now))) refl refl, refl)
 
 sub-i : tie.Need-sub-i Inv-loop μ-loop
 sub-i c = search needs
 
-slice-aggregate-eval : tie.Need-slice-aggregate-eval Inv-loop μ-loop
-slice-aggregate-eval c = search needs
-
-slice-aggregate-eval-2 : tie.Need-slice-aggregate-eval-2 Inv-loop μ-loop
-slice-aggregate-eval-2 c = search needs
-
-slice-aggregate-eval-3 : tie.Need-slice-aggregate-eval-3 Inv-loop μ-loop
-slice-aggregate-eval-3 c = search needs
-
 eval-requires : tie.Need-eval-requires Inv-loop μ-loop
 eval-requires c κs =
-    let s = c .before .before .before .before .before .before .before .before .before .before in
-    let a = s .args in
-    let l = c .before .before .before .before .before .before .loop in
-    (fit-into-b (a .table .now) (a .count) (a .rec .now) (s .pre .0) (l .i) (l .a) (l .b) (l .flip) (l .inv .0) (c .before .before .before .before .before .loop-test .taken) (c .before .before .before .before .if1 .taken), s .pre .0 .askable, l .inv .1, l .inv .2 ∙ s .pre .2)
-
-same-length : tie.Need-same-length Inv-loop μ-loop
-same-length c = search needs
+    (into-b (c .before .before .before .before .before .before .before .before .before .args .table .now) (c .before .before .before .before .before .before .before .before .before .args .count) (c .before .before .before .before .before .before .before .before .before .args .rec .now) (c .before .before .before .before .before .before .before .before .before .pre .0) (c .before .before .before .before .before .loop .i) (c .before .before .before .before .before .loop .a) (c .before .before .before .before .before .loop .b) (c .before .before .before .before .before .loop .flip) (c .before .before .before .before .before .loop .inv .0) (c .before .before .before .before .loop-test .taken) (c .before .before .before .if1 .taken), c .before .before .before .before .before .loop .inv .1)
 
 returns : tie.Need-returns Inv-loop μ-loop
 returns c =
-    let s = c .before .before .before .before .before .before .before .before .before .before .before .before .before .before .before .before in
-    let a = s .args in
-    let l = c .before .before .before .before .before .before .before .before .before .before .before .before .loop in
-    walk-over (a .table .now) (a .count) (a .rec .now) (s .pre .0) (l .i) (l .a) (l .b) (l .flip) (l .inv .0) (c .before .before .before .before .before .before .before .before .before .before .before .loop-test .taken) (s .pre .1) _ _ _ _ (c .if2 .taken) (c .before .before .before .before .before .eval .ensures)
+    over-b (c .before .before .before .before .before .before .before .before .before .before .before .args .table .now) (c .before .before .before .before .before .before .before .before .before .before .before .args .count) (c .before .before .before .before .before .before .before .before .before .before .before .args .rec .now) (c .before .before .before .before .before .before .before .before .before .before .before .pre .0) (c .before .before .before .before .before .before .before .loop .i) (c .before .before .before .before .before .before .before .loop .a) (c .before .before .before .before .before .before .before .loop .b) (c .before .before .before .before .before .before .before .loop .flip) (c .before .before .before .before .before .before .before .loop .inv .0) (c .before .before .before .before .before .before .loop-test .taken) _ _ _ (c .before .before .before .before .before .before .before .before .before .before .before .pre .1) _ (c .before .before .before .before .before .if1 .taken) (c .before .eval .ensures .0) (c .if2 .taken)
 
 loop-less : tie.Need-loop-less Inv-loop μ-loop
 loop-less c = search needs
 
 loop-again : tie.Need-loop-again Inv-loop μ-loop
 loop-again c =
-    let s = c .before .before .before .before .before .before .before .before .before .before .before .before .before .before .before .before in
-    let a = s .args in
-    let l = c .before .before .before .before .before .before .before .before .before .before .before .before .loop in
-    (walked-b (a .table .now) (a .count) (a .rec .now) (s .pre .0) (l .i) (l .a) (l .b) (l .flip) (l .inv .0) (c .before .before .before .before .before .before .before .before .before .before .before .loop-test .taken) _ _ (c .before .before .before .before .before .eval .kept .1 .1 .1 .1 .1 .1 .0) (c .if2 .left) (c .before .before .before .before .before .eval .ensures), c .before .before .before .before .before .eval .kept .1 .1 .1 .1 .1 .1 .1 .0 ∙ l .inv .1, c .before .before .before .before .before .eval .kept .1 .1 .1 .1 .1 .1 .1 .1 .0 ∙ l .inv .2)
-
-slice-aggregate-eval-4 : tie.Need-slice-aggregate-eval-4 Inv-loop μ-loop
-slice-aggregate-eval-4 c = search needs
-
-slice-aggregate-eval-5 : tie.Need-slice-aggregate-eval-5 Inv-loop μ-loop
-slice-aggregate-eval-5 c = search needs
-
-slice-aggregate-eval-6 : tie.Need-slice-aggregate-eval-6 Inv-loop μ-loop
-slice-aggregate-eval-6 c = search needs
+    (walked-b (c .before .before .before .before .before .before .before .before .before .before .before .args .table .now) (c .before .before .before .before .before .before .before .before .before .before .before .args .count) (c .before .before .before .before .before .before .before .before .before .before .before .args .rec .now) (c .before .before .before .before .before .before .before .before .before .before .before .pre .0) (c .before .before .before .before .before .before .before .loop .i) (c .before .before .before .before .before .before .before .loop .a) (c .before .before .before .before .before .before .before .loop .b) (c .before .before .before .before .before .before .before .loop .flip) (c .before .before .before .before .before .before .before .loop .inv .0) (c .before .before .before .before .before .before .loop-test .taken) _ _ _ (c .before .before .before .before .before .if1 .taken) (c .before .eval .ensures .0) (c .before .eval .ensures .2 ∙ sym (c .before .before .before .before .before .before .before .loop .inv .0 .size-a)) (c .before .eval .ensures .1 ∙ sym (c .before .before .before .before .before .before .before .loop .inv .0 .size-b)) (c .if2 .left), c .before .eval .ensures .3)
 
 eval-requires-2 : tie.Need-eval-requires-2 Inv-loop μ-loop
 eval-requires-2 c κs =
-    let s = c .before .before .before .before .before .before .before .before .before .before in
-    let a = s .args in
-    let l = c .before .before .before .before .before .before .loop in
-    (fit-into-a (a .table .now) (a .count) (a .rec .now) (s .pre .0) (l .i) (l .a) (l .b) (l .flip) (l .inv .0) (c .before .before .before .before .before .loop-test .taken) (c .before .before .before .before .if1 .left), s .pre .0 .askable, l .inv .1, l .inv .2 ∙ s .pre .2)
-
-same-length-2 : tie.Need-same-length-2 Inv-loop μ-loop
-same-length-2 c = search needs
+    (into-a (c .before .before .before .before .before .before .before .before .before .args .table .now) (c .before .before .before .before .before .before .before .before .before .args .count) (c .before .before .before .before .before .before .before .before .before .args .rec .now) (c .before .before .before .before .before .before .before .before .before .pre .0) (c .before .before .before .before .before .loop .i) (c .before .before .before .before .before .loop .a) (c .before .before .before .before .before .loop .b) (c .before .before .before .before .before .loop .flip) (c .before .before .before .before .before .loop .inv .0) (c .before .before .before .before .loop-test .taken) (c .before .before .before .if1 .left), c .before .before .before .before .before .loop .inv .1)
 
 returns-2 : tie.Need-returns-2 Inv-loop μ-loop
 returns-2 c =
-    let s = c .before .before .before .before .before .before .before .before .before .before .before .before .before .before .before .before in
-    let a = s .args in
-    let l = c .before .before .before .before .before .before .before .before .before .before .before .before .loop in
-    walk-over (a .table .now) (a .count) (a .rec .now) (s .pre .0) (l .i) (l .a) (l .b) (l .flip) (l .inv .0) (c .before .before .before .before .before .before .before .before .before .before .before .loop-test .taken) (s .pre .1) _ _ _ _ (c .if3 .taken) (c .before .before .before .before .before .eval2 .ensures)
+    over-a (c .before .before .before .before .before .before .before .before .before .before .before .args .table .now) (c .before .before .before .before .before .before .before .before .before .before .before .args .count) (c .before .before .before .before .before .before .before .before .before .before .before .args .rec .now) (c .before .before .before .before .before .before .before .before .before .before .before .pre .0) (c .before .before .before .before .before .before .before .loop .i) (c .before .before .before .before .before .before .before .loop .a) (c .before .before .before .before .before .before .before .loop .b) (c .before .before .before .before .before .before .before .loop .flip) (c .before .before .before .before .before .before .before .loop .inv .0) (c .before .before .before .before .before .before .loop-test .taken) _ _ _ (c .before .before .before .before .before .before .before .before .before .before .before .pre .1) _ (c .before .before .before .before .before .if1 .left) (c .before .eval2 .ensures .0) (c .if3 .taken)
 
 loop-less-2 : tie.Need-loop-less-2 Inv-loop μ-loop
 loop-less-2 c = search needs
 
 loop-again-2 : tie.Need-loop-again-2 Inv-loop μ-loop
 loop-again-2 c =
-    let s = c .before .before .before .before .before .before .before .before .before .before .before .before .before .before .before .before in
-    let a = s .args in
-    let l = c .before .before .before .before .before .before .before .before .before .before .before .before .loop in
-    (walked-a (a .table .now) (a .count) (a .rec .now) (s .pre .0) (l .i) (l .a) (l .b) (l .flip) (l .inv .0) (c .before .before .before .before .before .before .before .before .before .before .before .loop-test .taken) _ _ (c .before .before .before .before .before .eval2 .kept .1 .1 .1 .1 .1 .1 .0) (c .if3 .left) (c .before .before .before .before .before .eval2 .ensures), c .before .before .before .before .before .eval2 .kept .1 .1 .1 .1 .1 .1 .1 .0 ∙ l .inv .1, c .before .before .before .before .before .eval2 .kept .1 .1 .1 .1 .1 .1 .1 .1 .0 ∙ l .inv .2)
+    (walked-a (c .before .before .before .before .before .before .before .before .before .before .before .args .table .now) (c .before .before .before .before .before .before .before .before .before .before .before .args .count) (c .before .before .before .before .before .before .before .before .before .before .before .args .rec .now) (c .before .before .before .before .before .before .before .before .before .before .before .pre .0) (c .before .before .before .before .before .before .before .loop .i) (c .before .before .before .before .before .before .before .loop .a) (c .before .before .before .before .before .before .before .loop .b) (c .before .before .before .before .before .before .before .loop .flip) (c .before .before .before .before .before .before .before .loop .inv .0) (c .before .before .before .before .before .before .loop-test .taken) _ _ _ (c .before .before .before .before .before .if1 .left) (c .before .eval2 .ensures .0) (c .before .eval2 .ensures .1 ∙ sym (c .before .before .before .before .before .before .before .loop .inv .0 .size-a)) (c .before .eval2 .ensures .2 ∙ sym (c .before .before .before .before .before .before .before .loop .inv .0 .size-b)) (c .if3 .left), c .before .eval2 .ensures .3)
 
 slice-aggregate-set-in : tie.Need-slice-aggregate-set-in Inv-loop μ-loop
 slice-aggregate-set-in c = search needs
 
 set-in-requires : tie.Need-set-in-requires Inv-loop μ-loop
 set-in-requires c κs =
-    let s = c .before .before .before .before .before .before .before in
-    let a = s .args in
-    (c .before .before .before .loop .inv .0 .size-a, omega (arith, s .pre .0 .some, s .pre .0 .few))
+    (c .before .before .before .loop .inv .0 .size-a, omega (arith, above (c .before .before .before .before .before .before .before .pre .0 .laid), c .before .before .before .before .before .before .before .pre .0 .few))
 
 copy-requires : tie.Need-copy-requires Inv-loop μ-loop
 copy-requires c κs =
-    let s = c .before .before .before .before .before .before .before .before .before in
-    let a = s .args in
-    let l = c .before .before .before .before .before .loop in
-    let e : l .i ≡ 0 = omega (arith, c .before .before .before .before .loop-test .left) in
-    let w = subst (λ (i : ℕ). Walked (a .table .now) (a .count) (a .rec .now) i (l .a) (l .b) (l .flip)) e (l .inv .0) in
-    (subst Valid (sym (c .before .set-in .ensures)) (root-valid (a .table .now) (a .count) (a .rec .now) (s .pre .0) 0 _ (right-a (a .table .now) (a .count) (a .rec .now) (s .pre .0) (l .a) (l .b) (l .flip) w (c .before .before .before .if4 .taken))), l .inv .2 ∙ s .pre .2)
+    let e : c .before .before .before .before .before .loop .i ≡ 0 = omega (arith, c .before .before .before .before .loop-test .left) in let w = subst (λ (i : ℕ). Walked (c .before .before .before .before .before .before .before .before .before .args .table .now) (c .before .before .before .before .before .before .before .before .before .args .count) (c .before .before .before .before .before .before .before .before .before .args .rec .now) i (c .before .before .before .before .before .loop .a) (c .before .before .before .before .before .loop .b) (c .before .before .before .before .before .loop .flip)) e (c .before .before .before .before .before .loop .inv .0) in (subst Valid (sym (c .before .set-in .ensures)) (valid-a (c .before .before .before .before .before .before .before .before .before .args .table .now) (c .before .before .before .before .before .before .before .before .before .args .count) (c .before .before .before .before .before .before .before .before .before .args .rec .now) (c .before .before .before .before .before .before .before .before .before .pre .0) (c .before .before .before .before .before .loop .a) (c .before .before .before .before .before .loop .b) (c .before .before .before .before .before .loop .flip) w (c .before .before .before .if4 .taken)), c .before .before .before .before .before .before .before .before .before .pre .2)
 
-same-length-3 : tie.Need-same-length-3 Inv-loop μ-loop
-same-length-3 c = search needs
+same-length : tie.Need-same-length Inv-loop μ-loop
+same-length c = search needs
 
 returns-3 : tie.Need-returns-3 Inv-loop μ-loop
 returns-3 c =
-    let s = c .before .before .before .before .before .before .before .before .before .before .before .before in
-    let a = s .args in
-    let l = c .before .before .before .before .before .before .before .before .loop in
-    let e : l .i ≡ 0 = omega (arith, c .before .before .before .before .before .before .before .loop-test .left) in
-    let w = subst (λ (i : ℕ). Walked (a .table .now) (a .count) (a .rec .now) i (l .a) (l .b) (l .flip)) e (l .inv .0) in
-    walk-done (a .table .now) (a .count) (a .rec .now) (s .pre .0) (l .a) (l .b) (l .flip) w (s .pre .1) _ _ (right-a (a .table .now) (a .count) (a .rec .now) (s .pre .0) (l .a) (l .b) (l .flip) w (c .before .before .before .before .before .before .if4 .taken)) (holds-same _ (c .before .before .before .before .set-in .ensures) (c .before .before .copy .ensures))
+    let e : c .before .before .before .before .before .before .before .before .loop .i ≡ 0 = omega (arith, c .before .before .before .before .before .before .before .loop-test .left) in let w = subst (λ (i : ℕ). Walked (c .before .before .before .before .before .before .before .before .before .before .before .before .args .table .now) (c .before .before .before .before .before .before .before .before .before .before .before .before .args .count) (c .before .before .before .before .before .before .before .before .before .before .before .before .args .rec .now) i (c .before .before .before .before .before .before .before .before .loop .a) (c .before .before .before .before .before .before .before .before .loop .b) (c .before .before .before .before .before .before .before .before .loop .flip)) e (c .before .before .before .before .before .before .before .before .loop .inv .0) in done-a (c .before .before .before .before .before .before .before .before .before .before .before .before .args .table .now) (c .before .before .before .before .before .before .before .before .before .before .before .before .args .count) (c .before .before .before .before .before .before .before .before .before .before .before .before .args .rec .now) (c .before .before .before .before .before .before .before .before .before .before .before .before .pre .0) (c .before .before .before .before .before .before .before .before .loop .a) (c .before .before .before .before .before .before .before .before .loop .b) (c .before .before .before .before .before .before .before .before .loop .flip) w (c .before .before .before .before .before .before .before .before .before .before .before .before .pre .1) _ (c .before .before .before .before .before .before .if4 .taken) (holds-same _ (c .before .before .before .before .set-in .ensures) (c .before .before .copy .ensures))
 
 slice-aggregate-set-in-2 : tie.Need-slice-aggregate-set-in-2 Inv-loop μ-loop
 slice-aggregate-set-in-2 c = search needs
 
 set-in-requires-2 : tie.Need-set-in-requires-2 Inv-loop μ-loop
 set-in-requires-2 c κs =
-    let s = c .before .before .before .before .before .before .before in
-    let a = s .args in
-    (c .before .before .before .loop .inv .0 .size-b, omega (arith, s .pre .0 .some, s .pre .0 .few))
+    (c .before .before .before .loop .inv .0 .size-b, omega (arith, above (c .before .before .before .before .before .before .before .pre .0 .laid), c .before .before .before .before .before .before .before .pre .0 .few))
 
 copy-requires-2 : tie.Need-copy-requires-2 Inv-loop μ-loop
 copy-requires-2 c κs =
-    let s = c .before .before .before .before .before .before .before .before .before in
-    let a = s .args in
-    let l = c .before .before .before .before .before .loop in
-    let e : l .i ≡ 0 = omega (arith, c .before .before .before .before .loop-test .left) in
-    let w = subst (λ (i : ℕ). Walked (a .table .now) (a .count) (a .rec .now) i (l .a) (l .b) (l .flip)) e (l .inv .0) in
-    (subst Valid (sym (c .before .set-in2 .ensures)) (root-valid (a .table .now) (a .count) (a .rec .now) (s .pre .0) 0 _ (right-b (a .table .now) (a .count) (a .rec .now) (s .pre .0) (l .a) (l .b) (l .flip) w (c .before .before .before .if4 .left))), l .inv .2 ∙ s .pre .2)
+    let e : c .before .before .before .before .before .loop .i ≡ 0 = omega (arith, c .before .before .before .before .loop-test .left) in let w = subst (λ (i : ℕ). Walked (c .before .before .before .before .before .before .before .before .before .args .table .now) (c .before .before .before .before .before .before .before .before .before .args .count) (c .before .before .before .before .before .before .before .before .before .args .rec .now) i (c .before .before .before .before .before .loop .a) (c .before .before .before .before .before .loop .b) (c .before .before .before .before .before .loop .flip)) e (c .before .before .before .before .before .loop .inv .0) in (subst Valid (sym (c .before .set-in2 .ensures)) (valid-b (c .before .before .before .before .before .before .before .before .before .args .table .now) (c .before .before .before .before .before .before .before .before .before .args .count) (c .before .before .before .before .before .before .before .before .before .args .rec .now) (c .before .before .before .before .before .before .before .before .before .pre .0) (c .before .before .before .before .before .loop .a) (c .before .before .before .before .before .loop .b) (c .before .before .before .before .before .loop .flip) w (c .before .before .before .if4 .left)), c .before .before .before .before .before .before .before .before .before .pre .2)
 
-same-length-4 : tie.Need-same-length-4 Inv-loop μ-loop
-same-length-4 c = search needs
+same-length-2 : tie.Need-same-length-2 Inv-loop μ-loop
+same-length-2 c = search needs
 
 returns-4 : tie.Need-returns-4 Inv-loop μ-loop
 returns-4 c =
-    let s = c .before .before .before .before .before .before .before .before .before .before .before .before in
-    let a = s .args in
-    let l = c .before .before .before .before .before .before .before .before .loop in
-    let e : l .i ≡ 0 = omega (arith, c .before .before .before .before .before .before .before .loop-test .left) in
-    let w = subst (λ (i : ℕ). Walked (a .table .now) (a .count) (a .rec .now) i (l .a) (l .b) (l .flip)) e (l .inv .0) in
-    walk-done (a .table .now) (a .count) (a .rec .now) (s .pre .0) (l .a) (l .b) (l .flip) w (s .pre .1) _ _ (right-b (a .table .now) (a .count) (a .rec .now) (s .pre .0) (l .a) (l .b) (l .flip) w (c .before .before .before .before .before .before .if4 .left)) (holds-same _ (c .before .before .before .before .set-in2 .ensures) (c .before .before .copy2 .ensures))
+    let e : c .before .before .before .before .before .before .before .before .loop .i ≡ 0 = omega (arith, c .before .before .before .before .before .before .before .loop-test .left) in let w = subst (λ (i : ℕ). Walked (c .before .before .before .before .before .before .before .before .before .before .before .before .args .table .now) (c .before .before .before .before .before .before .before .before .before .before .before .before .args .count) (c .before .before .before .before .before .before .before .before .before .before .before .before .args .rec .now) i (c .before .before .before .before .before .before .before .before .loop .a) (c .before .before .before .before .before .before .before .before .loop .b) (c .before .before .before .before .before .before .before .before .loop .flip)) e (c .before .before .before .before .before .before .before .before .loop .inv .0) in done-b (c .before .before .before .before .before .before .before .before .before .before .before .before .args .table .now) (c .before .before .before .before .before .before .before .before .before .before .before .before .args .count) (c .before .before .before .before .before .before .before .before .before .before .before .before .args .rec .now) (c .before .before .before .before .before .before .before .before .before .before .before .before .pre .0) (c .before .before .before .before .before .before .before .before .loop .a) (c .before .before .before .before .before .before .before .before .loop .b) (c .before .before .before .before .before .before .before .before .loop .flip) w (c .before .before .before .before .before .before .before .before .before .before .before .before .pre .1) _ (c .before .before .before .before .before .before .if4 .left) (holds-same _ (c .before .before .before .before .set-in2 .ensures) (c .before .before .copy2 .ensures))
 
 pub walk-spec : {M : Type 1} → statement M
-walk-spec = tie.close (tie.spec Inv-loop μ-loop sub-root loop-holds sub-i slice-aggregate-eval slice-aggregate-eval-2 slice-aggregate-eval-3 eval-requires same-length returns loop-less loop-again slice-aggregate-eval-4 slice-aggregate-eval-5 slice-aggregate-eval-6 eval-requires-2 same-length-2 returns-2 loop-less-2 loop-again-2 slice-aggregate-set-in set-in-requires copy-requires same-length-3 returns-3 slice-aggregate-set-in-2 set-in-requires-2 copy-requires-2 same-length-4 returns-4)
+walk-spec = tie.close (tie.spec Inv-loop μ-loop sub-root loop-holds sub-i eval-requires returns loop-less loop-again eval-requires-2 returns-2 loop-less-2 loop-again-2 slice-aggregate-set-in set-in-requires copy-requires same-length returns-3 slice-aggregate-set-in-2 set-in-requires-2 copy-requires-2 same-length-2 returns-4)

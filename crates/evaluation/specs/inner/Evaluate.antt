@@ -1,63 +1,63 @@
--- What an evaluation asks and leaves: the sets of a node, and of the nodes under it, at one record.
+-- What an evaluation asks and leaves: the sets of a node, and of the nodes under it, at one record. Two tables have a slot to each node. A node's set lies in one of
+-- them, its children's sets in the other; its own set at the next record lies in the other too, for there the two tables have changed places.
 use Prim.Native.Nat.{ℕ, suc, _+_, _*_, _<_, _≤_}
 use mathlib.Core.Path.{_≡_}
 use mathlib.Core.Bool.{Bool, true, false}
 use mathlib.Core.List.{List}
 use lib.ListN.{length}
+use Rattle.recording.specs.Recording.{Accepted}
 use Rattle.runs.specs.Set.{Holds}
+use Rattle.grammar.specs.Syntax.{Text}
 use Rattle.grammar.specs.Size.{temporal, mostNodes}
-use Rattle.grammar.specs.inner.Table.{rowAt, treeAt, Falling, unaryFrom, binaryFrom}
-use Rattle.meaning.specs.inner.Coded.{Coded}
-use Rattle.meaning.specs.inner.Truth.{val, largeAt, lastCoded}
+use Rattle.grammar.specs.inner.Parse.{node}
+use Rattle.parser.specs.inner.Rows.{Laid, leaf, unary, binary}
+use Rattle.meaning.specs.inner.Coded.{Coded, coded}
+use Rattle.meaning.specs.inner.Truth.{val, overAt, refused9, lastCoded}
 use Rattle.evaluation.specs.inner.Slots.{slot, Sized}
 
-abbrev pub kind : List ℕ → ℕ → ℕ
-kind table n = rowAt table n .kind
+-- the slot of node n holds the set of the text t at record i
+abbrev pub Right : List Coded → ℕ → Text → ℕ → List ℕ → Type 0
+Right r i t n sets = Holds (λ v. val r v t i) (slot sets n)
 
-abbrev pub first : List ℕ → ℕ → ℕ
-first table n = rowAt table n .first
+-- the sets of the nodes of a text at record i: the root's in `own`, its children's in `other`, and so on by turns
+unfoldable pub Stand : {table : List ℕ} {b m : ℕ} {t : Text} → List Coded → ℕ → Laid table b m t → List ℕ → List ℕ → Type 0
+Stand r i (leaf {b} {t} l e) own other = Right r i t b own
+Stand r i (unary {b} {m} {p} k l h child e) own other = Right r i (node k p p) m own × Stand r i child other own
+Stand r i (binary {b} {m} {n} {p} {q} k l h first second e) own other =
+    Right r i (node k p q) n own × Stand r i first other own × Stand r i second other own
 
-abbrev pub second : List ℕ → ℕ → ℕ
-second table n = rowAt table n .second
+-- what an evaluation of a text at record i asks of the recording and of the tables
+pub record Fit {table : List ℕ} {b m : ℕ} {t : Text} (rec : List ℕ) (i : ℕ) (laid : Laid table b m t) (own other : List ℕ) : Type 0 where
+  pub rows : 4 * m ≤ length table
+  pub few : m ≤ mostNodes
+  pub own-sized : Sized own
+  pub other-sized : Sized other
+  pub accepted : Accepted rec
+  pub index : i < length (coded rec)
+  pub few-tops : refused9 (coded rec) t ≡ false
+  pub ready : i < lastCoded (coded rec) → temporal t ≡ true → Stand (coded rec) (suc i) laid other own
 
--- m is n or a node under it
-pub data Under (table : List ℕ) : ℕ → ℕ → Type 0 where
-  here : {n : ℕ} → Under table n n
-  on-first : {n m : ℕ} → unaryFrom ≤ kind table n → Under table (first table n) m → Under table n m
-  on-second : {n m : ℕ} → binaryFrom ≤ kind table n → Under table (second table n) m → Under table n m
+-- node n is the root of a text that is laid in rows, and it can be evaluated
+pub record Node (table rec : List ℕ) (i n : ℕ) (own other : List ℕ) : Type 0 where
+  pub base : ℕ
+  pub end : ℕ
+  pub text : Text
+  pub laid : Laid table base end text
+  pub root : end ≡ n + 1
+  pub fit : Fit rec i laid own other
 
--- slot m holds the set of node m at record i
-unfoldable pub Right : List ℕ → List Coded → ℕ → ℕ → List ℕ → Type 0
-Right table r i m sets = Holds (λ v. val r v (treeAt table m) i) (slot sets m)
+-- what is left where nothing is over: the sets of the text; every slot of another node, and the root's in `other`, is as it was
+pub record Evaluated {table : List ℕ} {b m : ℕ} {t : Text} (r : List Coded) (i : ℕ) (laid : Laid table b m t) (own other own′ other′ : List ℕ) : Type 0 where
+  pub stand : Stand r i laid own′ other′
+  pub small : overAt r t i ≡ false
+  pub own-kept : (k : ℕ) → (b ≤ k → m ≤ k) → slot own′ k ≡ slot own k
+  pub other-kept : (k : ℕ) → (b ≤ k → m ≤ k + 1) → slot other′ k ≡ slot other k
 
--- the slots that a text with F, G, X, U or W needs of the next record, where there is one
-unfoldable pub Ready : List ℕ → List Coded → ℕ → ℕ → List ℕ → Type 0
-Ready table r i n later =
-    i < lastCoded r → temporal (treeAt table n) ≡ true → (m : ℕ) → Under table n m → Right table r (suc i) m later
+pub record Outcome {table : List ℕ} {b m : ℕ} {t : Text} (r : List Coded) (i : ℕ) (laid : Laid table b m t) (own other own′ other′ : List ℕ) (over : Bool) : Type 0 where
+  pub good : over ≡ false → Evaluated r i laid own other own′ other′
+  pub bad : over ≡ true → overAt r t i ≡ true
 
--- what an evaluation of node n at record i asks
-pub record Fit (table : List ℕ) (count : ℕ) (r : List Coded) (i n : ℕ) (later cur : List ℕ) : Type 0 where
-  pub falling : Falling table count
-  pub rows : 4 * count ≤ length table
-  pub few : count ≤ mostNodes
-  pub node : n < count
-  pub later-sized : Sized later
-  pub cur-sized : Sized cur
-  pub index : i < length r
-  pub ready : Ready table r i n later
-
--- what it leaves where nothing is over: the sets of all nodes under n, and no right set spoilt
-pub record Evaluated (table : List ℕ) (r : List Coded) (i n : ℕ) (before after : List ℕ) : Type 0 where
-  pub kept : (m : ℕ) → Right table r i m before → Right table r i m after
-  pub done : (m : ℕ) → Under table n m → Right table r i m after
-  pub small : (m : ℕ) → Under table n m → largeAt r (treeAt table m) i ≡ false
-
--- some node under n has too many runs at record i
-pub record Large (table : List ℕ) (r : List Coded) (i n : ℕ) : Type 0 where
-  pub node : ℕ
-  pub under : Under table n node
-  pub large : largeAt r (treeAt table node) i ≡ true
-
-pub record Outcome (table : List ℕ) (r : List Coded) (i n : ℕ) (before after : List ℕ) (over : Bool) : Type 0 where
-  pub good : over ≡ false → Evaluated table r i n before after
-  pub bad : over ≡ true → Large table r i n
+-- WHAT THE EVALUATION OF NODE n PROMISES
+abbrev pub Leaves : List ℕ → List ℕ → ℕ → ℕ → List ℕ → List ℕ → List ℕ → List ℕ → Bool → Type 0
+Leaves table rec i n own other own′ other′ over =
+    (b m : ℕ) (t : Text) (laid : Laid table b m t) → m ≡ n + 1 → Fit rec i laid own other → Outcome (coded rec) i laid own other own′ other′ over

@@ -9,14 +9,14 @@ use Rattle.runs.specs.Set.{Makes}
 use Rattle.grammar.specs.Syntax.{Text, atom, listed, or, and, neg, finally, globally, next, until, weakUntil}
 use Rattle.grammar.specs.declared.Row.{Row}
 use Rattle.grammar.specs.inner.Kinds.{NOT}
-use Rattle.grammar.specs.inner.Table.{rowAt, treeAt}
+use Rattle.grammar.specs.inner.Table.{rowAt}
 use Rattle.meaning.specs.inner.Coded.{Coded, coded}
 use Rattle.meaning.specs.inner.Truth.{val, largeAt, someNode, refused8, refused9}
 use Rattle.leaves.specs.inner.Leaf.{leafOf, Asked}
 use Rattle.evaluation.specs.inner.Evaluation.{textOf, Asking, Evaluates}
 use Rattle.evaluation.specs.laws.Leaf.{isLeaf, row-leaf}
-use Rattle.text.specs.laws.Table.{tree-step}
-use Rattle.evaluation.specs.laws.Tree.{build-leaf}
+use Rattle.text.specs.laws.Table.{above}
+use Rattle.evaluation.specs.laws.Laid.{leaf-text}
 
 alone-eight : (r : List Coded) (p : Text) → isLeaf p ≡ true → refused8 r p ≡ largeAt r p 0
 unfolding refused8 someNode
@@ -32,22 +32,19 @@ alone-eight r (until p q) h = absurd (false≢true h)
 alone-eight r (weakUntil p q) h = absurd (false≢true h)
 
 module _ (table : List ℕ) (count : ℕ) (rec : List ℕ) (asking : Asking table count rec) (root : Row) (is-root : root ≡ rowAt table (count - 1)) (leaf : root .kind < NOT) where
-  root-text : textOf table count ≡ leafOf root
-  root-text =
-      let some = asking .some in
-      tree-step table count (asking .falling) (count - 1) (omega arith)
-      ∙ build-leaf (rowAt table (count - 1)) _ _ (subst (λ (x : Row). x .kind < NOT) is-root leaf) ∙ ap leafOf (sym is-root)
+  root-text : leafOf root ≡ textOf table count
+  root-text = let some = above (asking .laid) in leaf-text table (count - 1) root is-root (asking .laid) (omega arith) leaf
 
   pub alone-asked : Asked rec 0 root
   alone-asked = record {
-    accepted = asking .askable .accepted;
+    accepted = asking .accepted;
     index = asking .record-there;
     leaf = leaf;
-    few-tops = ap (refused9 (coded rec)) (sym root-text) ∙ asking .askable .few-tops;
+    few-tops = ap (refused9 (coded rec)) root-text ∙ asking .few-tops;
   }
 
   pub alone-evaluates : (words : List ℕ) (over : Bool) → Makes (λ v. val (coded rec) v (leafOf root) 0) words over → Evaluates (coded rec) (textOf table count) words over
-  alone-evaluates words over m = subst (λ (p : Text). Evaluates (coded rec) p words over) (sym root-text) (record {
+  alone-evaluates words over m = subst (λ (p : Text). Evaluates (coded rec) p words over) root-text (record {
     flag = m .flag ∙ sym (alone-eight (coded rec) (leafOf root) (row-leaf root));
     holds = m .holds;
   })

@@ -1,509 +1,279 @@
 -- One node is evaluated: from the sets of its children, and the sets of the next record.
-use Prim.Native.Nat.{ℕ, zero, suc, _+_, _*_, _-_, _/_, _<_, _≤_, min}
+use Prim.Native.Nat.{ℕ, suc, _+_, _*_, _-_, _/_, _<_, _≤_}
 use native.Mathlib.Omega.{arith}
 use native.Mathlib.Decide.{ℕ-discrete, decLt}
-use mathlib.Core.Path.{_≡_, refl, sym, ap, ap₂, subst, _∙_}
-use mathlib.Core.Bool.{Bool, true, false, false≢true, _&&_, not}
-use mathlib.Core.Logic.{_⊎_, inl, inr, ⊎-elim}
+use mathlib.Core.Path.{_≡_, refl, sym, ap, subst, _∙_}
+use mathlib.Core.Bool.{Bool, true, false, false≢true, _||_, not}
 use mathlib.Core.List.{List}
-use lib.ListN.{length, take, length-map}
+use lib.ListN.{length, length-map}
 use lib.Dec.{eqb, ltb}
 use borrow.Author.Tests.{eqb-true, eqb-false}
-use Rattle.grammar.specs.inner.Kinds.{AND, UNTIL}
 use Rattle.number.specs.Axis.{axis}
-use Rattle.number.specs.laws.Boolean.{or-left, or-right}
-use Rattle.runs.specs.Set.{member, Valid, Holds}
+use Rattle.number.specs.laws.Boolean.{or-left, or-right, or-none, none-left, none-right}
 use Rattle.runs.specs.Runs.{mostRuns, runCount}
+use Rattle.runs.specs.Set.{member, Valid, Holds}
 use Rattle.runs.specs.laws.Runs.{runCount-ext}
 use Rattle.runs.specs.laws.Set.{holds-ext}
-use Rattle.grammar.specs.Syntax.{Text, or, and, neg, finally, globally, next, until, weakUntil}
-use Rattle.grammar.specs.Size.{temporal, mostNodes}
-use Rattle.grammar.specs.declared.Row.{Row}
-use Rattle.grammar.specs.inner.Table.{row, build, rowAt, treeAt, Falling, binaryFrom, kinds, unaryFrom}
-use Rattle.meaning.specs.inner.Coded.{Coded, code}
-use Rattle.meaning.specs.inner.Truth.{val, largeAt, lastCoded, refused9, ofListed, asksTooMany}
 use Rattle.recording.specs.Recording.{records, reading, readings}
 use Rattle.recording.specs.laws.Record.{length-records}
-use Rattle.evaluation.specs.inner.Slots.{slot, Sized, Elsewhere, Puts}
+use Rattle.grammar.specs.Syntax.{Text}
+use Rattle.grammar.specs.Size.{temporal, mostNodes}
+use Rattle.grammar.specs.declared.Row.{Row}
+use Rattle.grammar.specs.inner.Kinds.{AND, UNTIL}
+use Rattle.grammar.specs.inner.Table.{row, rowAt, unaryFrom, binaryFrom, kinds}
+use Rattle.grammar.specs.inner.Parse.{node}
+use Rattle.parser.specs.inner.Rows.{Laid, leaf, unary, binary}
+use Rattle.text.specs.laws.Table.{above}
+use Rattle.meaning.specs.inner.Coded.{Coded, code, coded}
+use Rattle.meaning.specs.inner.Truth.{val, largeAt, overAt, someNode, lastCoded, refused9, ofListed, asksTooMany}
 use Rattle.leaves.specs.inner.Leaf.{leafOf, Asked}
-use Rattle.evaluation.specs.inner.Askable.{Askable}
-use Rattle.meaning.specs.inner.Coded.{coded}
+use Rattle.evaluation.specs.inner.Slots.{slot, Sized, Puts}
 use Rattle.evaluation.specs.inner.Step.{unaryOf, binaryOf}
+use Rattle.evaluation.specs.inner.Evaluate.{Right, Stand, Fit, Node, Evaluated, Outcome, Leaves}
 use Rattle.evaluation.specs.laws.Step.{four, unary-last, unary-inner, binary-last, binary-inner}
-use Rattle.text.specs.laws.Table.{tree-step}
-use Rattle.evaluation.specs.laws.Tree.{build-leaf, falls-first, falls-second, kind-known}
-use Rattle.evaluation.specs.laws.Node.{none-first, none-second}
-use Rattle.evaluation.specs.inner.Evaluate.{kind, first, second, Under, here, on-first, on-second, Right, Ready, Fit, Evaluated, Large, Outcome}
-
--- ---- a text whose child has F, G, X, U or W has one
-
-temporal-first-one : (k a b n : ℕ) (p q : Text) → unaryFrom ≤ k → k < binaryFrom → temporal p ≡ true → temporal (build (row k a b n) p q) ≡ true
-temporal-first-one k a b n p q l h e = four (λ (k : ℕ). temporal (build (row k a b n) p q) ≡ true) unaryFrom k l h e refl refl refl
-
-temporal-first-two : (k a b n : ℕ) (p q : Text) → binaryFrom ≤ k → k < kinds → temporal p ≡ true → temporal (build (row k a b n) p q) ≡ true
-temporal-first-two k a b n p q l h e =
-    four (λ (k : ℕ). temporal (build (row k a b n) p q) ≡ true) binaryFrom k l h (or-left (temporal p) (temporal q) e) (or-left (temporal p) (temporal q) e) refl refl
-
-temporal-second : (k a b n : ℕ) (p q : Text) → binaryFrom ≤ k → k < kinds → temporal q ≡ true → temporal (build (row k a b n) p q) ≡ true
-temporal-second k a b n p q l h e =
-    four (λ (k : ℕ). temporal (build (row k a b n) p q) ≡ true) binaryFrom k l h (or-right (temporal p) (temporal q) e) (or-right (temporal p) (temporal q) e) refl refl
-
-module _ (table : List ℕ) (count : ℕ) (r : List Coded) (i n : ℕ) (falling : Falling table count) (inn : n < count) where
-  abbrev self : Text
-  self = build (rowAt table n) (treeAt table (first table n)) (treeAt table (second table n))
-
-  is-self : treeAt table n ≡ self
-  is-self = tree-step table count falling n inn
-
-  temporal-of-first : unaryFrom ≤ kind table n → temporal (treeAt table (first table n)) ≡ true → temporal (treeAt table n) ≡ true
-  temporal-of-first l e = ap temporal is-self ∙ by (decLt (kind table n) binaryFrom)
-    where
-      by : Dec (kind table n < binaryFrom) → temporal self ≡ true
-      by (yes h) = temporal-first-one (kind table n) (first table n) (second table n) (rowAt table n .number) (treeAt table (first table n)) (treeAt table (second table n)) l h e
-      by (no h) = temporal-first-two (kind table n) (first table n) (second table n) (rowAt table n .number) (treeAt table (first table n)) (treeAt table (second table n)) (omega arith) (kind-known table count falling n inn) e
-
-  temporal-of-second : binaryFrom ≤ kind table n → temporal (treeAt table (second table n)) ≡ true → temporal (treeAt table n) ≡ true
-  temporal-of-second l e = ap temporal is-self ∙ temporal-second (kind table n) (first table n) (second table n) (rowAt table n .number) (treeAt table (first table n)) (treeAt table (second table n)) l (kind-known table count falling n inn) e
-
-  -- what the children ask
-  pub ready-first : (later : List ℕ) → unaryFrom ≤ kind table n → Ready table r i n later → Ready table r i (first table n) later
-  unfolding Ready
-  ready-first later l f h t m u = f h (temporal-of-first l t) m (on-first l u)
-
-  pub ready-second : (later : List ℕ) → binaryFrom ≤ kind table n → Ready table r i n later → Ready table r i (second table n) later
-  unfolding Ready
-  ready-second later l f h t m u = f h (temporal-of-second l t) m (on-second l u)
-
-module _ (table : List ℕ) (count : ℕ) (r : List Coded) (i n : ℕ) (later before : List ℕ) (fit : Fit table count r i n later before) where
-  pub fit-first : (cur : List ℕ) → length cur ≡ length before → unaryFrom ≤ kind table n → Fit table count r i (first table n) later cur
-  fit-first cur e l =
-      let s = falls-first table count (fit .falling) n (fit .node) l in
-      record {
-        falling = fit .falling;
-        rows = fit .rows;
-        few = fit .few;
-        node = omega (arith, fit .node);
-        later-sized = fit .later-sized;
-        cur-sized = e ∙ fit .cur-sized;
-        index = fit .index;
-        ready = ready-first table count r i n (fit .falling) (fit .node) later l (fit .ready);
-      }
-
-  pub fit-second : (cur : List ℕ) → length cur ≡ length before → binaryFrom ≤ kind table n → Fit table count r i (second table n) later cur
-  fit-second cur e l =
-      let s = falls-second table count (fit .falling) n (fit .node) l in
-      record {
-        falling = fit .falling;
-        rows = fit .rows;
-        few = fit .few;
-        node = omega (arith, fit .node);
-        later-sized = fit .later-sized;
-        cur-sized = e ∙ fit .cur-sized;
-        index = fit .index;
-        ready = ready-second table count r i n (fit .falling) (fit .node) later l (fit .ready);
-      }
-
--- ---- the step at node n
-
-module _ (table : List ℕ) (count : ℕ) (r : List Coded) (i n : ℕ) (later before : List ℕ) (fit : Fit table count r i n later before) where
-  self-is : treeAt table n ≡ build (rowAt table n) (treeAt table (first table n)) (treeAt table (second table n))
-  self-is = tree-step table count (fit .falling) n (fit .node)
-
-  -- this is the last record
-  abbrev pub isLast : Bool
-  isLast = eqb (i + 1) (length r)
-
-  last-is : isLast ≡ true → i ≡ lastCoded r
-  last-is e = let h = eqb-true (i + 1) (length r) e in omega arith
-
-  inner-is : isLast ≡ false → i < lastCoded r
-  inner-is e = let h = eqb-false (i + 1) (length r) e in let k = fit .index in omega arith
-
-  -- the sets of the next record, where the node has F, G, X, U or W
-  next-sets : isLast ≡ false → temporal (treeAt table n) ≡ true → (m v : ℕ) → Under table n m → v < axis
-      → member (slot later m) v ≡ val r v (treeAt table m) (suc i)
-  unfolding Right Ready
-  next-sets e t m v u h = fit .ready (inner-is e) t m u .members v h
-
-  pub next-valid : isLast ≡ false → temporal (treeAt table n) ≡ true → (m : ℕ) → Under table n m → Valid (slot later m)
-  unfolding Right Ready
-  next-valid e t m u = fit .ready (inner-is e) t m u .valid
-
-  pub temporal-one : unaryFrom < kind table n → kind table n < binaryFrom → temporal (treeAt table n) ≡ true
-  temporal-one l h =
-      ap temporal self-is
-      ∙ four (λ (k : ℕ). unaryFrom < k → temporal (build (row k (first table n) (second table n) (rowAt table n .number)) (treeAt table (first table n)) (treeAt table (second table n))) ≡ true)
-      unaryFrom (kind table n) (omega arith) h (λ z. absurd (omega arith)) (λ z. refl) (λ z. refl) (λ z. refl) l
-
-  pub temporal-two : AND < kind table n → temporal (treeAt table n) ≡ true
-  temporal-two l =
-      ap temporal self-is
-      ∙ four (λ (k : ℕ). AND < k → temporal (build (row k (first table n) (second table n) (rowAt table n .number)) (treeAt table (first table n)) (treeAt table (second table n))) ≡ true)
-      binaryFrom (kind table n) (omega arith) (kind-known table count (fit .falling) n (fit .node)) (λ z. absurd (omega arith)) (λ z. absurd (omega arith)) (λ z. refl) (λ z. refl) l
-
-  -- a leaf
-  pub step-leaf : kind table n < unaryFrom → (v : ℕ) → val r v (leafOf (rowAt table n)) i ≡ val r v (treeAt table n) i
-  step-leaf h v =
-      ap (λ (t : Text). val r v t i) (sym (build-leaf (rowAt table n) (treeAt table (first table n)) (treeAt table (second table n)) h) ∙ sym self-is)
-
-  abbrev rowed : ℕ → Text
-  rowed k = build (row k (first table n) (second table n) (rowAt table n .number)) (treeAt table (first table n)) (treeAt table (second table n))
-
-  to-self : (v j : ℕ) → val r v (rowed (kind table n)) j ≡ val r v (treeAt table n) j
-  to-self v j = ap (λ (t : Text). val r v t j) (sym self-is)
-
-  module _ (sets : List ℕ) (right-p : Right table r i (first table n) sets) (v : ℕ) (hv : v < axis) where
-    at-p : member (slot sets (first table n)) v ≡ val r v (treeAt table (first table n)) i
-    unfolding Right
-    at-p = right-p .members v hv
-
-    -- a node with one child
-    pub step-one : unaryFrom ≤ kind table n → kind table n < binaryFrom
-        → unaryOf (kind table n) isLast (member (slot sets (first table n)) v) (member (slot later n) v) (member (slot later (first table n)) v)
-        ≡ val r v (treeAt table n) i
-    unfolding val
-    step-one l h = by (ℕ-discrete (kind table n) unaryFrom) isLast refl
-      where
-        own : Bool
-        own = member (slot later n) v
-
-        old : Bool
-        old = member (slot later (first table n)) v
-
-        here-p : Bool
-        here-p = member (slot sets (first table n)) v
-
-        by : Dec (kind table n ≡ unaryFrom) → (b : Bool) → isLast ≡ b → unaryOf (kind table n) b here-p own old ≡ val r v (treeAt table n) i
-        by (yes e) b eb =
-            ap (λ (k : ℕ). unaryOf k b here-p own old) e ∙ ap not at-p ∙ ap (λ (k : ℕ). val r v (rowed k) i) (sym e) ∙ to-self v i
-        by (no ne) true eb =
-            ap (λ (x : Bool). unaryOf (kind table n) true x own old) at-p
-            ∙ sym (unary-last r v i (first table n) (second table n) (rowAt table n .number) (treeAt table (first table n)) (treeAt table (second table n)) (kind table n) l h own old (last-is eb))
-            ∙ to-self v i
-        by (no ne) false eb =
-            let t = temporal-one (omega arith) h in
-            let o : own ≡ val r v (rowed (kind table n)) (suc i) = next-sets eb t n v here hv ∙ sym (to-self v (suc i)) in
-            let d : old ≡ val r v (treeAt table (first table n)) (suc i) = next-sets eb t (first table n) v (on-first l here) hv in
-            rw (at-p, o, d)
-            (sym (unary-inner r v i (first table n) (second table n) (rowAt table n .number) (treeAt table (first table n)) (treeAt table (second table n)) (kind table n) l h (inner-is eb))
-            ∙ to-self v i)
-
-    module _ (right-q : Right table r i (second table n) sets) where
-      at-q : member (slot sets (second table n)) v ≡ val r v (treeAt table (second table n)) i
-      unfolding Right
-      at-q = right-q .members v hv
-
-      -- a node with two children
-      pub step-two : binaryFrom ≤ kind table n
-          → binaryOf (kind table n) isLast (member (slot sets (first table n)) v) (member (slot sets (second table n)) v) (member (slot later n) v)
-          ≡ val r v (treeAt table n) i
-      unfolding val
-      step-two l = by (decLt (kind table n) UNTIL) isLast refl
-        where
-          known : kind table n < kinds
-          known = kind-known table count (fit .falling) n (fit .node)
-
-          own : Bool
-          own = member (slot later n) v
-
-          x : Bool
-          x = member (slot sets (first table n)) v
-
-          y : Bool
-          y = member (slot sets (second table n)) v
-
-          -- `|` and `&` ask nothing of the next record
-          plain : (b : Bool) → kind table n < UNTIL → binaryOf (kind table n) b x y own ≡ val r v (rowed (kind table n)) i
-          plain b h =
-              four (λ (k : ℕ). k < UNTIL → binaryOf k b x y own ≡ val r v (rowed k) i) binaryFrom (kind table n) l known
-              (λ z. rw (at-p, at-q)) (λ z. rw (at-p, at-q)) (λ z. absurd (omega arith)) (λ z. absurd (omega arith)) h
-
-          by : Dec (kind table n < UNTIL) → (b : Bool) → isLast ≡ b → binaryOf (kind table n) b x y own ≡ val r v (treeAt table n) i
-          by (yes h) b eb = plain b h ∙ to-self v i
-          by (no h) true eb =
-              rw (at-p, at-q)
-              (sym (binary-last r v i (first table n) (second table n) (rowAt table n .number) (treeAt table (first table n)) (treeAt table (second table n)) (kind table n) l known own (last-is eb))
-              ∙ to-self v i)
-          by (no h) false eb =
-              let t = temporal-two (omega arith) in
-              let o : own ≡ val r v (rowed (kind table n)) (suc i) = next-sets eb t n v here hv ∙ sym (to-self v (suc i)) in
-              rw (at-p, at-q, o)
-              (sym (binary-inner r v i (first table n) (second table n) (rowAt table n .number) (treeAt table (first table n)) (treeAt table (second table n)) (kind table n) l known (inner-is eb))
-              ∙ to-self v i)
-
--- ---- the outcome at node n
-
-over-ext : (r : List Coded) (t : Text) (i : ℕ) (f : ℕ → Bool) → ((v : ℕ) → v < axis → f v ≡ val r v t i) → (over : Bool) → over ≡ ltb mostRuns (runCount f) → over ≡ largeAt r t i
-over-ext r t i f e over h = h ∙ ap (ltb mostRuns) (runCount-ext f (λ v. val r v t i) e)
-
-module _ (table : List ℕ) (r : List Coded) (i n : ℕ) where
-  -- the set of node n is put over the sets of the nodes below, with its step: every set that was right stays so
-  module _ (f : ℕ → Bool) (step : (v : ℕ) → v < axis → f v ≡ val r v (treeAt table n) i) (before mid after : List ℕ) where
-    put-here : Holds f (slot after n) → Right table r i n after
-    unfolding Right
-    put-here h = holds-ext f (λ v. val r v (treeAt table n) i) (slot after n) step h
-
-    put-kept : Holds f (slot after n) → Elsewhere mid after n → (m : ℕ) → Right table r i m mid → Right table r i m after
-    unfolding Right
-    put-kept new old m h = by (ℕ-discrete m n)
-      where
-        by : Dec (m ≡ n) → Holds (λ v. val r v (treeAt table m) i) (slot after m)
-        by (yes e) = subst (λ (k : ℕ). Holds (λ v. val r v (treeAt table k) i) (slot after k)) (sym e) (put-here new)
-        by (no ne) = subst (Holds (λ v. val r v (treeAt table m) i)) (sym (old m ne)) h
-
-    pub put-outcome : (over : Bool) → Puts f mid after n over
-        → ((k : ℕ) → Right table r i k before → Right table r i k mid)
-        → ((k : ℕ) → Under table n k → (n ≡ k) ⊎ (Right table r i k mid × (largeAt r (treeAt table k) i ≡ false)))
-        → Outcome table r i n before after over
-    put-outcome over p kept below =
-        record {
-          good = λ o.
-              let new = p .here o in
-              let old = p .elsewhere o in
-              record {
-                kept = λ k h. put-kept new old k (kept k h);
-                done = λ k u. ⊎-elim (λ e. subst (λ (j : ℕ). Right table r i j after) e (put-here new)) (λ h. put-kept new old k (h .0)) (below k u);
-                small = λ k u. ⊎-elim (λ e. subst (λ (j : ℕ). largeAt r (treeAt table j) i ≡ false) e (sym flag ∙ o)) (λ h. h .1) (below k u);
-              };
-          bad = λ o. record { node = n; under = here; large = sym flag ∙ o };
-        }
-      where
-        flag : over ≡ largeAt r (treeAt table n) i
-        flag = over-ext r (treeAt table n) i f step over (p .flag)
-
-  -- below a leaf there is nothing
-  pub none-below : kind table n < unaryFrom → (mid : List ℕ) (k : ℕ) → Under table n k → (n ≡ k) ⊎ (Right table r i k mid × (largeAt r (treeAt table k) i ≡ false))
-  none-below h mid k here = inl refl
-  none-below h mid k (on-first l u) = absurd (omega arith)
-  none-below h mid k (on-second l u) = absurd (omega arith)
-
-  pub one-below : kind table n < binaryFrom → (before mid : List ℕ) → Evaluated table r i (first table n) before mid
-      → (k : ℕ) → Under table n k → (n ≡ k) ⊎ (Right table r i k mid × (largeAt r (treeAt table k) i ≡ false))
-  one-below h before mid p k here = inl refl
-  one-below h before mid p k (on-first l u) = inr (p .done k u, p .small k u)
-  one-below h before mid p k (on-second l u) = absurd (omega arith)
-
-  pub two-below : (before mid last : List ℕ) → Evaluated table r i (first table n) before mid → Evaluated table r i (second table n) mid last
-      → (k : ℕ) → Under table n k → (n ≡ k) ⊎ (Right table r i k last × (largeAt r (treeAt table k) i ≡ false))
-  two-below before mid last p q k here = inl refl
-  two-below before mid last p q k (on-first l u) = inr (q .kept k (p .done k u), p .small k u)
-  two-below before mid last p q k (on-second l u) = inr (q .done k u, q .small k u)
-
-  -- a child is over
-  pub over-first : (before mid after : List ℕ) → unaryFrom ≤ kind table n → Outcome table r i (first table n) before mid true → Outcome table r i n before after true
-  over-first before mid after l o =
-      record { good = λ e. absurd (false≢true (sym e)); bad = λ e. let b = o .bad refl in record { node = b .node; under = on-first l (b .under); large = b .large } }
-
-  pub over-second : (before mid last after : List ℕ) → binaryFrom ≤ kind table n → Outcome table r i (second table n) mid last true → Outcome table r i n before after true
-  over-second before mid last after l o =
-      record { good = λ e. absurd (false≢true (sym e)); bad = λ e. let b = o .bad refl in record { node = b .node; under = on-second l (b .under); large = b .large } }
-
--- ---- what the code of a node asks and leaves
+use Rattle.evaluation.specs.laws.Node.{some-leaf, some-one, some-two}
+use Rattle.evaluation.specs.laws.Laid.{line-is, laid-kind, leaf-kind, leaf-text}
+use Rattle.evaluation.specs.laws.Stand.{stand-root, stand-same}
 
 pub coded-length : (rec : List ℕ) → length (coded rec) ≡ length rec / 16
 coded-length rec = length-map (readings rec) code ∙ length-map (records rec) reading ∙ length-records rec
 
-module _ (table : List ℕ) (count : ℕ) (rec : List ℕ) (i n : ℕ) (later before : List ℕ) (fit : Fit table count (coded rec) i n later before) where
-  pub leaf-asked : Askable table n rec → kind table n < unaryFrom → Asked rec i (rowAt table n)
-  leaf-asked a h =
-      record {
-        accepted = a .accepted;
-        index = fit .index;
-        leaf = h;
-        few-tops = ap (refused9 (coded rec)) (sym (tree-step table count (fit .falling) n (fit .node) ∙ build-leaf (rowAt table n) _ _ h)) ∙ a .few-tops;
-      }
+-- ---- a text that looks ahead
 
-  -- what is asked of the children
-  pub ask-first : Askable table n rec → unaryFrom ≤ kind table n → Askable table (first table n) rec
+temporal-child : (k : ℕ) (p : Text) → unaryFrom ≤ k → k < binaryFrom → temporal p ≡ true → temporal (node k p p) ≡ true
+temporal-child k p l h e = four (λ (k : ℕ). temporal (node k p p) ≡ true) unaryFrom k l h e refl refl refl
+
+temporal-first : (k : ℕ) (p q : Text) → binaryFrom ≤ k → k < kinds → temporal p ≡ true → temporal (node k p q) ≡ true
+temporal-first k p q l h e =
+    four (λ (k : ℕ). temporal (node k p q) ≡ true) binaryFrom k l h (or-left (temporal p) (temporal q) e) (or-left (temporal p) (temporal q) e) refl refl
+
+temporal-second : (k : ℕ) (p q : Text) → binaryFrom ≤ k → k < kinds → temporal q ≡ true → temporal (node k p q) ≡ true
+temporal-second k p q l h e =
+    four (λ (k : ℕ). temporal (node k p q) ≡ true) binaryFrom k l h (or-right (temporal p) (temporal q) e) (or-right (temporal p) (temporal q) e) refl refl
+
+-- X, F and G look ahead, and so do U and W
+temporal-one : (k : ℕ) (p : Text) → unaryFrom < k → k < binaryFrom → temporal (node k p p) ≡ true
+temporal-one k p l h =
+    four (λ (k : ℕ). unaryFrom < k → temporal (node k p p) ≡ true) unaryFrom k (omega arith) h (λ z. absurd (omega arith)) (λ z. refl) (λ z. refl) (λ z. refl) l
+
+temporal-two : (k : ℕ) (p q : Text) → AND < k → k < kinds → temporal (node k p q) ≡ true
+temporal-two k p q l h =
+    four (λ (k : ℕ). AND < k → temporal (node k p q) ≡ true) binaryFrom k (omega arith) h (λ z. absurd (omega arith)) (λ z. absurd (omega arith)) (λ z. refl) (λ z. refl) l
+
+-- ---- the children of a text fit where it fits
+
+module _ (table : List ℕ) (rec : List ℕ) (i : ℕ) where
+  abbrev r : List Coded
+  r = coded rec
+
+  module _ {b m : ℕ} {p : Text} (k : ℕ) (l : unaryFrom ≤ k) (h : k < binaryFrom) (child : Laid table b m p) (e : rowAt table m ≡ row k (m - 1) 0 0) {own other : List ℕ} where
+    pub fit-child : Fit rec i (unary k l h child e) own other → Fit rec i child other own
+    unfolding refused9 Stand
+    fit-child fit =
+        record {
+          rows = omega (arith, fit .rows);
+          few = omega (arith, fit .few);
+          own-sized = fit .other-sized;
+          other-sized = fit .own-sized;
+          accepted = fit .accepted;
+          index = fit .index;
+          few-tops = none-right (ofListed (asksTooMany r) (node k p p)) (refused9 r p) (sym (some-one (ofListed (asksTooMany r)) k 0 0 0 p p l h) ∙ fit .few-tops);
+          ready = λ j t. fit .ready j (temporal-child k p l h t) .1;
+        }
+
+  none-of : (k : ℕ) (p q : Text) → binaryFrom ≤ k → k < kinds → refused9 r (node k p q) ≡ false → (refused9 r p || refused9 r q) ≡ false
   unfolding refused9
-  ask-first a l =
-      record { accepted = a .accepted; few-tops = none-first (ofListed (asksTooMany (coded rec))) table count (fit .falling) n (fit .node) l (a .few-tops) }
+  none-of k p q l h t = none-right (ofListed (asksTooMany r) (node k p q)) (refused9 r p || refused9 r q) (sym (some-two (ofListed (asksTooMany r)) k 0 0 0 p q l h) ∙ t)
 
-  pub ask-second : Askable table n rec → binaryFrom ≤ kind table n → Askable table (second table n) rec
-  unfolding refused9
-  ask-second a l =
-      record { accepted = a .accepted; few-tops = none-second (ofListed (asksTooMany (coded rec))) table count (fit .falling) n (fit .node) l (a .few-tops) }
+  module _ {b m n : ℕ} {p q : Text} (k : ℕ) (l : binaryFrom ≤ k) (h : k < kinds) (first : Laid table b m p) (second : Laid table m n q) (e : rowAt table n ≡ row k (m - 1) (n - 1) 0) {own other : List ℕ} where
+    pub fit-first : Fit rec i (binary k l h first second e) own other → Fit rec i first other own
+    unfolding Stand
+    fit-first fit =
+        let u = above second in
+        record {
+          rows = omega (arith, fit .rows);
+          few = omega (arith, fit .few);
+          own-sized = fit .other-sized;
+          other-sized = fit .own-sized;
+          accepted = fit .accepted;
+          index = fit .index;
+          few-tops = none-left (refused9 r p) (refused9 r q) (none-of k p q l h (fit .few-tops));
+          ready = λ j t. fit .ready j (temporal-first k p q l h t) .1;
+        }
 
-  last-same : eqb (i + 1) (length (coded rec)) ≡ eqb (i + 1) (length rec / 16)
-  last-same = ap (eqb (i + 1)) (coded-length rec)
+    -- after the first child: what it left of the second child's sets of the next record is as it was
+    pub fit-second : Fit rec i (binary k l h first second e) own other → {own₁ other₁ : List ℕ} → length own₁ ≡ length own → length other₁ ≡ length other
+        → Evaluated r i first other own other₁ own₁ → Fit rec i second other₁ own₁
+    unfolding Stand
+    fit-second fit {own₁} {other₁} eo et done =
+        let u = above second in
+        record {
+          rows = omega (arith, fit .rows);
+          few = omega (arith, fit .few);
+          own-sized = et ∙ fit .other-sized;
+          other-sized = eo ∙ fit .own-sized;
+          accepted = fit .accepted;
+          index = fit .index;
+          few-tops = none-right (refused9 r p) (refused9 r q) (none-of k p q l h (fit .few-tops));
+          ready = λ j t.
+              stand-same r (suc i) second own other own₁ other₁
+              (λ d low high. done .other-kept d (λ w. omega arith))
+              (λ d low high. done .own-kept d (λ w. omega arith))
+              (fit .ready j (temporal-second k p q l h t) .2);
+        }
 
-  valid-of : (m : ℕ) (sets : List ℕ) → Right table (coded rec) i m sets → Valid (slot sets m)
-  unfolding Right
-  valid-of m sets h = h .valid
+  -- ---- the step is the meaning
 
-  -- a leaf
-  pub leaf-outcome : (after : List ℕ) (over : Bool) → kind table n < unaryFrom → Puts (λ v. val (coded rec) v (leafOf (rowAt table n)) i) before after n over
-      → Outcome table (coded rec) i n before after over
-  leaf-outcome after over h p =
-      put-outcome table (coded rec) i n (λ v. val (coded rec) v (leafOf (rowAt table n)) i) (λ v g. step-leaf table count (coded rec) i n later before fit h v) before before after over p
-      (λ k g. g) (none-below table (coded rec) i n h before)
+  -- this is the last record
+  abbrev pub isLast : Bool
+  isLast = eqb (i + 1) (length rec / 16)
 
-  -- a node with one child
-  module _ (mid : List ℕ) (o : Outcome table (coded rec) i (first table n) before mid false) (l : unaryFrom ≤ kind table n) where
-    first-right : Right table (coded rec) i (first table n) mid
-    first-right = o .good refl .done (first table n) here
+  last-is : isLast ≡ true → i ≡ lastCoded r
+  last-is e = let h = eqb-true (i + 1) (length rec / 16) e in omega (arith, coded-length rec)
 
-    pub first-valid : Valid (slot mid (first table n))
-    first-valid = valid-of (first table n) mid first-right
+  inner-is : i < length r → isLast ≡ false → i < lastCoded r
+  inner-is j e = let h = eqb-false (i + 1) (length rec / 16) e in omega (arith, coded-length rec)
 
-    module _ (h : kind table n < binaryFrom) where
-      pub one-valid : eqb (i + 1) (length rec / 16) ≡ false → unaryFrom < kind table n → Valid (slot later n) × Valid (slot later (first table n))
-      one-valid e g =
-          let t = temporal-one table count (coded rec) i n later before fit g h in (
-            next-valid table count (coded rec) i n later before fit (last-same ∙ e) t n here,
-            next-valid table count (coded rec) i n later before fit (last-same ∙ e) t (first table n) (on-first l here),
-          )
+  -- a node with one child: x is the child's value, own the node's and old the child's at the next record
+  step-one : (k : ℕ) (p : Text) (v : ℕ) (x own old : Bool) → unaryFrom ≤ k → k < binaryFrom → i < length r → x ≡ val r v p i
+      → (isLast ≡ false → unaryFrom < k → (own ≡ val r v (node k p p) (suc i)) × (old ≡ val r v p (suc i)))
+      → unaryOf k isLast x own old ≡ val r v (node k p p) i
+  unfolding val
+  step-one k p v x own old l h j e next = by (ℕ-discrete k unaryFrom) isLast refl
+    where
+      by : Dec (k ≡ unaryFrom) → (b : Bool) → isLast ≡ b → unaryOf k b x own old ≡ val r v (node k p p) i
+      by (yes z) b eb = ap (λ (k : ℕ). unaryOf k b x own old) z ∙ ap not e ∙ ap (λ (k : ℕ). val r v (node k p p) i) (sym z)
+      by (no ne) true eb = ap (λ (y : Bool). unaryOf k true y own old) e ∙ sym (unary-last r v i 0 0 0 p p k l h own old (last-is eb))
+      by (no ne) false eb =
+          let o = next eb (omega arith) in
+          rw (e, o .0, o .1) (sym (unary-inner r v i 0 0 0 p p k l h (inner-is j eb)))
 
-      pub one-outcome : (after : List ℕ) (over : Bool)
-          → Puts (λ v. unaryOf (kind table n) (eqb (i + 1) (length rec / 16)) (member (slot mid (first table n)) v) (member (slot later n) v) (member (slot later (first table n)) v)) mid after n over
-          → Outcome table (coded rec) i n before after over
-      one-outcome after over p =
-          put-outcome table (coded rec) i n _
-          (λ v g. ap (λ (b : Bool). unaryOf (kind table n) b (member (slot mid (first table n)) v) (member (slot later n) v) (member (slot later (first table n)) v)) (sym last-same)
-          ∙ step-one table count (coded rec) i n later before fit mid first-right v g l h)
-          before mid after over p (o .good refl .kept) (one-below table (coded rec) i n h before mid (o .good refl))
+  -- a node with two children
+  step-two : (k : ℕ) (p q : Text) (v : ℕ) (x y own : Bool) → binaryFrom ≤ k → k < kinds → i < length r → x ≡ val r v p i → y ≡ val r v q i
+      → (isLast ≡ false → AND < k → own ≡ val r v (node k p q) (suc i))
+      → binaryOf k isLast x y own ≡ val r v (node k p q) i
+  unfolding val
+  step-two k p q v x y own l h j e f next = by (decLt k UNTIL) isLast refl
+    where
+      by : Dec (k < UNTIL) → (b : Bool) → isLast ≡ b → binaryOf k b x y own ≡ val r v (node k p q) i
+      by (yes z) b eb =
+          four (λ (k : ℕ). k < UNTIL → binaryOf k b x y own ≡ val r v (node k p q) i) binaryFrom k l h
+          (λ w. rw (e, f)) (λ w. rw (e, f)) (λ w. absurd (omega arith)) (λ w. absurd (omega arith)) z
+      by (no ne) true eb = rw (e, f) (sym (binary-last r v i 0 0 0 p q k l h own (last-is eb)))
+      by (no ne) false eb =
+          let o = next eb (omega arith) in
+          rw (e, f, o) (sym (binary-inner r v i 0 0 0 p q k l h (inner-is j eb)))
 
-    -- a node with two children
-    module _ (end : List ℕ) (u : Outcome table (coded rec) i (second table n) mid end false) (l2 : binaryFrom ≤ kind table n) where
-      first-still : Right table (coded rec) i (first table n) end
-      first-still = u .good refl .kept (first table n) first-right
+  -- ---- the outcome
 
-      second-right : Right table (coded rec) i (second table n) end
-      second-right = u .good refl .done (second table n) here
+  over-is : (t : Text) (f : ℕ → Bool) → ((v : ℕ) → v < axis → f v ≡ val r v t i) → (over : Bool) → over ≡ ltb mostRuns (runCount f) → over ≡ largeAt r t i
+  over-is t f e over h = h ∙ ap (ltb mostRuns) (runCount-ext f (λ v. val r v t i) e)
 
-      pub two-valid-first : Valid (slot end (first table n))
-      two-valid-first = valid-of (first table n) end first-still
+  right-is : (t : Text) (f : ℕ → Bool) (n : ℕ) (sets : List ℕ) → ((v : ℕ) → v < axis → f v ≡ val r v t i) → Holds f (slot sets n) → Right r i t n sets
+  right-is t f n sets e h = holds-ext f (λ v. val r v t i) (slot sets n) e h
 
-      pub two-valid-second : Valid (slot end (second table n))
-      two-valid-second = valid-of (second table n) end second-right
+  module _ {b m : ℕ} {p : Text} (k : ℕ) (l : unaryFrom ≤ k) (h : k < binaryFrom) (child : Laid table b m p) (e : rowAt table m ≡ row k (m - 1) 0 0)
+      {own other own₁ other₁ : List ℕ} (fit : Fit rec i (unary k l h child e) own other) (done : Evaluated r i child other own other₁ own₁) where
+    -- the node's set and its child's at the next record are where they were
+    child-next : isLast ≡ false → unaryFrom < k → Right r (suc i) (node k p p) m other₁ × Right r (suc i) p (m - 1) own₁
+    unfolding Stand
+    child-next z g =
+        let o = above child in
+        let s = fit .ready (inner-is (fit .index) z) (temporal-one k p g h) in (
+          subst (Holds (λ v. val r v (node k p p) (suc i))) (sym (done .own-kept m (λ w. omega arith))) (s .0),
+          subst (Holds (λ v. val r v p (suc i))) (sym (done .other-kept (m - 1) (λ w. omega arith))) (stand-root r (suc i) child own other (s .1)),
+        )
 
-      pub two-valid : eqb (i + 1) (length rec / 16) ≡ false → AND < kind table n → Valid (slot later n)
-      two-valid e g = next-valid table count (coded rec) i n later before fit (last-same ∙ e) (temporal-two table count (coded rec) i n later before fit g) n here
+    pub one-valid : isLast ≡ false → unaryFrom < k → Valid (slot other₁ m) × Valid (slot own₁ (m - 1))
+    one-valid z g = let s = child-next z g in (s .0 .valid, s .1 .valid)
 
-      pub two-outcome : (after : List ℕ) (over : Bool)
-          → Puts (λ v. binaryOf (kind table n) (eqb (i + 1) (length rec / 16)) (member (slot end (first table n)) v) (member (slot end (second table n)) v) (member (slot later n) v)) end after n over
-          → Outcome table (coded rec) i n before after over
-      two-outcome after over p =
-          put-outcome table (coded rec) i n _
-          (λ v g. ap (λ (b : Bool). binaryOf (kind table n) b (member (slot end (first table n)) v) (member (slot end (second table n)) v) (member (slot later n) v)) (sym last-same)
-          ∙ step-two table count (coded rec) i n later before fit end first-still v g second-right l2)
-          before end after over p (λ k g. u .good refl .kept k (o .good refl .kept k g)) (two-below table (coded rec) i n before mid end (o .good refl) (u .good refl))
+    pub child-valid : Valid (slot other₁ (m - 1))
+    child-valid = stand-root r i child other₁ own₁ (done .stand) .valid
 
--- ---- the same, for the row and the children as the code has read them
+    module _ (own₂ : List ℕ) (over : Bool)
+        (puts : Puts (λ v. unaryOf k isLast (member (slot other₁ (m - 1)) v) (member (slot other₁ m) v) (member (slot own₁ (m - 1)) v)) own₁ own₂ m over) where
+      one-step : (v : ℕ) → v < axis → unaryOf k isLast (member (slot other₁ (m - 1)) v) (member (slot other₁ m) v) (member (slot own₁ (m - 1)) v) ≡ val r v (node k p p) i
+      one-step v a =
+          step-one k p v _ _ _ l h (fit .index) (stand-root r i child other₁ own₁ (done .stand) .members v a)
+          (λ z g. let s = child-next z g in (s .0 .members v a, s .1 .members v a))
 
-module _ (table : List ℕ) (count : ℕ) (rec : List ℕ) (i n : ℕ) (later before : List ℕ) (fit : Fit table count (coded rec) i n later before)
-    (line : Row) (is-line : line ≡ rowAt table n) where
-  kind-is : line .kind ≡ kind table n
-  kind-is = ap (λ (x : Row). x .kind) is-line
+      one-flag : over ≡ largeAt r (node k p p) i
+      one-flag = over-is (node k p p) _ one-step over (puts .flag)
 
-  first-is : (a : ℕ) → a ≡ line .first → a ≡ first table n
-  first-is a e = e ∙ ap (λ (x : Row). x .first) is-line
+      one-some : overAt r (node k p p) i ≡ (largeAt r (node k p p) i || overAt r p i)
+      one-some = some-one (λ t. largeAt r t i) k 0 0 0 p p l h
 
-  second-is : (b : ℕ) → b ≡ line .second → b ≡ second table n
-  second-is b e = e ∙ ap (λ (x : Row). x .second) is-line
+      pub one-done : Outcome r i (unary k l h child e) own other own₂ other₁ over
+      unfolding Stand
+      one-done =
+          let o = above child in
+          record {
+            good = λ z. record {
+              stand = (right-is (node k p p) _ m own₂ one-step (puts .here z), stand-same r i child other₁ own₁ other₁ own₂ (λ d low high. refl) (λ d low high. puts .elsewhere z d (λ w. omega arith)) (done .stand));
+              small = one-some ∙ or-none (sym one-flag ∙ z) (done .small);
+              own-kept = λ d w. puts .elsewhere z d (λ u. absurd (let g = w (omega arith) in omega arith)) ∙ done .other-kept d (λ u. let g = w u in omega arith);
+              other-kept = λ d w. done .own-kept d (λ u. let g = w u in omega arith);
+            };
+            bad = λ z. one-some ∙ or-left (largeAt r (node k p p) i) (overAt r p i) (sym one-flag ∙ z);
+          }
 
-  pub line-asked : Askable table n rec → line .kind < unaryFrom → Asked rec i line
-  line-asked a h =
-      subst (Asked rec i) (sym is-line) (leaf-asked table count rec i n later before fit a (subst (λ (k : ℕ). k < unaryFrom) kind-is h))
+  module _ {b m n : ℕ} {p q : Text} (k : ℕ) (l : binaryFrom ≤ k) (h : k < kinds) (first : Laid table b m p) (second : Laid table m n q) (e : rowAt table n ≡ row k (m - 1) (n - 1) 0)
+      {own other own₁ other₁ own₂ other₂ : List ℕ} (fit : Fit rec i (binary k l h first second e) own other)
+      (done₁ : Evaluated r i first other own other₁ own₁) (done₂ : Evaluated r i second other₁ own₁ other₂ own₂) where
+    -- the node's set at the next record is where it was
+    own-next : isLast ≡ false → AND < k → Right r (suc i) (node k p q) n other₂
+    unfolding Stand
+    own-next z g =
+        let o = above first in
+        let u = above second in
+        subst (Holds (λ v. val r v (node k p q) (suc i))) (sym (done₂ .own-kept n (λ w. omega arith) ∙ done₁ .own-kept n (λ w. omega arith)))
+        (fit .ready (inner-is (fit .index) z) (temporal-two k p q g h) .0)
 
-  pub line-leaf : (after : List ℕ) (over : Bool) → line .kind < unaryFrom → Puts (λ v. val (coded rec) v (leafOf line) i) before after n over
-      → Outcome table (coded rec) i n before after over
-  line-leaf after over h p =
-      leaf-outcome table count rec i n later before fit after over (subst (λ (k : ℕ). k < unaryFrom) kind-is h)
-      (subst (λ (x : Row). Puts (λ v. val (coded rec) v (leafOf x) i) before after n over) is-line p)
+    -- and the first child's sets at this record
+    first-still : Stand r i first other₂ own₂
+    first-still =
+        let u = above second in
+        stand-same r i first other₁ own₁ other₂ own₂ (λ d low high. done₂ .own-kept d (λ w. omega arith)) (λ d low high. done₂ .other-kept d (λ w. omega arith)) (done₁ .stand)
 
-  module _ (a : ℕ) (is-a : a ≡ line .first) (l : unaryFrom ≤ line .kind) where
-    l′ : unaryFrom ≤ kind table n
-    l′ = subst (λ (k : ℕ). unaryFrom ≤ k) kind-is l
+    pub two-valid : isLast ≡ false → AND < k → Valid (slot other₂ n)
+    two-valid z g = own-next z g .valid
 
-    pub first-falls : a < n
-    first-falls = subst (λ (k : ℕ). k < n) (sym (first-is a is-a)) (falls-first table count (fit .falling) n (fit .node) l′)
+    pub first-valid : Valid (slot other₂ (m - 1))
+    first-valid = stand-root r i first other₂ own₂ first-still .valid
 
-    pub first-small : a < mostNodes
-    first-small = omega (arith, first-falls, fit .node, fit .few)
+    pub second-valid : Valid (slot other₂ (n - 1))
+    second-valid = stand-root r i second other₂ own₂ (done₂ .stand) .valid
 
-    pub first-fit : (cur : List ℕ) → length cur ≡ length before → Fit table count (coded rec) i a later cur
-    first-fit cur e =
-        subst (λ (k : ℕ). Fit table count (coded rec) i k later cur) (sym (first-is a is-a)) (fit-first table count (coded rec) i n later before fit cur e l′)
+    module _ (own₃ : List ℕ) (over : Bool)
+        (puts : Puts (λ v. binaryOf k isLast (member (slot other₂ (m - 1)) v) (member (slot other₂ (n - 1)) v) (member (slot other₂ n) v)) own₂ own₃ n over) where
+      two-step : (v : ℕ) → v < axis → binaryOf k isLast (member (slot other₂ (m - 1)) v) (member (slot other₂ (n - 1)) v) (member (slot other₂ n) v) ≡ val r v (node k p q) i
+      two-step v a =
+          step-two k p q v _ _ _ l h (fit .index) (stand-root r i first other₂ own₂ first-still .members v a) (stand-root r i second other₂ own₂ (done₂ .stand) .members v a)
+          (λ z g. own-next z g .members v a)
 
-    pub first-askable : Askable table n rec → Askable table a rec
-    first-askable q = subst (λ (k : ℕ). Askable table k rec) (sym (first-is a is-a)) (ask-first table count rec i n later before fit q l′)
+      two-flag : over ≡ largeAt r (node k p q) i
+      two-flag = over-is (node k p q) _ two-step over (puts .flag)
 
-    pub first-over : (mid after : List ℕ) (b : Bool) → b ≡ true → Outcome table (coded rec) i a before mid b → Outcome table (coded rec) i n before after true
-    first-over mid after b e o =
-        over-first table (coded rec) i n before mid after l′
-        (subst (λ (k : ℕ). Outcome table (coded rec) i k before mid true) (first-is a is-a) (subst (Outcome table (coded rec) i a before mid) e o))
+      two-some : overAt r (node k p q) i ≡ (largeAt r (node k p q) i || (overAt r p i || overAt r q i))
+      two-some = some-two (λ t. largeAt r t i) k 0 0 0 p q l h
 
-    module _ (mid : List ℕ) (b : Bool) (not-over : b ≡ false) (o : Outcome table (coded rec) i a before mid b) where
-      o′ : Outcome table (coded rec) i (first table n) before mid false
-      o′ = subst (λ (k : ℕ). Outcome table (coded rec) i k before mid false) (first-is a is-a) (subst (Outcome table (coded rec) i a before mid) not-over o)
-
-      pub line-first-valid : Valid (slot mid a)
-      line-first-valid =
-          subst (λ (k : ℕ). Valid (slot mid k)) (sym (first-is a is-a)) (first-valid table count rec i n later before fit mid o′ l′)
-
-      module _ (h : line .kind < binaryFrom) where
-        h′ : kind table n < binaryFrom
-        h′ = subst (λ (k : ℕ). k < binaryFrom) kind-is h
-
-        pub line-one-valid : eqb (i + 1) (length rec / 16) ≡ false → unaryFrom < line .kind → Valid (slot later n) × Valid (slot later a)
-        line-one-valid e g =
-            subst (λ (k : ℕ). Valid (slot later n) × Valid (slot later k)) (sym (first-is a is-a))
-            (one-valid table count rec i n later before fit mid o′ l′ h′ e (subst (λ (k : ℕ). unaryFrom < k) kind-is g))
-
-        pub line-one : (after : List ℕ) (over : Bool)
-            → Puts (λ v. unaryOf (line .kind) (eqb (i + 1) (length rec / 16)) (member (slot mid a) v) (member (slot later n) v) (member (slot later a) v)) mid after n over
-            → Outcome table (coded rec) i n before after over
-        line-one after over p =
-            one-outcome table count rec i n later before fit mid o′ l′ h′ after over
-            (subst (λ (c : ℕ). Puts (λ v. unaryOf (kind table n) (eqb (i + 1) (length rec / 16)) (member (slot mid c) v) (member (slot later n) v) (member (slot later c) v)) mid after n over) (first-is a is-a)
-            (subst (λ (k : ℕ). Puts (λ v. unaryOf k (eqb (i + 1) (length rec / 16)) (member (slot mid a) v) (member (slot later n) v) (member (slot later a) v)) mid after n over) kind-is p))
-
-      module _ (l2 : binaryFrom ≤ line .kind) (d : ℕ) (is-d : d ≡ line .second) where
-        l2′ : binaryFrom ≤ kind table n
-        l2′ = subst (λ (k : ℕ). binaryFrom ≤ k) kind-is l2
-
-        pub kind-fits : line .kind < kinds
-        kind-fits = subst (λ (k : ℕ). k < kinds) (sym kind-is) (kind-known table count (fit .falling) n (fit .node))
-
-        pub second-falls : d < n
-        second-falls = subst (λ (k : ℕ). k < n) (sym (second-is d is-d)) (falls-second table count (fit .falling) n (fit .node) l2′)
-
-        pub second-small : d < mostNodes
-        second-small = omega (arith, second-falls, fit .node, fit .few)
-
-        pub second-fit : (cur : List ℕ) → length cur ≡ length before → Fit table count (coded rec) i d later cur
-        second-fit cur e =
-            subst (λ (k : ℕ). Fit table count (coded rec) i k later cur) (sym (second-is d is-d)) (fit-second table count (coded rec) i n later before fit cur e l2′)
-
-        pub second-askable : Askable table n rec → Askable table d rec
-        second-askable q = subst (λ (k : ℕ). Askable table k rec) (sym (second-is d is-d)) (ask-second table count rec i n later before fit q l2′)
-
-        pub second-over : (end after : List ℕ) (x : Bool) → x ≡ true → Outcome table (coded rec) i d mid end x → Outcome table (coded rec) i n before after true
-        second-over end after x e u =
-            over-second table (coded rec) i n before mid end after l2′
-            (subst (λ (k : ℕ). Outcome table (coded rec) i k mid end true) (second-is d is-d) (subst (Outcome table (coded rec) i d mid end) e u))
-
-        module _ (end : List ℕ) (x : Bool) (x-not : x ≡ false) (u : Outcome table (coded rec) i d mid end x) where
-          u′ : Outcome table (coded rec) i (second table n) mid end false
-          u′ = subst (λ (k : ℕ). Outcome table (coded rec) i k mid end false) (second-is d is-d) (subst (Outcome table (coded rec) i d mid end) x-not u)
-
-          pub line-two-first : Valid (slot end a)
-          line-two-first =
-              subst (λ (k : ℕ). Valid (slot end k)) (sym (first-is a is-a)) (two-valid-first table count rec i n later before fit mid o′ l′ end u′ l2′)
-
-          pub line-two-second : Valid (slot end d)
-          line-two-second =
-              subst (λ (k : ℕ). Valid (slot end k)) (sym (second-is d is-d)) (two-valid-second table count rec i n later before fit mid o′ l′ end u′ l2′)
-
-          pub line-two-valid : eqb (i + 1) (length rec / 16) ≡ false → AND < line .kind → Valid (slot later n)
-          line-two-valid e g = two-valid table count rec i n later before fit mid o′ l′ end u′ l2′ e (subst (λ (k : ℕ). AND < k) kind-is g)
-
-          pub line-two : (after : List ℕ) (over : Bool)
-              → Puts (λ v. binaryOf (line .kind) (eqb (i + 1) (length rec / 16)) (member (slot end a) v) (member (slot end d) v) (member (slot later n) v)) end after n over
-              → Outcome table (coded rec) i n before after over
-          line-two after over p =
-              two-outcome table count rec i n later before fit mid o′ l′ end u′ l2′ after over
-              (subst (λ (c : ℕ). Puts (λ v. binaryOf (kind table n) (eqb (i + 1) (length rec / 16)) (member (slot end c) v) (member (slot end (second table n)) v) (member (slot later n) v)) end after n over) (first-is a is-a)
-              (subst (λ (c : ℕ). Puts (λ v. binaryOf (kind table n) (eqb (i + 1) (length rec / 16)) (member (slot end a) v) (member (slot end c) v) (member (slot later n) v)) end after n over) (second-is d is-d)
-              (subst (λ (k : ℕ). Puts (λ v. binaryOf k (eqb (i + 1) (length rec / 16)) (member (slot end a) v) (member (slot end d) v) (member (slot later n) v)) end after n over) kind-is p)))
+      pub two-done : Outcome r i (binary k l h first second e) own other own₃ other₂ over
+      unfolding Stand
+      two-done =
+          let o = above first in
+          let u = above second in
+          record {
+            good = λ z. record {
+              stand = (
+                right-is (node k p q) _ n own₃ two-step (puts .here z),
+                stand-same r i first other₂ own₂ other₂ own₃ (λ d low high. refl) (λ d low high. puts .elsewhere z d (λ w. omega arith)) first-still,
+                stand-same r i second other₂ own₂ other₂ own₃ (λ d low high. refl) (λ d low high. puts .elsewhere z d (λ w. omega arith)) (done₂ .stand),
+              );
+              small = two-some ∙ or-none (sym two-flag ∙ z) (or-none (done₁ .small) (done₂ .small));
+              own-kept = λ d w.
+                  puts .elsewhere z d (λ y. absurd (let g = w (omega arith) in omega arith))
+                  ∙ done₂ .other-kept d (λ y. let g = w (omega arith) in omega arith) ∙ done₁ .other-kept d (λ y. let g = w y in omega arith);
+              other-kept = λ d w. done₂ .own-kept d (λ y. let g = w (omega arith) in omega arith) ∙ done₁ .own-kept d (λ y. let g = w y in omega arith);
+            };
+            bad = λ z. two-some ∙ or-left (largeAt r (node k p q) i) (overAt r p i || overAt r q i) (sym two-flag ∙ z);
+          }

@@ -2,13 +2,17 @@
 use Prim.Native.Nat.{ℕ, _+_, _-_, _*_, _≤_, _<_, min}
 use native.Mathlib.Omega.{arith}
 use mathlib.Core.Path.{_≡_, refl, sym, ap, ap₂, _∙_, subst}
-use mathlib.Core.Bool.{Bool, true, false, true≢false}
+use mathlib.Core.Bool.{Bool}
 use mathlib.Core.Logic.{_⊎_, inl, inr, ⊎-elim}
 use mathlib.Core.List.{List, _++_}
+use lib.Dec.{ltb}
 use lib.ListN.{length, getD, take, drop, length-take, length-drop, length-append, List·getD-append}
 use lib.Seq.{ext-getD, getD-drop, getD-take, getD-append-add, length-take-le, drop-at, take-at}
 use Rattle.number.specs.laws.Order.{less-or-not}
-use Rattle.runs.specs.Set.{slotWords, Holds, Makes, member}
+use Rattle.number.specs.Axis.{axis}
+use Rattle.runs.specs.Runs.{mostRuns}
+use Rattle.runs.specs.Set.{slotWords, Holds, Makes}
+use Rattle.runs.specs.laws.Runs.{runCount-ext}
 use Rattle.runs.specs.laws.Set.{holds-ext}
 use Rattle.grammar.specs.Size.{mostNodes}
 use Rattle.evaluation.specs.inner.Slots.{slot, Sized, Elsewhere, Puts}
@@ -64,14 +68,9 @@ module _ (before words : List ℕ) (m : ℕ) (sized : Sized before) (hm : m < mo
       slot-same before after k size
       (λ j h. ⊎-elim (λ l. below (slotWords * k + j) (omega arith)) (λ l. let t : m < k = omega arith in above (slotWords * k + j) (omega arith)) (less-or-not k m))
 
-  -- what an operation made, put there
-  pub put-made : (f : ℕ → Bool) (set : List ℕ) (over : Bool) → over ≡ false → Makes f set over → Holds (member set) words → Puts f before after m false
-  put-made f set over o w h =
-      record {
-        flag = sym o ∙ w .flag;
-        here = λ z. subst (Holds f) (sym here) (holds-ext (member set) f words (w .holds o .members) h);
-        elsewhere = λ z. elsewhere;
-      }
+  -- what an operation made, in the place of slot m
+  pub made-in : (f : ℕ → Bool) (over : Bool) → Makes f words over → Puts f before after m over
+  made-in f over w = record { flag = w .flag; here = λ o. subst (Holds f) (sym here) (w .holds o); elsewhere = λ o. elsewhere }
 
 -- from the first word of slot m to the first behind it
 abbrev pub across : ℕ → ℕ
@@ -85,9 +84,10 @@ pub slot-is : (sets : List ℕ) (m w : ℕ) → w ≡ slotWords → take w (drop
 unfolding slot
 slot-is sets m w e = ap (λ (k : ℕ). take k (drop (slotWords * m) sets)) e
 
-pub put-over : (f : ℕ → Bool) (set before after : List ℕ) (m : ℕ) (over : Bool) → over ≡ true → Makes f set over → Puts f before after m true
-put-over f set before after m over o w =
-    record { flag = sym o ∙ w .flag; here = λ z. absurd (true≢false z); elsewhere = λ z. absurd (true≢false z) }
+-- the same members, said in another way
+pub puts-ext : (f g : ℕ → Bool) (before after : List ℕ) (m : ℕ) (over : Bool) → ((v : ℕ) → v < axis → f v ≡ g v) → Puts f before after m over → Puts g before after m over
+puts-ext f g before after m over e p =
+    record { flag = p .flag ∙ ap (ltb mostRuns) (runCount-ext f g e); here = λ o. holds-ext f g (slot after m) e (p .here o); elsewhere = p .elsewhere }
 
 -- the same sets, named by equal words
 pub puts-lists : (F : List ℕ → List ℕ → List ℕ → ℕ → Bool) (before after : List ℕ) (m : ℕ) (over : Bool) {a a' b b' c c' : List ℕ}

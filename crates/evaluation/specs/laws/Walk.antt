@@ -1,120 +1,145 @@
 -- The walk from the last record to the first.
-use Prim.Native.Nat.{ℕ, suc, _+_, _*_, _-_, _<_, _≤_}
+use Prim.Native.Nat.{ℕ, suc, _+_, _-_, _<_, _≤_}
 use native.Mathlib.Omega.{arith}
 use native.Mathlib.Nat.{eq-or-lt-of-le}
 use mathlib.Core.Path.{_≡_, sym, ap, subst, _∙_}
 use mathlib.Core.Bool.{Bool, true, false, false≢true, cond}
 use mathlib.Core.Logic.{⊎-elim}
 use mathlib.Core.List.{List}
-use lib.ListN.{length, take}
-use Rattle.number.specs.Axis.{axis}
+use lib.ListN.{length}
 use Rattle.runs.specs.Set.{member, Valid, Holds}
 use Rattle.runs.specs.laws.Set.{holds-ext}
-use Rattle.grammar.specs.Syntax.{Text, atom, listed, or, and, neg, finally, globally, next, until, weakUntil}
+use Rattle.grammar.specs.Syntax.{Text}
 use Rattle.grammar.specs.Size.{temporal}
-use Rattle.grammar.specs.inner.Table.{treeAt}
-use Rattle.meaning.specs.inner.Coded.{Coded}
-use Rattle.meaning.specs.inner.Truth.{val, largeAt, overAt, someNode, someBelow, refused8, lastCoded}
-use Rattle.meaning.specs.inner.Coded.{coded}
-use Rattle.evaluation.specs.inner.Slots.{slot, Sized}
-use Rattle.evaluation.specs.inner.Evaluate.{Under, here, Right, Ready, Fit, Evaluated, Large, Outcome}
-use Rattle.evaluation.specs.inner.Evaluation.{textOf, Asking, Evaluates}
+use Rattle.parser.specs.inner.Rows.{Laid}
+use Rattle.text.specs.laws.Table.{above}
+use Rattle.meaning.specs.inner.Coded.{Coded, coded}
+use Rattle.meaning.specs.inner.Truth.{val, overAt, someBelow, refused8, lastCoded}
 use Rattle.meaning.specs.laws.Overfull.{below-at, below-none}
-use Rattle.evaluation.specs.laws.Node.{some-under, none-under}
+use Rattle.evaluation.specs.inner.Slots.{slot, Sized}
+use Rattle.evaluation.specs.inner.Evaluate.{Stand, Fit, Node, Leaves}
+use Rattle.evaluation.specs.inner.Evaluation.{textOf, Asking, Evaluates}
+use Rattle.evaluation.specs.laws.Stand.{stand-root}
 
 -- the same set, by equal words
 pub holds-same : {a b : List ℕ} (words : List ℕ) → a ≡ b → Holds (member a) words → Holds (member b) words
 holds-same words e w = subst (λ (l : List ℕ). Holds (member l) words) e w
 
--- the sets of the nodes under the root at record i
-abbrev Sets : List ℕ → ℕ → List Coded → ℕ → List ℕ → Type 0
-Sets table root r i sets = (m : ℕ) → Under table root m → Right table r i m sets
+-- the sets of the text at record i
+abbrev pub Sets : List ℕ → ℕ → List ℕ → ℕ → List ℕ → List ℕ → Type 0
+Sets table count rec i own other = (laid : Laid table 0 count (textOf table count)) → Stand (coded rec) i laid own other
 
--- nothing is over at record i
-abbrev Small : List ℕ → ℕ → List ℕ → ℕ → Type 0
-Small table count rec i = (m : ℕ) → Under table (count - 1) m → largeAt (coded rec) (treeAt table m) i ≡ false
-
--- the records from i on are done: the table written last, a where flip is set, has the sets of record i
+-- the records from i on are done: the root's set of record i lies in a where flip is set, else in b
 pub record Walked (table : List ℕ) (count : ℕ) (rec : List ℕ) (i : ℕ) (a b : List ℕ) (flip : Bool) : Type 0 where
   pub end : i ≤ length (coded rec)
   pub size-a : Sized a
   pub size-b : Sized b
-  pub in-a : flip ≡ true → i < length (coded rec) → Sets table (count - 1) (coded rec) i a
-  pub in-b : flip ≡ false → i < length (coded rec) → Sets table (count - 1) (coded rec) i b
-  pub small : (j : ℕ) → i ≤ j → j < length (coded rec) → Small table count rec j
+  pub in-a : flip ≡ true → i < length (coded rec) → Sets table count rec i a b
+  pub in-b : flip ≡ false → i < length (coded rec) → Sets table count rec i b a
+  pub small : (j : ℕ) → i ≤ j → j < length (coded rec) → overAt (coded rec) (textOf table count) j ≡ false
 
 module _ (table : List ℕ) (count : ℕ) (rec : List ℕ) (asking : Asking table count rec) where
-  abbrev root : ℕ
-  root = count - 1
+  abbrev r : List Coded
+  r = coded rec
 
-  root-in : count - 1 < count
-  root-in = omega (arith, asking .some)
+  abbrev text : Text
+  text = textOf table count
 
-  small-over : (i : ℕ) → Small table count rec i → overAt (coded rec) (textOf table count) i ≡ false
-  small-over i s = none-under (λ q. largeAt (coded rec) q i) table count (asking .falling) count (count - 1) root-in root-in s
+  some : 0 < count
+  some = above (asking .laid)
 
-  large-over : (i : ℕ) → Large table (coded rec) i (count - 1) → overAt (coded rec) (textOf table count) i ≡ true
-  large-over i l = some-under (λ q. largeAt (coded rec) q i) table count (asking .falling) (count - 1) (l .node) root-in (l .under) (l .large)
+  root-is : count ≡ count - 1 + 1
+  root-is = omega (arith, some)
 
-  set-of : (i : ℕ) (sets : List ℕ) → Right table (coded rec) i (count - 1) sets → Holds (λ v. val (coded rec) v (textOf table count) i) (slot sets (count - 1))
-  unfolding Right
-  set-of i sets h = h
-
-  -- the root's set is handed out
-  handed : (sets words : List ℕ) → Right table (coded rec) 0 (count - 1) sets → Holds (member (slot sets (count - 1))) words
-      → refused8 (coded rec) (textOf table count) ≡ false → Evaluates (coded rec) (textOf table count) words false
-  handed sets words h w e =
+  -- the text can be evaluated at record i
+  fit-at : (i : ℕ) (own other : List ℕ) (laid : Laid table 0 count text) → i < length r → Sized own → Sized other
+      → (i < lastCoded r → temporal text ≡ true → Stand r (suc i) laid other own) → Fit rec i laid own other
+  fit-at i own other laid h so st ready =
       record {
-        flag = sym e;
-        holds = λ z. holds-ext (member (slot sets (count - 1))) (λ v. val (coded rec) v (textOf table count) 0) words (set-of 0 sets h .members) w;
+        rows = asking .rows;
+        few = asking .few;
+        own-sized = so;
+        other-sized = st;
+        accepted = asking .accepted;
+        index = h;
+        few-tops = asking .few-tops;
+        ready = ready;
       }
 
-  pub root-valid : (i : ℕ) (sets : List ℕ) → Right table (coded rec) i (count - 1) sets → Valid (slot sets (count - 1))
-  root-valid i sets h = set-of i sets h .valid
+  node-at : (i : ℕ) (own other : List ℕ) → i < length r → Sized own → Sized other
+      → (i < lastCoded r → temporal text ≡ true → Sets table count rec (suc i) other own) → Node table rec i (count - 1) own other
+  node-at i own other h so st ready =
+      record {
+        base = 0;
+        end = count;
+        text = text;
+        laid = asking .laid;
+        root = root-is;
+        fit = fit-at i own other (asking .laid) h so st (λ j t. ready j t (asking .laid));
+      }
+
+  -- the root's set is handed out
+  abbrev Root : ℕ → List ℕ → Type 0
+  Root i sets = Holds (λ v. val r v text i) (slot sets (count - 1))
+
+  root-of : (i : ℕ) (own other : List ℕ) → Sets table count rec i own other → Root i own
+  root-of i own other s = stand-root r i (asking .laid) own other (s (asking .laid))
+
+  handed : (sets words : List ℕ) → Root 0 sets → Holds (member (slot sets (count - 1))) words → refused8 r text ≡ false → Evaluates r text words false
+  handed sets words h w e =
+      record { flag = sym e; holds = λ z. holds-ext (member (slot sets (count - 1))) (λ v. val r v text 0) words (h .members) w }
+
+  -- what an evaluation of the root leaves
+  module _ (i : ℕ) (own other own′ other′ : List ℕ) (h : i < length r) (so : Sized own) (st : Sized other)
+      (ready : i < lastCoded r → temporal text ≡ true → Sets table count rec (suc i) other own) (over : Bool)
+      (o : Leaves table rec i (count - 1) own other own′ other′ over) where
+    sets-of : over ≡ false → Sets table count rec i own′ other′
+    sets-of z laid = o 0 count text laid root-is (fit-at i own other laid h so st (λ j t. ready j t laid)) .good z .stand
+
+    small-of : over ≡ false → overAt r text i ≡ false
+    small-of z = o 0 count text (asking .laid) root-is (fit-at i own other (asking .laid) h so st (λ j t. ready j t (asking .laid))) .good z .small
+
+    large-of : over ≡ true → overAt r text i ≡ true
+    large-of z = o 0 count text (asking .laid) root-is (fit-at i own other (asking .laid) h so st (λ j t. ready j t (asking .laid))) .bad z
 
   -- ---- a text without F, G, X, U and W: the first record alone
 
-  module _ (flat : temporal (textOf table count) ≡ false) where
-    flat-eight : refused8 (coded rec) (textOf table count) ≡ overAt (coded rec) (textOf table count) 0
+  module _ (flat : temporal text ≡ false) where
+    none-ahead : {A : Type 0} → temporal text ≡ true → A
+    none-ahead t = absurd (false≢true (sym flat ∙ t))
+
+    flat-eight : refused8 r text ≡ overAt r text 0
     unfolding refused8
-    flat-eight =
-        ap (λ (b : Bool). cond b (someBelow (overAt (coded rec) (textOf table count)) (length (coded rec))) (overAt (coded rec) (textOf table count) 0)) flat
+    flat-eight = ap (λ (b : Bool). cond b (someBelow (overAt r text) (length r)) (overAt r text 0)) flat
 
-    pub flat-fit : (later cur : List ℕ) → Sized later → Sized cur → Fit table count (coded rec) 0 (count - 1) later cur
-    unfolding Ready
-    flat-fit later cur sl sc =
-        record {
-          falling = asking .falling;
-          rows = asking .rows;
-          few = asking .few;
-          node = root-in;
-          later-sized = sl;
-          cur-sized = sc;
-          index = asking .record-there;
-          ready = λ h t. absurd (false≢true (sym flat ∙ t));
-        }
+    pub flat-node : (own other : List ℕ) → Sized own → Sized other → Node table rec 0 (count - 1) own other
+    flat-node own other so st = node-at 0 own other (asking .record-there) so st (λ j t. none-ahead t)
 
-    pub flat-over : (before after out : List ℕ) (b : Bool) → b ≡ true → Outcome table (coded rec) 0 (count - 1) before after b
-        → Evaluates (coded rec) (textOf table count) out true
-    flat-over before after out b e o =
-        record { flag = sym (flat-eight ∙ large-over 0 (o .bad e)); holds = λ z. absurd (false≢true (sym z)) }
+    module _ (own other own′ other′ : List ℕ) (so : Sized own) (st : Sized other) (over : Bool) (o : Leaves table rec 0 (count - 1) own other own′ other′ over) where
+      pub flat-over : (out : List ℕ) → over ≡ true → Evaluates r text out true
+      flat-over out e =
+          record {
+            flag = sym (flat-eight ∙ large-of 0 own other own′ other′ (asking .record-there) so st (λ j t. none-ahead t) over o e);
+            holds = λ z. absurd (false≢true (sym z));
+          }
 
-    pub flat-right : (before after : List ℕ) (b : Bool) → b ≡ false → Outcome table (coded rec) 0 (count - 1) before after b → Right table (coded rec) 0 (count - 1) after
-    flat-right before after b e o = o .good e .done (count - 1) here
+      flat-root : over ≡ false → Root 0 own′
+      flat-root e = root-of 0 own′ other′ (sets-of 0 own other own′ other′ (asking .record-there) so st (λ j t. none-ahead t) over o e)
 
-    pub flat-done : (before after out : List ℕ) (b : Bool) → b ≡ false → Outcome table (coded rec) 0 (count - 1) before after b
-        → Holds (member (slot after (count - 1))) out → Evaluates (coded rec) (textOf table count) out false
-    flat-done before after out b e o w =
-        handed after out (flat-right before after b e o) w (flat-eight ∙ small-over 0 (o .good e .small))
+      pub flat-valid : over ≡ false → Valid (slot own′ (count - 1))
+      flat-valid e = flat-root e .valid
+
+      pub flat-done : (out : List ℕ) → over ≡ false → Holds (member (slot own′ (count - 1))) out → Evaluates r text out false
+      flat-done out e w =
+          handed own′ out (flat-root e) w (flat-eight ∙ small-of 0 own other own′ other′ (asking .record-there) so st (λ j t. none-ahead t) over o e)
 
   -- ---- a text with F, G, X, U or W: all records, from the last on
 
-  eight-deep : temporal (textOf table count) ≡ true → refused8 (coded rec) (textOf table count) ≡ someBelow (overAt (coded rec) (textOf table count)) (length (coded rec))
+  eight-ahead : temporal text ≡ true → refused8 r text ≡ someBelow (overAt r text) (length r)
   unfolding refused8
-  eight-deep deep =
-      ap (λ (b : Bool). cond b (someBelow (overAt (coded rec) (textOf table count)) (length (coded rec))) (overAt (coded rec) (textOf table count) 0)) deep
+  eight-ahead t = ap (λ (b : Bool). cond b (someBelow (overAt r text) (length r)) (overAt r text 0)) t
 
-  pub walk-start : (n : ℕ) (a b : List ℕ) → n ≡ length (coded rec) → Sized a → Sized b → Walked table count rec n a b false
+  pub walk-start : (n : ℕ) (a b : List ℕ) → n ≡ length r → Sized a → Sized b → Walked table count rec n a b false
   walk-start n a b e sa sb =
       record {
         end = omega arith;
@@ -125,73 +150,82 @@ module _ (table : List ℕ) (count : ℕ) (rec : List ℕ) (asking : Asking tabl
         small = λ j l h. absurd (omega arith);
       }
 
-  next-fit : (i : ℕ) (later cur : List ℕ) → 0 < i → i ≤ length (coded rec) → Sized later → Sized cur
-      → (i < length (coded rec) → Sets table (count - 1) (coded rec) i later) → Fit table count (coded rec) (i - 1) (count - 1) later cur
-  unfolding Ready
-  next-fit i later cur p l sl sc f =
-      record {
-        falling = asking .falling;
-        rows = asking .rows;
-        few = asking .few;
-        node = root-in;
-        later-sized = sl;
-        cur-sized = sc;
-        index = omega arith;
-        ready = λ h t m u. let e : i ≡ suc (i - 1) = omega arith in subst (λ (j : ℕ). Right table (coded rec) j m later) e (f (omega arith) m u);
-      }
-
-  small-more : (i : ℕ) → 0 < i → Small table count rec (i - 1) → ((j : ℕ) → i ≤ j → j < length (coded rec) → Small table count rec j) → (j : ℕ) → i - 1 ≤ j → j < length (coded rec) → Small table count rec j
-  small-more i p s f j l h = ⊎-elim (λ e. subst (Small table count rec) e s) (λ k. f j (omega arith) h) (eq-or-lt-of-le l)
+  small-more : (i : ℕ) → 0 < i → overAt r text (i - 1) ≡ false → ((j : ℕ) → i ≤ j → j < length r → overAt r text j ≡ false)
+      → (j : ℕ) → i - 1 ≤ j → j < length r → overAt r text j ≡ false
+  small-more i p s f j l h = ⊎-elim (λ e. subst (λ (k : ℕ). overAt r text k ≡ false) e s) (λ k. f j (omega arith) h) (eq-or-lt-of-le l)
 
   module _ (i : ℕ) (a b : List ℕ) (flip : Bool) (w : Walked table count rec i a b flip) (p : 0 < i) where
-    pub fit-into-b : flip ≡ true → Fit table count (coded rec) (i - 1) (count - 1) a b
-    fit-into-b e = next-fit i a b p (w .end) (w .size-a) (w .size-b) (w .in-a e)
+    inside : i - 1 < length r
+    inside = omega (arith, w .end)
 
-    pub fit-into-a : flip ≡ false → Fit table count (coded rec) (i - 1) (count - 1) b a
-    fit-into-a e = next-fit i b a p (w .end) (w .size-b) (w .size-a) (w .in-b e)
+    ready-a : flip ≡ true → i - 1 < lastCoded r → temporal text ≡ true → Sets table count rec (suc (i - 1)) a b
+    ready-a e h t = let x : i ≡ suc (i - 1) = omega arith in subst (λ (j : ℕ). Sets table count rec j a b) x (w .in-a e (omega arith))
 
-    pub walked-b : (b' : List ℕ) (x : Bool) → length b' ≡ length b → x ≡ false → Outcome table (coded rec) (i - 1) (count - 1) b b' x → Walked table count rec (i - 1) a b' false
-    walked-b b' x e n o =
-        record {
-          end = omega (arith, w .end);
-          size-a = w .size-a;
-          size-b = e ∙ w .size-b;
-          in-a = λ f. absurd (false≢true f);
-          in-b = λ f h. o .good n .done;
-          small = small-more i p (o .good n .small) (w .small);
-        }
+    ready-b : flip ≡ false → i - 1 < lastCoded r → temporal text ≡ true → Sets table count rec (suc (i - 1)) b a
+    ready-b e h t = let x : i ≡ suc (i - 1) = omega arith in subst (λ (j : ℕ). Sets table count rec j b a) x (w .in-b e (omega arith))
 
-    pub walked-a : (a' : List ℕ) (x : Bool) → length a' ≡ length a → x ≡ false → Outcome table (coded rec) (i - 1) (count - 1) a a' x → Walked table count rec (i - 1) a' b true
-    walked-a a' x e n o =
-        record {
-          end = omega (arith, w .end);
-          size-a = e ∙ w .size-a;
-          size-b = w .size-b;
-          in-a = λ f h. o .good n .done;
-          in-b = λ f. absurd (false≢true (sym f));
-          small = small-more i p (o .good n .small) (w .small);
-        }
+    pub into-b : flip ≡ true → Node table rec (i - 1) (count - 1) b a
+    into-b e = node-at (i - 1) b a inside (w .size-b) (w .size-a) (ready-a e)
 
-    module _ (deep : temporal (textOf table count) ≡ true) where
-      pub walk-over : (before after out : List ℕ) (x : Bool) → x ≡ true → Outcome table (coded rec) (i - 1) (count - 1) before after x
-          → Evaluates (coded rec) (textOf table count) out true
-      walk-over before after out x e o =
+    pub into-a : flip ≡ false → Node table rec (i - 1) (count - 1) a b
+    into-a e = node-at (i - 1) a b inside (w .size-a) (w .size-b) (ready-b e)
+
+    module _ (a′ b′ : List ℕ) (over : Bool) where
+      pub walked-b : flip ≡ true → Leaves table rec (i - 1) (count - 1) b a b′ a′ over → length a′ ≡ length a → length b′ ≡ length b → over ≡ false
+          → Walked table count rec (i - 1) a′ b′ false
+      walked-b e o ea eb z =
           record {
-            flag = sym (eight-deep deep ∙ below-at (overAt (coded rec) (textOf table count)) (length (coded rec)) (i - 1) (omega (arith, w .end)) (large-over (i - 1) (o .bad e)));
-            holds = λ z. absurd (false≢true (sym z));
+            end = omega (arith, w .end);
+            size-a = ea ∙ w .size-a;
+            size-b = eb ∙ w .size-b;
+            in-a = λ f. absurd (false≢true f);
+            in-b = λ f h. sets-of (i - 1) b a b′ a′ inside (w .size-b) (w .size-a) (ready-a e) over o z;
+            small = small-more i p (small-of (i - 1) b a b′ a′ inside (w .size-b) (w .size-a) (ready-a e) over o z) (w .small);
           }
+
+      pub walked-a : flip ≡ false → Leaves table rec (i - 1) (count - 1) a b a′ b′ over → length a′ ≡ length a → length b′ ≡ length b → over ≡ false
+          → Walked table count rec (i - 1) a′ b′ true
+      walked-a e o ea eb z =
+          record {
+            end = omega (arith, w .end);
+            size-a = ea ∙ w .size-a;
+            size-b = eb ∙ w .size-b;
+            in-a = λ f h. sets-of (i - 1) a b a′ b′ inside (w .size-a) (w .size-b) (ready-b e) over o z;
+            in-b = λ f. absurd (false≢true (sym f));
+            small = small-more i p (small-of (i - 1) a b a′ b′ inside (w .size-a) (w .size-b) (ready-b e) over o z) (w .small);
+          }
+
+      module _ (ahead : temporal text ≡ true) (out : List ℕ) where
+        large-eight : overAt r text (i - 1) ≡ true → Evaluates r text out true
+        large-eight e =
+            record { flag = sym (eight-ahead ahead ∙ below-at (overAt r text) (length r) (i - 1) inside e); holds = λ z. absurd (false≢true (sym z)) }
+
+        pub over-b : flip ≡ true → Leaves table rec (i - 1) (count - 1) b a b′ a′ over → over ≡ true → Evaluates r text out true
+        over-b e o z = large-eight (large-of (i - 1) b a b′ a′ inside (w .size-b) (w .size-a) (ready-a e) over o z)
+
+        pub over-a : flip ≡ false → Leaves table rec (i - 1) (count - 1) a b a′ b′ over → over ≡ true → Evaluates r text out true
+        over-a e o z = large-eight (large-of (i - 1) a b a′ b′ inside (w .size-a) (w .size-b) (ready-b e) over o z)
 
   -- the walk is over
   module _ (a b : List ℕ) (flip : Bool) (w : Walked table count rec 0 a b flip) where
-    none-over : temporal (textOf table count) ≡ true → refused8 (coded rec) (textOf table count) ≡ false
-    none-over deep = eight-deep deep ∙ below-none (overAt (coded rec) (textOf table count)) (length (coded rec)) (λ j h. small-over j (w .small j (omega arith) h))
+    none-over : temporal text ≡ true → refused8 r text ≡ false
+    none-over ahead = eight-ahead ahead ∙ below-none (overAt r text) (length r) (λ j h. w .small j (omega arith) h)
 
-    pub right-a : flip ≡ true → Right table (coded rec) 0 (count - 1) a
-    right-a e = w .in-a e (asking .record-there) (count - 1) here
+    root-a : flip ≡ true → Root 0 a
+    root-a e = root-of 0 a b (w .in-a e (asking .record-there))
 
-    pub right-b : flip ≡ false → Right table (coded rec) 0 (count - 1) b
-    right-b e = w .in-b e (asking .record-there) (count - 1) here
+    root-b : flip ≡ false → Root 0 b
+    root-b e = root-of 0 b a (w .in-b e (asking .record-there))
 
-    pub walk-done : temporal (textOf table count) ≡ true → (sets out : List ℕ) → Right table (coded rec) 0 (count - 1) sets
-        → Holds (member (slot sets (count - 1))) out → Evaluates (coded rec) (textOf table count) out false
-    walk-done deep sets out h f = handed sets out h f (none-over deep)
+    pub valid-a : flip ≡ true → Valid (slot a (count - 1))
+    valid-a e = root-a e .valid
+
+    pub valid-b : flip ≡ false → Valid (slot b (count - 1))
+    valid-b e = root-b e .valid
+
+    module _ (ahead : temporal text ≡ true) (out : List ℕ) where
+      pub done-a : flip ≡ true → Holds (member (slot a (count - 1))) out → Evaluates r text out false
+      done-a e h = handed a out (root-a e) h (none-over ahead)
+
+      pub done-b : flip ≡ false → Holds (member (slot b (count - 1))) out → Evaluates r text out false
+      done-b e h = handed b out (root-b e) h (none-over ahead)

@@ -61,10 +61,10 @@ module _ (table : List ℕ) (count : ℕ) (bytes : List ℕ) (ready : Answerable
   pub asking : refused9 (coded bytes) (textOf table count) ≡ false → Asking table count bytes
   asking nine =
       record {
-        falling = ready .falling;
+        laid = ready .holds;
         rows = ready .rows;
         few = ready .few;
-        some = ready .some;
+        accepted = ready .accepted;
         record-there = ready .record-there;
-        askable = record { accepted = ready .accepted; few-tops = nine };
+        few-tops = nine;
       }

@@ -1,15 +1,13 @@
 -- The words of the slot take the set, the others stay.
-use mathlib.Core.Path.{sym, _∙_}
+use mathlib.Core.Path.{_∙_}
 use native.Mathlib.Omega.{arith}
 use lib.ListN.{length-drop}
 use lib.Seq.{length-take-le}
-use Rattle.evaluation.specs.laws.Slots.{across, across-is, put-made, put-over}
+use Rattle.runs.specs.laws.Set.{holds-makes}
+use Rattle.evaluation.specs.laws.Slots.{across, across-is, made-in}
 use borrow.Author.Needs.{needs}
 use Rattle.evaluation.proofs.slots.put.Statement.{statement}
 use Rattle.evaluation.proofs.slots.put.Tie as tie
-
-returns : tie.Need-returns
-returns c = λ f w. put-over f _ _ _ _ _ (c .if1 .taken) w
 
 mul-from : tie.Need-mul-from
 mul-from c = search needs
@@ -30,28 +28,15 @@ part-copy-end : tie.Need-part-copy-end
 part-copy-end c = search needs
 
 copy-requires : tie.Need-copy-requires
-copy-requires c κs = let s = c .before .before .before .before in (s .pre .2 (c .before .if1 .left), length-take-le (across (s .args .m)) _ (simp length-drop (omega (arith, s .pre .0, s .pre .1, across-is (s .args .m)))) ∙ across-is (s .args .m))
+copy-requires c κs =
+    (c .before .before .before .pre .0, length-take-le (across (c .before .before .before .args .m)) _ (simp length-drop (omega (arith, c .before .before .before .pre .1, c .before .before .before .pre .2, across-is (c .before .before .before .args .m)))) ∙ across-is (c .before .before .before .args .m))
 
 same-length : tie.Need-same-length
 same-length c = search needs
 
-returns-2 : tie.Need-returns-2
-returns-2 c =
-    let s = c .before .before .before .before .before .before .before in
-    let k = c .before .before .copy .ensures in
-    λ f w. put-made (s .args .sets .now) _ (s .args .m) (s .pre .0) (s .pre .1) (k .valid .size) (across (s .args .m)) (across-is (s .args .m)) f (s .args .set .now) _ (c .before .before .before .before .if1 .left) w k
+returns : tie.Need-returns
+returns c =
+    made-in (c .before .before .before .before .before .before .args .sets .now) _ (c .before .before .before .before .before .before .args .m) (c .before .before .before .before .before .before .pre .1) (c .before .before .before .before .before .before .pre .2) (c .before .before .copy .ensures .valid .size) (across (c .before .before .before .before .before .before .args .m)) (across-is (c .before .before .before .before .before .before .args .m)) _ _ (holds-makes _ _ (c .before .before .copy .ensures))
 
 pub put-spec : {M : Type 1} → statement M
-put-spec =
-    tie.close
-    (tie.spec
-    returns
-    mul-from
-    add-end
-    mul-copy
-    sub-copy
-    part-copy-start
-    part-copy-end
-    copy-requires
-    same-length
-    returns-2)
+put-spec = tie.close (tie.spec mul-from add-end mul-copy sub-copy part-copy-start part-copy-end copy-requires same-length returns)
