@@ -8,7 +8,9 @@ use crate::Refused;
 /// The set of a listed question, or refusal 3 or 4 where it is to CHECK, 9 or 8.
 pub fn set<const CHECK: bool>(records: &[[u8; 16]], listed: Op) -> Result<Set, Refused> {
     some(records)?;
-    let mut out = Set::with_capacity(MOST_RUNS + 1);
+    // Room for all runs at once, where there can be more than one.
+    let one = matches!(listed, Op::High(_) | Op::Low(_) | Op::LowAfter(..) | Op::CapAfter(..) | Op::Ampl(_));
+    let mut out = Set::with_capacity(if one { 1 } else { MOST_RUNS + 1 });
     match listed {
         Op::High(curve) => out.push((LOW, greatest::<CHECK>(records, curve)?)),
         Op::Low(curve) => out.push((least::<CHECK>(records, curve)?, HIGH)),

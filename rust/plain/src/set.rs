@@ -88,8 +88,11 @@ pub fn differences(mut rows: Vec<(i32, &[i32])>, out: &mut Set) {
                     break;
                 }
                 marked[place] = 1;
-                end = end.max(place + 1);
                 inside += 1;
+            }
+            // They ascend, so the last one inside is the greatest.
+            if inside > 0 {
+                end = end.max(rest[inside - 1].wrapping_sub(base) as usize + 1);
             }
             *rest = &rest[inside..];
         }
