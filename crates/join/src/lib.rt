@@ -3,9 +3,10 @@ ghost use mathlib.Core.Path.{_≡_};
 ghost use mathlib.Core.Bool.{true, false, _||_};
 ghost use Prim.Native.Nat.{_+_, _*_, _≤_, _<_, max};
 ghost use lib.ListN.{length};
+ghost use Rattle.number.specs.Axis.{axis};
 ghost use Rattle.runs.specs.Runs.{mostRuns};
 ghost use Rattle.runs.specs.Set.{inside, slotWords, sharedWords, Canonical};
-ghost use Rattle.join.specs.inner.Join.{Rest, Next, withRun, Joins};
+ghost use Rattle.join.specs.inner.Join.{Rest, Next, Reached, withRun, Appended, Open, opened, Joins};
 use runs::MOST_RUNS;
 use slot::CUTS;
 
@@ -15,6 +16,12 @@ struct Head {
     end: u32,
     i: usize,
     j: usize,
+}
+
+// How far an open run goes, and the place behind what it took of a list.
+struct Reach {
+    end: u32,
+    i: usize,
 }
 
 // Whether the result has too many runs; else how many runs were stored.
@@ -84,13 +91,71 @@ fn close(set: &mut [u32], at: usize, run: Head, stores: &mut usize)
     store(set, at, run.low, run.end, stores);
 }
 
+// What an open run that goes up to `end` becomes by the runs of l from place i on that meet it.
+fn extend(l: &[u32], i: usize, end: u32) -> Reach
+    requires { ⌜ Rest 0 (now l) i × (end ≤ axis) × (length (now l) ≤ sharedWords) ⌝ }
+    ensures { λ r. ⌜ Reached (now (l .entry)) i end r ⌝ }
+{
+    let mut at = i;
+    let mut far = end;
+    while at < l.len() {
+        if far < l[at] {
+            return Reach { end: far, i: at };
+        }
+        far = greater(far, l[at + 1]);
+        at += 2;
+    }
+    Reach { end: far, i: at }
+}
+
+// Stores what is left of l from place i on, as it is, behind n stored runs.
+fn append(l: &[u32], i: usize, set: &mut [u32], n: usize, stores: &mut usize)
+    requires { ⌜ Rest 0 (now l) i × (length (now set) ≡ slotWords) × (length (now l) ≤ sharedWords) × (2 * n + length (now l) ≤ 2 * mostRuns + i) × (now stores ≡ n) ⌝ }
+    ensures { λ r. ⌜ Appended (now (l .entry)) i (now (set .entry)) n (now (set .exit)) (now (stores .exit)) ⌝ }
+{
+    let mut from = i;
+    let mut at = n;
+    while from < l.len() {
+        store(set, at, l[from], l[from + 1], stores);
+        from += 2;
+        at += 1;
+    }
+}
+
+// The joining from where one list is at its end: the open run takes what meets it of the other, l, and the rest of l is stored as it is.
+fn finish(
+    l: &[u32],
+    i: usize,
+    low: u32,
+    end: u32,
+    set: &mut [u32],
+    n: usize,
+    stores: usize,
+) -> Joined
+    requires { ⌜ Open (now set) n low end (now l) i × (length (now l) ≤ sharedWords) × (stores ≡ n) ⌝ }
+    ensures { λ r. ⌜ Joins (opened (now (set .entry)) n low end (now (l .entry)) i) (now (set .exit)) r ⌝ }
+{
+    let run = extend(l, i, end);
+    let all = 2 * n + 2 + (l.len() - run.i);
+    if CUTS < all {
+        return Joined { over: true, stores };
+    }
+    let mut count = stores;
+    store(set, n, low, run.end, &mut count);
+    append(l, run.i, set, n + 1, &mut count);
+    set[CUTS] = all as u32;
+    Joined {
+        over: false,
+        stores: count,
+    }
+}
+
 // What is in a or in b.
 pub fn join(a: &[u32], b: &[u32], set: &mut [u32]) -> Joined
     requires { ⌜ Canonical (now a) × Canonical (now b) × (length (now a) ≤ sharedWords) × (length (now b) ≤ sharedWords) × (length (now set) ≡ slotWords) ⌝ }
     ensures { λ r. ⌜ Joins (λ v. inside (now (a .entry)) v || inside (now (b .entry)) v) (now (set .exit)) r ⌝ }
 {
-    let all = a.len() + b.len();
-    if all == 0 {
+    if a.len() + b.len() == 0 {
         set[CUTS] = 0;
         return Joined {
             over: false,
@@ -100,7 +165,10 @@ pub fn join(a: &[u32], b: &[u32], set: &mut [u32]) -> Joined
     let mut run = next(a, 0, b, 0);
     let mut n: usize = 0;
     let mut stores: usize = 0;
-    while run.i + run.j < all {
+    while run.i < a.len() {
+        if run.j == b.len() {
+            return finish(a, run.i, run.low, run.end, set, n, stores);
+        }
         let r = next(a, run.i, b, run.j);
         if r.low <= run.end {
             let low = run.low;
@@ -120,13 +188,5 @@ pub fn join(a: &[u32], b: &[u32], set: &mut [u32]) -> Joined
             run = r;
         }
     }
-    if n == MOST_RUNS {
-        return Joined { over: true, stores };
-    }
-    close(set, n, run, &mut stores);
-    set[CUTS] = (2 * n + 2) as u32;
-    Joined {
-        over: false,
-        stores,
-    }
+    finish(b, run.j, run.low, run.end, set, n, stores)
 }

@@ -1,6 +1,6 @@
-// The sets of atoms at record i.
+// Atoms at record i: the numbers that one selects by v; whether one without v holds, of every number alike.
 ghost use mathlib.Core.Path.{_≡_};
-ghost use Prim.Native.Nat.{_<_};
+ghost use Prim.Native.Nat.{ℕ, _<_};
 ghost use lib.Dec.{eqb};
 ghost use lib.ListN.{length};
 ghost use Rattle.number.specs.Axis.{axis};
@@ -64,37 +64,37 @@ pub fn against_v(rec: &[u8], i: usize, field: u32, relation: u32) -> Span
 }
 
 // A field against a number.
-pub fn against_number(rec: &[u8], i: usize, field: u32, relation: u32, k: u32) -> Span
+pub fn against_number(rec: &[u8], i: usize, field: u32, relation: u32, k: u32) -> bool
     requires { ⌜ Accepted (now rec) × (i < length (coded (now rec))) ⌝ }
-    ensures { λ r. ⌜ Spans (λ n. atomVal (compare (fieldOf field) (relationOf relation) (number k)) (codedAt (coded (now (rec .entry))) i) n) r ⌝ }
+    ensures { λ r. ⌜ ((n : ℕ) → r ≡ atomVal (compare (fieldOf field) (relationOf relation) (number k)) (codedAt (coded (now (rec .entry))) i) n) ⌝ }
 {
-    span::all_if(relates(relation, fields::field_at(rec, i, field), k))
+    relates(relation, fields::field_at(rec, i, field), k)
 }
 
 // A against B.
-pub fn a_to_b(rec: &[u8], i: usize, relation: u32) -> Span
+pub fn a_to_b(rec: &[u8], i: usize, relation: u32) -> bool
     requires { ⌜ Accepted (now rec) × (i < length (coded (now rec))) ⌝ }
-    ensures { λ r. ⌜ Spans (λ n. atomVal (A-to-B (relationOf relation)) (codedAt (coded (now (rec .entry))) i) n) r ⌝ }
+    ensures { λ r. ⌜ ((n : ℕ) → r ≡ atomVal (A-to-B (relationOf relation)) (codedAt (coded (now (rec .entry))) i) n) ⌝ }
 {
-    span::all_if(relates(
+    relates(
         relation,
         fields::value_at(rec, i, 0),
         fields::value_at(rec, i, 1),
-    ))
+    )
 }
 
 // Whether a pigment is added.
-pub fn adding(rec: &[u8], i: usize, k: u32) -> Span
+pub fn adding(rec: &[u8], i: usize, k: u32) -> bool
     requires { ⌜ Accepted (now rec) × (i < length (coded (now rec))) ⌝ }
-    ensures { λ r. ⌜ Spans (λ n. atomVal (pigment k) (codedAt (coded (now (rec .entry))) i) n) r ⌝ }
+    ensures { λ r. ⌜ ((n : ℕ) → r ≡ atomVal (pigment k) (codedAt (coded (now (rec .entry))) i) n) ⌝ }
 {
-    span::all_if(tops::is_added(rec, i, k))
+    tops::is_added(rec, i, k)
 }
 
 // Whether a curve has the slope.
-pub fn sloped(rec: &[u8], i: usize, curve: u32, slope: u8) -> Span
+pub fn sloped(rec: &[u8], i: usize, curve: u32, slope: u8) -> bool
     requires { ⌜ Accepted (now rec) × (i < length (coded (now rec))) ⌝ }
-    ensures { λ r. ⌜ Spans (λ n. eqb (codedSlope (curveOf curve) (codedAt (coded (now (rec .entry))) i)) «slope») r ⌝ }
+    ensures { λ r. ⌜ r ≡ eqb (codedSlope (curveOf curve) (codedAt (coded (now (rec .entry))) i)) «slope» ⌝ }
 {
-    span::all_if(fields::slope_at(rec, i, recording::curve(curve)) == slope)
+    fields::slope_at(rec, i, recording::curve(curve)) == slope
 }

@@ -6,11 +6,11 @@ pub mod span;
 mod times;
 
 ghost use mathlib.Core.Path.{_≡_};
-ghost use Prim.Native.Nat.{_≤_, _<_};
+ghost use Prim.Native.Nat.{ℕ, _≤_, _<_};
 ghost use lib.ListN.{length};
-ghost use Rattle.runs.specs.Set.{slotWords, Makes};
+ghost use Rattle.runs.specs.Set.{slotWords, Holds, Makes};
 ghost use Rattle.meaning.specs.inner.Truth.{val};
-ghost use Rattle.grammar.specs.inner.Kinds.{HIGH, PEAKS, DOSE, AMPL, GAPS};
+ghost use Rattle.grammar.specs.inner.Kinds.{COMPARE-V, HIGH, PEAKS, DOSE, AMPL, GAPS};
 ghost use Rattle.meaning.specs.inner.Coded.{coded};
 ghost use Rattle.leaves.specs.inner.Leaf.{leafOf, timesOf, Asked};
 ghost use Rattle.grammar.specs.Syntax.{listed};
@@ -22,15 +22,12 @@ use runset::RunSet;
 use span::Span;
 use tops::Event;
 
-// Atoms, whose sets have at most one run.
-fn atom(rec: &[u8], i: usize, row: Row) -> Span
-    requires { ⌜ Asked (now rec) i row × (row .kind < HIGH) ⌝ }
-    ensures { λ r. ⌜ Spans (λ v. val (coded (now (rec .entry))) v (leafOf row) i) r ⌝ }
+// Whether an atom without v holds.
+fn holds(rec: &[u8], i: usize, row: Row) -> bool
+    requires { ⌜ Asked (now rec) i row × (COMPARE-V < row .kind) × (row .kind < HIGH) ⌝ }
+    ensures { λ r. ⌜ ((v : ℕ) → r ≡ val (coded (now (rec .entry))) v (leafOf row) i) ⌝ }
 {
     let kind = row.kind;
-    if kind == kinds::COMPARE_V {
-        return atoms::against_v(rec, i, row.first, row.second);
-    }
     if kind == kinds::COMPARE {
         return atoms::against_number(rec, i, row.first, row.second, row.number);
     }
@@ -44,6 +41,23 @@ fn atom(rec: &[u8], i: usize, row: Row) -> Span
         return atoms::sloped(rec, i, row.first, recording::RISING);
     }
     atoms::adding(rec, i, row.number)
+}
+
+// Atoms: the numbers to which a field is related; and, of an atom without v, the whole axis or nothing.
+fn atom(rec: &[u8], i: usize, row: Row, set: &mut [u32])
+    requires { ⌜ Asked (now rec) i row × (row .kind < HIGH) × (length (now set) ≡ slotWords) ⌝ }
+    ensures { λ r. ⌜ Holds (λ v. val (coded (now (rec .entry))) v (leafOf row) i) (now (set .exit)) ⌝ }
+{
+    if row.kind == kinds::COMPARE_V {
+        let s = atoms::against_v(rec, i, row.first, row.second);
+        RunSet::span(s.low, s.high, set);
+        return;
+    }
+    if holds(rec, i, row) {
+        RunSet::whole(set);
+        return;
+    }
+    RunSet::empty(set);
 }
 
 // `high`, `low`, `lowafter` and `capafter`, whose sets have at most one run.
@@ -63,17 +77,6 @@ fn extreme(rec: &[u8], i: usize, row: Row) -> Span
         return extremes::lowafter(rec, curve, row.number);
     }
     extremes::capafter(rec, curve, row.number)
-}
-
-// Leaves with at most one run, `ampl` aside.
-fn spanned(rec: &[u8], i: usize, row: Row) -> Span
-    requires { ⌜ Asked (now rec) i row × (row .kind < PEAKS) ⌝ }
-    ensures { λ r. ⌜ Spans (λ v. val (coded (now (rec .entry))) v (leafOf row) i) r ⌝ }
-{
-    if row.kind < kinds::HIGH {
-        return atom(rec, i, row);
-    }
-    extreme(rec, i, row)
 }
 
 // `ampl`, which has one run too.
@@ -141,8 +144,12 @@ pub fn leaf(rec: &[u8], i: usize, row: Row, set: &mut [u32]) -> bool
     ensures { λ r. ⌜ Makes (λ v. val (coded (now (rec .entry))) v (leafOf row) i) (now (set .exit)) r ⌝ }
 {
     let kind = row.kind;
+    if kind < kinds::HIGH {
+        atom(rec, i, row, set);
+        return false;
+    }
     if kind < kinds::PEAKS {
-        let s = spanned(rec, i, row);
+        let s = extreme(rec, i, row);
         RunSet::span(s.low, s.high, set);
         return false;
     }

@@ -11,19 +11,6 @@ pub struct Span {
     pub high: u32,
 }
 
-// The whole axis, or nothing.
-pub fn all_if(b: bool) -> Span
-    ensures { λ r. ⌜ Spans (λ v. b) r ⌝ }
-{
-    if b {
-        return Span {
-            low: RunSet::LOW,
-            high: RunSet::HIGH,
-        };
-    }
-    Span { low: 1, high: 0 }
-}
-
 // From low to the end of the axis.
 pub fn from(low: u32) -> Span
     ensures { λ r. ⌜ Spans (λ v. leb low v) r ⌝ }

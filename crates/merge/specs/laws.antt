@@ -1,3 +1,4 @@
+pub mod Complement
 pub mod Merge
 pub mod OneRun
 pub mod Made

@@ -1,21 +1,21 @@
-// The walk along the cuts of two sets: what both hold, and what one of them holds and the other not.
+// What two sets share, by a walk along their cuts; and the complement of a set.
+pub mod complement;
 pub mod run;
 pub mod walk;
 
 ghost use mathlib.Core.Path.{_≡_};
+ghost use mathlib.Core.Bool.{_&&_};
 ghost use Prim.Native.Nat.{_≤_};
 ghost use lib.ListN.{length};
 ghost use Rattle.runs.specs.Set.{inside, slotWords, sharedWords, Canonical, Makes};
-ghost use Rattle.merge.specs.inner.Merge.{opOf};
 use slot::CUTS;
-use walk::Op;
 
-// The set of an operation on two lists of cuts.
-pub fn combine(op: Op, a: &[u32], b: &[u32], set: &mut [u32]) -> bool
+// What the sets of two lists of cuts share. Says whether it has too many runs.
+pub fn intersect(a: &[u32], b: &[u32], set: &mut [u32]) -> bool
     requires { ⌜ Canonical (now a) × Canonical (now b) × (length (now a) ≤ sharedWords) × (length (now b) ≤ sharedWords) × (length (now set) ≡ slotWords) ⌝ }
-    ensures { λ r. ⌜ Makes (λ v. opOf op (inside (now (a .entry)) v) (inside (now (b .entry)) v)) (now (set .exit)) r ⌝ }
+    ensures { λ r. ⌜ Makes (λ v. inside (now (a .entry)) v && inside (now (b .entry)) v) (now (set .exit)) r ⌝ }
 {
-    let filled = run::merge(op, a, b, &mut set[..CUTS]);
+    let filled = run::merge(a, b, &mut set[..CUTS]);
     if filled.over {
         return true;
     }

@@ -1,14 +1,13 @@
-// Operations on two sets of one run each that make one run at most: no walk is needed.
+// What two sets share: of one run each without a walk.
 ghost use mathlib.Core.Path.{_≡_};
 ghost use mathlib.Core.Bool.{true, false, _&&_};
 ghost use mathlib.Core.List.{[], _∷_};
 ghost use Prim.Native.Nat.{_≤_, _<_, min, max};
 ghost use lib.ListN.{length};
 ghost use Rattle.runs.specs.Set.{sharedWords, Canonical};
-ghost use Rattle.merge.specs.inner.Merge.{opOf, mergeCuts, Merged};
+ghost use Rattle.merge.specs.inner.Merge.{mergeCuts, Merged};
 ghost use Rattle.merge.specs.inner.OneRun.{runCuts, OneRun};
 use crate::walk::Filled;
-use crate::walk::Op;
 
 // The numbers from low on and before end; none where low is not below end. Not known where there may be more runs.
 struct Run {
@@ -51,21 +50,10 @@ fn shared(la: u32, ea: u32, lb: u32, eb: u32) -> Run
     }
 }
 
-// An operation on two runs.
-fn of_runs(op: Op, la: u32, ea: u32, lb: u32, eb: u32) -> Run
-    requires { ⌜ (la < ea) × (lb < eb) ⌝ }
-    ensures { λ r. ⌜ OneRun (opOf op) (la ∷ ea ∷ []) (lb ∷ eb ∷ []) r ⌝ }
-{
-    match op {
-        Op::And => shared(la, ea, lb, eb),
-        Op::Xor => unknown(),
-    }
-}
-
-// An operation on two sets: known where each has one run, and the result one at most.
-fn of_two(op: Op, a: &[u32], b: &[u32]) -> Run
+// What two sets share: known where each has one run.
+fn of_two(a: &[u32], b: &[u32]) -> Run
     requires { ⌜ Canonical (now a) × Canonical (now b) ⌝ }
-    ensures { λ r. ⌜ OneRun (opOf op) (now (a .entry)) (now (b .entry)) r ⌝ }
+    ensures { λ r. ⌜ OneRun _&&_ (now (a .entry)) (now (b .entry)) r ⌝ }
 {
     if a.len() != 2 {
         return unknown();
@@ -73,7 +61,7 @@ fn of_two(op: Op, a: &[u32], b: &[u32]) -> Run
     if b.len() != 2 {
         return unknown();
     }
-    of_runs(op, a[0], a[1], b[0], b[1])
+    shared(a[0], a[1], b[0], b[1])
 }
 
 // Writes the cuts of one run, or none.
@@ -89,14 +77,14 @@ fn put(low: u32, end: u32, out: &mut [u32]) -> Filled
     Filled { over: false, n: 2 }
 }
 
-// Writes the cuts of an operation on two sets: one run at once, others by the walk.
-pub fn merge(op: Op, a: &[u32], b: &[u32], out: &mut [u32]) -> Filled
+// Writes the cuts of what two sets share: one run at once, others by the walk.
+pub fn merge(a: &[u32], b: &[u32], out: &mut [u32]) -> Filled
     requires { ⌜ Canonical (now a) × Canonical (now b) × (length (now a) ≤ sharedWords) × (length (now b) ≤ sharedWords) × (2 ≤ length (now out)) ⌝ }
-    ensures { λ r. ⌜ Merged (mergeCuts (opOf op) false false (now (a .entry)) (now (b .entry))) (now (out .entry)) (now (out .exit)) r ⌝ }
+    ensures { λ r. ⌜ Merged (mergeCuts _&&_ false false (now (a .entry)) (now (b .entry))) (now (out .entry)) (now (out .exit)) r ⌝ }
 {
-    let run = of_two(op, a, b);
+    let run = of_two(a, b);
     if run.known {
         return put(run.low, run.end, out);
     }
-    crate::walk::merge(op, a, a.len(), b, b.len(), out)
+    crate::walk::merge(a, a.len(), b, b.len(), out)
 }

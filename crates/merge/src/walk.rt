@@ -1,15 +1,10 @@
 // One walk along the cuts of two sets.
 ghost use mathlib.Core.Path.{_≡_};
-ghost use mathlib.Core.Bool.{true, false};
+ghost use mathlib.Core.Bool.{true, false, _&&_};
 ghost use Prim.Native.Nat.{_+_, _≤_, _<_};
 ghost use lib.ListN.{length, take};
 ghost use Rattle.runs.specs.Set.{xor, sharedWords};
-ghost use Rattle.merge.specs.inner.Merge.{opOf, mergeCuts, Stepped, Merged};
-
-pub enum Op {
-    And,
-    Xor,
-}
+ghost use Rattle.merge.specs.inner.Merge.{mergeCuts, Stepped, Merged};
 
 // A cut x, the places behind it in both lists, and whether both sets hold from x on.
 pub struct Step {
@@ -26,13 +21,10 @@ pub struct Filled {
     pub n: usize,
 }
 
-fn apply(op: Op, p: bool, q: bool) -> bool
-    ensures { λ r. ⌜ r ≡ opOf op p q ⌝ }
+fn both(p: bool, q: bool) -> bool
+    ensures { λ r. ⌜ r ≡ (p && q) ⌝ }
 {
-    match op {
-        Op::And => if p { q } else { false },
-        Op::Xor => if p { !q } else { q },
-    }
+    if p { q } else { false }
 }
 
 pub fn differ(a: bool, b: bool) -> bool
@@ -93,10 +85,10 @@ fn advance(a: &[u32], na: usize, i: usize, p: bool, b: &[u32], nb: usize, j: usi
     }
 }
 
-// Writes the cuts of an operation on two sets, given by their first na and nb cuts.
-pub fn merge(op: Op, a: &[u32], na: usize, b: &[u32], nb: usize, out: &mut [u32]) -> Filled
+// Writes the cuts of what two sets share, given by their first na and nb cuts.
+pub fn merge(a: &[u32], na: usize, b: &[u32], nb: usize, out: &mut [u32]) -> Filled
     requires { ⌜ (na ≤ length (now a)) × (nb ≤ length (now b)) × (na ≤ sharedWords) × (nb ≤ sharedWords) ⌝ }
-    ensures { λ r. ⌜ Merged (mergeCuts (opOf op) false false (take na (now (a .entry))) (take nb (now (b .entry)))) (now (out .entry)) (now (out .exit)) r ⌝ }
+    ensures { λ r. ⌜ Merged (mergeCuts _&&_ false false (take na (now (a .entry))) (take nb (now (b .entry)))) (now (out .entry)) (now (out .exit)) r ⌝ }
 {
     let room = out.len();
     let mut n: usize = 0;
@@ -106,7 +98,7 @@ pub fn merge(op: Op, a: &[u32], na: usize, b: &[u32], nb: usize, out: &mut [u32]
     let mut q = false;
     while i + j < na + nb {
         let e = advance(a, na, i, p, b, nb, j, q);
-        if differ(apply(op, p, q), apply(op, e.p, e.q)) {
+        if differ(both(p, q), both(e.p, e.q)) {
             if n == room {
                 return Filled { over: true, n };
             }

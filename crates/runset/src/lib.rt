@@ -1,7 +1,6 @@
 // Sets of numbers of the axis, with at most MOST_RUNS runs. A number is carried as its index on the axis.
 // A set lies in SLOT words that the caller lends; how, nobody above this crate knows.
 use join::Joined;
-use merge::walk::Op;
 use runs::Nearest;
 use slot::CUTS;
 pub use slot::SHARED;
@@ -79,13 +78,9 @@ impl RunSet {
         requires { ⌜ Valid (now a) × (length (now set) ≡ slotWords) ⌝ }
         ensures { λ r. ⌜ Holds (member (now (a .entry))) (now (set .exit)) ⌝ }
     {
-        let n = cuts_in(a);
-        let mut i: usize = 0;
-        while i < n {
-            set[i] = a[i];
-            i += 1;
-        }
-        set[CUTS] = n as u32;
+        let cuts = cuts_of(a);
+        slot::copy(cuts, set, 0);
+        set[CUTS] = cuts.len() as u32;
     }
 
     // What is in a or in b, with the number of runs that were stored.
@@ -110,7 +105,7 @@ impl RunSet {
         requires { ⌜ Valid (now a) × Valid (now b) × (length (now set) ≡ slotWords) ⌝ }
         ensures { λ r. ⌜ Makes (λ v. member (now (a .entry)) v && member (now (b .entry)) v) (now (set .exit)) r ⌝ }
     {
-        merge::combine(Op::And, cuts_of(a), cuts_of(b), set)
+        merge::intersect(cuts_of(a), cuts_of(b), set)
     }
 
     // The complement on the axis.
@@ -118,8 +113,7 @@ impl RunSet {
         requires { ⌜ Valid (now a) × (length (now set) ≡ slotWords) ⌝ }
         ensures { λ r. ⌜ Makes (λ v. not (member (now (a .entry)) v)) (now (set .exit)) r ⌝ }
     {
-        let whole = [RunSet::LOW, number::AXIS];
-        merge::combine(Op::Xor, &whole, cuts_of(a), set)
+        merge::complement::complement(cuts_of(a), set)
     }
 
     // What is in q, or in p and in r. Only the result is limited: what p and r share has room in `shared`, for it is no join of two sets, but one of those
@@ -128,7 +122,7 @@ impl RunSet {
         requires { ⌜ Valid (now q) × Valid (now p) × Valid (now r) × (length (now shared) ≡ sharedWords) × (length (now set) ≡ slotWords) ⌝ }
         ensures { λ m. ⌜ Makes (λ v. member (now (q .entry)) v || (member (now (p .entry)) v && member (now (r .entry)) v)) (now (set .exit)) m ⌝ }
     {
-        let both = merge::run::merge(Op::And, cuts_of(p), cuts_of(r), shared);
+        let both = merge::run::merge(cuts_of(p), cuts_of(r), shared);
         let n = both.n;
         let joined = join::join(cuts_of(q), &shared[..n], set);
         joined.over

@@ -3,8 +3,9 @@ pub mod run;
 
 ghost use mathlib.Core.Path.{_≡_};
 ghost use mathlib.Core.Bool.{true, false};
+ghost use mathlib.Core.List.{_++_};
 ghost use Prim.Native.Nat.{_+_, _-_, _*_, _≤_, _<_};
-ghost use lib.ListN.{length, getD, set};
+ghost use lib.ListN.{length, take, drop, getD, set};
 ghost use Rattle.number.specs.Axis.{axis};
 ghost use Rattle.runs.specs.Runs.{mostRuns};
 ghost use Rattle.runs.specs.Set.{cutsOf, slotWords, Valid};
@@ -61,4 +62,16 @@ pub fn put_run(words: &mut [u32], n: usize, low: u32, high: u32)
     words[n] = low;
     words[n + 1] = high + 1;
     words[CUTS] = (n + 2) as u32;
+}
+
+// Copies words over others, from `at` on.
+pub fn copy(from: &[u32], to: &mut [u32], at: usize)
+    requires { ⌜ at + length (now from) ≤ length (now to) ⌝ }
+    ensures { λ r. ⌜ now (to .exit) ≡ take at (now (to .entry)) ++ (now (from .entry) ++ drop (at + length (now (from .entry))) (now (to .entry))) ⌝ }
+{
+    let mut i: usize = 0;
+    while i < from.len() {
+        to[at + i] = from[i];
+        i += 1;
+    }
 }

@@ -16,10 +16,10 @@ use Rattle.number.specs.laws.Boolean.{same, or-left, or-right, or-cases, and-le
 use Rattle.number.specs.laws.Order.{less-or-not}
 use Rattle.runs.specs.Runs.{mostRuns, runCount}
 use Rattle.runs.specs.Set.{slotWords, inside, Ascending, Canonical}
-use Rattle.join.specs.inner.Join.{Rest, within, Next, withRun, Joins}
+use Rattle.join.specs.inner.Join.{Rest, within, Next, withRun, Open, opened, Joins}
 use Rattle.runs.specs.laws.Cuts.{none, outside, weaken, before-run, in-run, behind-run, rest-outside, rest-ended, lone, nil-canonical}
 use Rattle.runs.specs.laws.Runs.{cuts-count, fewer-below}
-use Rattle.runs.specs.laws.Set.{held, holds-makes, nothing-held}
+use Rattle.runs.specs.laws.Set.{holds-makes, nothing-held}
 use Rattle.runs.specs.laws.Added.{put-two, grown-behind}
 use Rattle.join.specs.declared.Head.{Head}
 use Rattle.join.specs.declared.Joined.{Joined}
@@ -27,13 +27,30 @@ use Rattle.join.specs.declared.Joined.{Joined}
 -- ---- the run that begins first
 
 -- a run and the rest, by membership
-run-split : (lo c d : ℕ) (r : List ℕ) → Ascending lo axis (c ∷ d ∷ r) → (v : ℕ) → inside (c ∷ d ∷ r) v ≡ (within c d v || inside r v)
+pub run-split : (lo c d : ℕ) (r : List ℕ) → Ascending lo axis (c ∷ d ∷ r) → (v : ℕ) → inside (c ∷ d ∷ r) v ≡ (within c d v || inside r v)
 run-split lo c d r a v = by (decLt v c) (decLt v d)
   where
     by : Dec (v < c) → Dec (v < d) → inside (c ∷ d ∷ r) v ≡ (within c d v || inside r v)
     by (yes h) k = before-run lo axis c d r a v h ∙ sym (ap₂ (λ (x y : Bool). (x && ltb v d) || y) (lt-leb c v h) (rest-outside lo axis c d r a v (omega arith)))
     by (no h) (yes k) = in-run lo axis c d r a v (omega arith) k ∙ sym (ap₂ (λ (x y : Bool). (x && y) || inside r v) (le-leb c v (omega arith)) (lt-ltb v d k))
     by (no h) (no k) = behind-run lo axis c d r a v (omega arith) ∙ sym (ap₂ (λ (x y : Bool). (x && y) || inside r v) (le-leb c v (omega arith)) (le-ltb v d (omega arith)))
+
+in-run-of : (low end v : ℕ) → within low end v ≡ true → (low ≤ v) × (v < end)
+in-run-of low end v t = (leb-true low v (and-left (leb low v) (ltb v end) t), ltb-true v end (and-right (leb low v) (ltb v end) t))
+
+run-has : (low end v : ℕ) → low ≤ v → v < end → within low end v ≡ true
+run-has low end v g k = and-make (leb low v) (ltb v end) (le-leb low v g) (lt-ltb v end k)
+
+-- two runs that meet are one
+pub one-run : (low end low′ end′ e v : ℕ) → low ≤ low′ → low′ ≤ end → e ≡ max end end′ → (within low end v || within low′ end′ v) ≡ within low e v
+one-run low end low′ end′ e v g h is = same _ _
+    (λ t. or-cases (within low end v) (within low′ end′ v) t
+    (λ y. let z = in-run-of low end v y in run-has low e v (z .0) (omega (arith, z .1)))
+    (λ y. let z = in-run-of low′ end′ v y in run-has low e v (omega (arith, z .0)) (omega (arith, z .1))))
+    (λ t. let z = in-run-of low e v t in
+    ⊎-elim (λ y. or-left (within low end v) _ (run-has low end v (z .0) y))
+    (λ y. or-right (within low end v) _ (run-has low′ end′ v (omega arith) (omega (arith, z .1))))
+    (less-or-not v end))
 
 -- the rest of a list that is not at its end: a run, and what is behind it
 module _ (a : List ℕ) (i : ℕ) (w : Rest 0 a i) (h : i < length a) where
@@ -49,40 +66,40 @@ module _ (a : List ℕ) (i : ℕ) (w : Rest 0 a i) (h : i < length a) where
       lone 0 axis (getD a i 0) (subst (Ascending 0 axis) n (w .ascending)) (ap (λ (l : List ℕ). inside l axis) (sym n) ∙ w .ended))
       (less-or-not (i + 1) (length a))
 
-  both : drop i a ≡ getD a i 0 ∷ getD a (i + 1) 0 ∷ drop (i + 2) a
+  pub both : drop i a ≡ getD a i 0 ∷ getD a (i + 1) 0 ∷ drop (i + 2) a
   both =
       let e : suc (i + 1) ≡ i + 2 = omega arith in
       head ∙ ap (λ (l : List ℕ). getD a i 0 ∷ l) (drop-cons a (i + 1) 0 two-left ∙ ap (λ (k : ℕ). getD a (i + 1) 0 ∷ drop k a) e)
 
-  ascends : Ascending 0 axis (getD a i 0 ∷ getD a (i + 1) 0 ∷ drop (i + 2) a)
+  pub ascends : Ascending 0 axis (getD a i 0 ∷ getD a (i + 1) 0 ∷ drop (i + 2) a)
   ascends = subst (Ascending 0 axis) both (w .ascending)
 
-  run-grows : getD a i 0 < getD a (i + 1) 0
+  pub run-grows : getD a i 0 < getD a (i + 1) 0
   run-grows = omega (arith, ascends .2 .0)
 
-  run-on-axis : getD a (i + 1) 0 ≤ axis
+  pub run-on-axis : getD a (i + 1) 0 ≤ axis
   run-on-axis = ascends .2 .1
 
-  behind : Rest (getD a i 0) a (i + 2)
+  pub behind : Rest (getD a i 0) a (i + 2)
   behind = record {
     place = omega (arith, two-left);
     ascending = weaken (getD a i 0) (getD a (i + 1) 0 + 1) axis (drop (i + 2) a) (omega (arith, run-grows)) (ascends .2 .2);
     ended = rest-ended 0 axis (getD a i 0) (getD a (i + 1) 0) (drop (i + 2) a) ascends (ap (λ (l : List ℕ). inside l axis) (sym both) ∙ w .ended);
   }
 
-  split : (v : ℕ) → inside (drop i a) v ≡ (within (getD a i 0) (getD a (i + 1) 0) v || inside (drop (i + 2) a) v)
+  pub split : (v : ℕ) → inside (drop i a) v ≡ (within (getD a i 0) (getD a (i + 1) 0) v || inside (drop (i + 2) a) v)
   split v = ap (λ (l : List ℕ). inside l v) both ∙ run-split 0 (getD a i 0) (getD a (i + 1) 0) (drop (i + 2) a) ascends v
 
-  first-cut : (low : ℕ) → Ascending low axis (drop i a) → low ≤ getD a i 0
+  pub first-cut : (low : ℕ) → Ascending low axis (drop i a) → low ≤ getD a i 0
   first-cut low s = subst (Ascending low axis) both s .0
 
 -- a list that is at its end, or goes on not below x
-rest-from : (x : ℕ) (b : List ℕ) (j : ℕ) → Rest 0 b j → (j ≡ length b) ⊎ ((j < length b) × (x ≤ getD b j 0)) → Rest x b j
+pub rest-from : (x : ℕ) (b : List ℕ) (j : ℕ) → Rest 0 b j → (j ≡ length b) ⊎ ((j < length b) × (x ≤ getD b j 0)) → Rest x b j
 rest-from x b j w (inl e) = record { place = w .place; ascending = subst (Ascending x axis) (sym (ap (λ (k : ℕ). drop k b) e ∙ drop-length b)) tt; ended = w .ended }
 rest-from x b j w (inr h) =
     record { place = w .place; ascending = subst (Ascending x axis) (sym (both b j w (h .0))) (h .1, ascends b j w (h .0) .1, ascends b j w (h .0) .2); ended = w .ended }
 
-or-assoc : (a b c : Bool) → ((a || b) || c) ≡ (a || (b || c))
+pub or-assoc : (a b c : Bool) → ((a || b) || c) ≡ (a || (b || c))
 or-assoc true b c = refl
 or-assoc false b c = refl
 
@@ -118,6 +135,9 @@ module _ (a : List ℕ) (i : ℕ) (b : List ℕ) (j : ℕ) (wa : Rest 0 a i) (wb
 
 -- ---- the joining
 
+joins-ext : (f g : ℕ → Bool) (words : List ℕ) (r : Joined) → ((v : ℕ) → f v ≡ g v) → Joins f words r → Joins g words r
+joins-ext f g words r e w = subst (λ (h : ℕ → Bool). Joins h words r) (λ i v. e v i) w
+
 -- the first n runs are stored in the words, the run is open, and the others are left in the lists
 pub record Joining (a b : List ℕ) (words : List ℕ) (n : ℕ) (r : Head) : Type 0 where
   pub size : length words ≡ slotWords
@@ -130,7 +150,7 @@ pub record Joining (a b : List ℕ) (words : List ℕ) (n : ℕ) (r : Head) : Ty
   pub right : Rest (r .low) b (r .j)
   pub members : (v : ℕ) → (inside a v || inside b v) ≡ (inside (take (2 * n) words) v || (within (r .low) (r .end) v || (inside (drop (r .i) a) v || inside (drop (r .j) b) v)))
 
-rest-weak : (low lo : ℕ) (l : List ℕ) (i : ℕ) → lo ≤ low → Rest low l i → Rest lo l i
+pub rest-weak : (low lo : ℕ) (l : List ℕ) (i : ℕ) → lo ≤ low → Rest low l i → Rest lo l i
 rest-weak low lo l i h w = record { place = w .place; ascending = weaken lo low axis (drop i l) h (w .ascending); ended = w .ended }
 
 pub rest-any : (low : ℕ) (l : List ℕ) (i : ℕ) → Rest low l i → Rest 0 l i
@@ -212,46 +232,28 @@ module _ (a b words : List ℕ) (n : ℕ) (r : Head) (w : Joining a b words n r)
   pub right-any : Rest 0 b (r .j)
   right-any = rest-any (r .low) b (r .j) (w .right)
 
-  -- both lists are at their end
-  module _ (done : length a + length b ≤ r .i + r .j) where
-    rest-none : (l : List ℕ) (i : ℕ) → i ≡ length l → (v : ℕ) → inside (drop i l) v ≡ false
-    rest-none l i e v = ap (λ (k : ℕ). inside (drop k l) v) e ∙ ap (λ (k : List ℕ). inside k v) (drop-length l) ∙ none v
+  -- one list is at its end: what is left is in the other
+  pub open-right : Open words n (r .low) (r .end) b (r .j)
+  open-right = record { size = w .size; few = w .few; stored = w .stored; apart = w .apart; grows = w .grows; on-axis = w .on-axis; left = w .right }
 
-    all-closed : (v : ℕ) → inside closed v ≡ f v
-    all-closed v =
-        sym (members-closed v
-        ∙ ap₂ (λ (x y : Bool). inside closed v || (x || y)) (rest-none a (r .i) (omega (arith, place-left, place-right)) v) (rest-none b (r .j) (omega (arith, place-left, place-right)) v)
-        ∙ or-false (inside closed v))
-      where
-        or-false : (x : Bool) → (x || (false || false)) ≡ x
-        or-false true = refl
-        or-false false = refl
+  pub open-left : Open words n (r .low) (r .end) a (r .i)
+  open-left = record { size = w .size; few = w .few; stored = w .stored; apart = w .apart; grows = w .grows; on-axis = w .on-axis; left = w .left }
 
-    count : 2 * n + 2 ≡ 2 * runCount f
-    count = sym closed-length ∙ cuts-count f closed closed-canonical (λ v h. all-closed v)
+  rest-none : (l : List ℕ) (i : ℕ) → i ≡ length l → (v : ℕ) → inside (drop i l) v ≡ false
+  rest-none l i e v = ap (λ (k : ℕ). inside (drop k l) v) e ∙ ap (λ (k : List ℕ). inside k v) (drop-length l) ∙ none v
 
-    pub joins-full : n ≡ mostRuns → (k : ℕ) → Joins f words (record { over = true; stores = k })
-    joins-full e k = record {
-      makes = record { flag = sym (lt-ltb mostRuns (runCount f) (omega (arith, count))); holds = λ z. absurd (true≢false z) };
-      stores = λ z. absurd (true≢false z);
-    }
+  abbrev held-so-far : ℕ → Bool → Bool
+  held-so-far v x = inside stored-cuts v || (within (r .low) (r .end) v || x)
 
-    -- the open run is stored too
-    pub joins-all : (n ≡ mostRuns → ⊥) → (o : List ℕ) → o ≡ withRun words n (r .low) (r .end) → (k : ℕ) → k ≡ n + 1
-        → Joins f (set o (2 * mostRuns) (2 * n + 2)) (record { over = false; stores = k })
-    joins-all ne o e k c =
-        let m : 2 * n + 2 ≤ 2 * mostRuns = omega (arith, w .few) in
-        let s : length o ≡ slotWords = with-size o e in
-        record {
-          makes = holds-makes f _
-              (held closed (set o (2 * mostRuns) (2 * n + 2)) closed-canonical (omega (arith, closed-length))
-              (length-set o (2 * mostRuns) (2 * n + 2) ∙ s)
-              (getD-set-same o (2 * mostRuns) (2 * n + 2) 0 (omega arith) ∙ sym closed-length)
-              (ap (λ (x : ℕ). take x (set o (2 * mostRuns) (2 * n + 2))) closed-length ∙ take-set-le (2 * n + 2) o (2 * mostRuns) (2 * n + 2) m
-              ∙ ap (take (2 * n + 2)) e ∙ put-two words (2 * n) (r .low) (r .end) (omega (arith, w .size)))
-              f (λ v h. all-closed v));
-          stores = λ z. omega (arith, count);
-        }
+  pub joins-right : length a ≤ r .i → (o : List ℕ) (j : Joined) → Joins (opened words n (r .low) (r .end) b (r .j)) o j → Joins f o j
+  joins-right h o j = joins-ext _ f o j (λ v. sym (w .members v ∙ ap (λ (x : Bool). held-so-far v (x || inside (drop (r .j) b) v)) (rest-none a (r .i) (omega (arith, place-left)) v)))
+
+  pub joins-left : r .j ≡ length b → (o : List ℕ) (j : Joined) → Joins (opened words n (r .low) (r .end) a (r .i)) o j → Joins f o j
+  joins-left h o j = joins-ext _ f o j (λ v. sym (w .members v ∙ ap (λ (x : Bool). held-so-far v (inside (drop (r .i) a) v || x)) (rest-none b (r .j) h v) ∙ ap (held-so-far v) (or-false (inside (drop (r .i) a) v))))
+    where
+      or-false : (x : Bool) → (x || false) ≡ x
+      or-false true = refl
+      or-false false = refl
 
   -- the next run
   module _ (q : Head) (x : Next a (r .i) b (r .j) q) where
@@ -272,24 +274,8 @@ module _ (a b words : List ℕ) (n : ℕ) (r : Head) (w : Joining a b words n r)
       members = λ v.
           w .members v ∙ ap (λ (y : Bool). inside stored-cuts v || (within (r .low) (r .end) v || y)) (x .members v)
           ∙ ap (λ (y : Bool). inside stored-cuts v || y) (sym (or-assoc (within (r .low) (r .end) v) (within (q .low) (q .end) v) _))
-          ∙ ap (λ (y : Bool). inside stored-cuts v || (y || (inside (drop (q .i) a) v || inside (drop (q .j) b) v))) (one-run v);
+          ∙ ap (λ (y : Bool). inside stored-cuts v || (y || (inside (drop (q .i) a) v || inside (drop (q .j) b) v))) (one-run (r .low) (r .end) (q .low) (q .end) e v next-low h is);
     }
-      where
-        in-run-of : (low end v : ℕ) → within low end v ≡ true → (low ≤ v) × (v < end)
-        in-run-of low end v t = (leb-true low v (and-left (leb low v) (ltb v end) t), ltb-true v end (and-right (leb low v) (ltb v end) t))
-
-        run-has : (low end v : ℕ) → low ≤ v → v < end → within low end v ≡ true
-        run-has low end v g k = and-make (leb low v) (ltb v end) (le-leb low v g) (lt-ltb v end k)
-
-        one-run : (v : ℕ) → (within (r .low) (r .end) v || within (q .low) (q .end) v) ≡ within (r .low) e v
-        one-run v = same _ _
-            (λ t. or-cases (within (r .low) (r .end) v) (within (q .low) (q .end) v) t
-            (λ y. let z = in-run-of (r .low) (r .end) v y in run-has (r .low) e v (z .0) (omega (arith, z .1)))
-            (λ y. let z = in-run-of (q .low) (q .end) v y in run-has (r .low) e v (omega (arith, z .0, next-low)) (omega (arith, z .1))))
-            (λ t. let z = in-run-of (r .low) e v t in
-            ⊎-elim (λ y. or-left (within (r .low) (r .end) v) _ (run-has (r .low) (r .end) v (z .0) y))
-            (λ y. or-right (within (r .low) (r .end) v) _ (run-has (q .low) (q .end) v (omega arith) (omega (arith, z .1))))
-            (less-or-not v (r .end)))
 
     -- it lies apart: the open one is stored
     module _ (h : r .end < q .low) where

@@ -8,7 +8,7 @@ use lib.Dec.{leb, ltb, eqb}
 use borrow.Author.Tests.{le-leb, leb-true, eqb-true, eq-eqb, ltb-true, lt-ltb}
 use Rattle.number.specs.Axis.{axis}
 use Rattle.runs.specs.Set.{Holds, Makes}
-use Rattle.runs.specs.laws.Set.{nothing-between, everything-between, holds-ext, holds-makes}
+use Rattle.runs.specs.laws.Set.{holds-ext, holds-makes}
 use Rattle.number.specs.laws.Boolean.{same, and-left, and-right, and-make}
 use Rattle.leaves.specs.declared.span.Span.{Span}
 use Rattle.leaves.specs.inner.Span.{Spans}
@@ -32,12 +32,6 @@ module _ (f : ℕ → Bool) (low high : ℕ) (h : high < axis) where
         (λ e. from v (leb-true low v (and-left (leb low v) (leb v high) e)) (leb-true v high (and-right (leb low v) (leb v high) e)))
         (λ e. and-make (leb low v) (leb v high) (le-leb low v (to v g e .0)) (le-leb v high (to v g e .1)));
   }
-
-pub spans-all : Spans (λ v. true) (span 0 end)
-spans-all = record { inside = omega arith; members = everything-between }
-
-pub spans-none : Spans (λ v. false) (span 1 0)
-spans-none = record { inside = omega arith; members = λ v h. nothing-between 1 0 v (omega arith) }
 
 -- v ≤ x, v < x, v ≥ x (v > x is v ≥ x + 1), v = x
 pub spans-upto : (x : ℕ) → x < axis → Spans (λ v. leb v x) (span 0 x)

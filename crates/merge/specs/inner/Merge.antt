@@ -1,20 +1,13 @@
 -- The cuts of an operation on two sets, by one walk along both lists, and what the functions of the walk promise.
 use Prim.Native.Nat.{ℕ, _+_, _≤_, _<_}
 use mathlib.Core.Path.{_≡_}
-use mathlib.Core.Bool.{Bool, true, false, not, _&&_}
+use mathlib.Core.Bool.{Bool, true, false, not}
 use mathlib.Core.List.{List, [], _∷_, _++_}
 use lib.Dec.{ltb}
 use lib.ListN.{length, drop}
-use Rattle.runs.specs.Set.{xor}
 use Rattle.runs.specs.inner.Emit.{emit}
-use Rattle.merge.specs.declared.walk.Op.{Op}
-use Rattle.merge.specs.declared.walk.Op.the-variants.{And, Xor}
 use Rattle.merge.specs.declared.walk.Step.{Step}
 use Rattle.merge.specs.declared.walk.Filled.{Filled}
-
-abbrev pub opOf : Op → Bool → Bool → Bool
-opOf And p q = p && q
-opOf Xor p q = xor p q
 
 -- the cuts of f of two sets, p and q being the membership before the cuts
 unfoldable pub mergeCuts : (Bool → Bool → Bool) → Bool → Bool → List ℕ → List ℕ → List ℕ

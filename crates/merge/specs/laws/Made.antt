@@ -1,4 +1,4 @@
--- What an operation makes: from the cuts of the walk to words that hold a set, and to what two sets share.
+-- What two sets share: from the cuts of the walk to words that hold a set, and to words that are lent for it.
 use Prim.Native.Nat.{ℕ, _+_, _*_, _≤_, _<_}
 use mathlib.Core.Path.{_≡_, refl, sym, ap, ap₂, subst, _∙_}
 use mathlib.Core.Bool.{Bool, true, false, _&&_, true≢false}
@@ -13,37 +13,30 @@ use Rattle.runs.specs.Runs.{mostRuns, runCount}
 use Rattle.runs.specs.Set.{slotWords, sharedWords, inside, Canonical, Makes}
 use Rattle.runs.specs.laws.Runs.{cuts-count}
 use Rattle.runs.specs.laws.Set.{held, holds-makes}
-use Rattle.merge.specs.inner.Merge.{mergeCuts, opOf, Merged}
+use Rattle.merge.specs.inner.Merge.{mergeCuts, Merged}
 use Rattle.merge.specs.laws.Merge.{merged-inside, merged-canonical, merge-length}
-use Rattle.merge.specs.declared.walk.Op.{Op}
-use Rattle.merge.specs.declared.walk.Op.the-variants.{And, Xor}
 use Rattle.merge.specs.declared.walk.Filled.{Filled}
 
--- what is in neither set is left out
-pub quiet : (op : Op) → opOf op false false ≡ false
-quiet And = refl
-quiet Xor = refl
-
--- an operation on two lists of cuts, its cuts put where there is room for mostRuns runs
-module _ (op : Op) (a b before part : List ℕ) (w : Filled) (ca : Canonical a) (cb : Canonical b) (size : length before ≡ slotWords)
-    (r : Merged (mergeCuts (opOf op) false false a b) (take (2 * mostRuns) before) part w) where
+-- what two lists of cuts share, its cuts put where there is room for mostRuns runs
+module _ (a b before part : List ℕ) (w : Filled) (ca : Canonical a) (cb : Canonical b) (size : length before ≡ slotWords)
+    (r : Merged (mergeCuts _&&_ false false a b) (take (2 * mostRuns) before) part w) where
   abbrev m : List ℕ
-  m = mergeCuts (opOf op) false false a b
+  m = mergeCuts _&&_ false false a b
 
   abbrev f : ℕ → Bool
-  f v = opOf op (inside a v) (inside b v)
+  f v = inside a v && inside b v
 
   members : (v : ℕ) → v < axis → inside m v ≡ f v
-  members v h = merged-inside (opOf op) (quiet op) a b ca cb v
+  members v h = merged-inside _&&_ refl a b ca cb v
 
   canonical : Canonical m
-  canonical = merged-canonical (opOf op) (quiet op) a b ca cb
+  canonical = merged-canonical _&&_ refl a b ca cb
 
   room : length (take (2 * mostRuns) before) ≡ 2 * mostRuns
   room = length-take-le (2 * mostRuns) before (omega arith)
 
-  pub combined-over : (words : List ℕ) → w .over ≡ true → Makes f words true
-  combined-over words o =
+  pub shared-over : (words : List ℕ) → w .over ≡ true → Makes f words true
+  shared-over words o =
       record {
         flag = sym o ∙ r .over ∙ ltb-same (length (take (2 * mostRuns) before)) (length m) mostRuns (runCount f) (λ h. omega (arith, room, cuts-count f m canonical members)) (λ h. omega (arith, room, cuts-count f m canonical members));
         holds = λ z. absurd (true≢false z);
@@ -52,11 +45,11 @@ module _ (op : Op) (a b before part : List ℕ) (w : Filled) (ca : Canonical a) 
   few : w .over ≡ false → length m ≤ 2 * mostRuns
   few o = omega (arith, room, ltb-false (length (take (2 * mostRuns) before)) (length m) (sym (r .over) ∙ o))
 
-  pub combined-few : w .over ≡ false → w .n ≤ 2 * mostRuns
-  combined-few o = omega (arith, r .count o, few o)
+  pub shared-few : w .over ≡ false → w .n ≤ 2 * mostRuns
+  shared-few o = omega (arith, r .count o, few o)
 
-  pub combined-held : w .over ≡ false → Makes f (set (part ++ drop (2 * mostRuns) before) (2 * mostRuns) (w .n)) false
-  combined-held o =
+  pub shared-held : w .over ≡ false → Makes f (set (part ++ drop (2 * mostRuns) before) (2 * mostRuns) (w .n)) false
+  shared-held o =
       holds-makes f _
       (held m (set (part ++ drop (2 * mostRuns) before) (2 * mostRuns) (w .n)) canonical (few o)
       (length-set (part ++ drop (2 * mostRuns) before) (2 * mostRuns) (w .n) ∙ whole)

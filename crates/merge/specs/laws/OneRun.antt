@@ -10,11 +10,10 @@ use lib.Seq.{take-length}
 use borrow.Author.Tests.{lt-ltb, le-ltb}
 use Rattle.number.specs.laws.Order.{less-or-not}
 use Rattle.runs.specs.Set.{xor, inside, Ascending, Canonical}
-use Rattle.merge.specs.inner.Merge.{opOf, mergeCuts, Merged}
+use Rattle.merge.specs.inner.Merge.{mergeCuts, Merged}
 use Rattle.merge.specs.inner.OneRun.{runCuts, OneRun}
 use Rattle.runs.specs.laws.Cuts.{unique, none, before-run, in-run, behind-run}
 use Rattle.merge.specs.laws.Merge.{merge-asc, merge-inside}
-use Rattle.merge.specs.declared.walk.Op.{Op}
 use Rattle.merge.specs.declared.walk.Filled.{Filled}
 use Rattle.merge.specs.declared.run.Run.{Run}
 
@@ -111,9 +110,6 @@ not-known f a b r e = record { cuts = λ z. absurd (true≢false (sym z ∙ e)) 
 
 pub known : (f : Bool → Bool → Bool) (a b : List ℕ) (r : Run) (low end : ℕ) → mergeCuts f false false a b ≡ runCuts low end → r .low ≡ low → r .end ≡ end → OneRun f a b r
 known f a b r low end e l h = record { cuts = λ z. e ∙ ap₂ runCuts (sym l) (sym h) }
-
-pub of-op : (op known : Op) (a b : List ℕ) (r : Run) → op ≡ known → OneRun (opOf known) a b r → OneRun (opOf op) a b r
-of-op op known a b r e w = subst (λ (o : Op). OneRun (opOf o) a b r) (sym e) w
 
 -- lists of two cuts
 pub of-cuts : (f : Bool → Bool → Bool) (a b : List ℕ) (r : Run) → length a ≡ 2 → length b ≡ 2

@@ -24,15 +24,15 @@ inside-append [] m v = refl
 inside-append (c ∷ l) m v = ap (xor (leb c v)) (inside-append l m v) ∙ sym (xor-assoc (leb c v) (inside l v) (inside m v))
 
 -- cuts k, and behind them z
-last-above : (lo hi z : ℕ) (k : List ℕ) → Ascending lo hi (k ++ z ∷ []) → lo ≤ z
+pub last-above : (lo hi z : ℕ) (k : List ℕ) → Ascending lo hi (k ++ z ∷ []) → lo ≤ z
 last-above lo hi z [] a = a .0
 last-above lo hi z (c ∷ k) a = omega (arith, a .0, last-above (c + 1) hi z k (a .2))
 
-last-below : (lo hi z : ℕ) (k : List ℕ) → Ascending lo hi (k ++ z ∷ []) → z ≤ hi
+pub last-below : (lo hi z : ℕ) (k : List ℕ) → Ascending lo hi (k ++ z ∷ []) → z ≤ hi
 last-below lo hi z [] a = a .1
 last-below lo hi z (c ∷ k) a = last-below (c + 1) hi z k (a .2)
 
-front-ascends : (lo hi z x : ℕ) (k : List ℕ) → Ascending lo hi (k ++ z ∷ []) → z ≤ x + 1 → Ascending lo x k
+pub front-ascends : (lo hi z x : ℕ) (k : List ℕ) → Ascending lo hi (k ++ z ∷ []) → z ≤ x + 1 → Ascending lo x k
 front-ascends lo hi z x [] a h = tt
 front-ascends lo hi z x (c ∷ k) a h = (a .0, omega (arith, last-above (c + 1) hi z k (a .2)), front-ascends (c + 1) hi z x k (a .2) h)
 
@@ -132,7 +132,7 @@ module _ (l : List ℕ) (c : Canonical l) (low high : ℕ) (h : low ≤ high) (k
         turn false false false = refl
 
 -- a list is empty or has a last
-last-or-none : (l : List ℕ) → (l ≡ []) ⊎ ((j : List ℕ) × (z : ℕ) × (l ≡ j ++ z ∷ []))
+pub last-or-none : (l : List ℕ) → (l ≡ []) ⊎ ((j : List ℕ) × (z : ℕ) × (l ≡ j ++ z ∷ []))
 last-or-none [] = inl refl
 last-or-none (c ∷ l) = inr (⊎-elim (λ e. ([], c, ap (λ (x : List ℕ). c ∷ x) e)) (λ e. (c ∷ e .0, e .1, ap (λ (x : List ℕ). c ∷ x) (e .2))) (last-or-none l))
 

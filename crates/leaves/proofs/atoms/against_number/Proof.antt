@@ -3,7 +3,6 @@ use mathlib.Core.Path.{ap, _∙_}
 use Prim.Native.Nat.{ℕ}
 use Rattle.grammar.specs.inner.Table.{relationOf}
 use Rattle.meaning.specs.inner.Truth.{relate}
-use Rattle.leaves.specs.laws.Span.{spans-ext}
 use borrow.Author.Needs.{needs}
 use Rattle.leaves.proofs.atoms.against_number.Statement.{statement}
 use Rattle.leaves.proofs.atoms.against_number.Tie as tie
@@ -14,14 +13,10 @@ field-at-requires c κs = c .before .pre
 relates-requires : tie.Need-relates-requires
 relates-requires c κs = search needs
 
-all-if-requires : tie.Need-all-if-requires
-all-if-requires c κs = search needs
-
 returns : tie.Need-returns
 returns c =
-    let s = c .before .before .before .before in
-    spans-ext _ _ _
-    (λ n h. c .before .relates .ensures ∙ ap (λ (x : ℕ). relate (relationOf (s .args .relation)) x (s .args .k)) (c .before .before .field-at .ensures .0)) (c .all-if .ensures)
+    let s = c .before .before .before in
+    λ n. c .relates .ensures ∙ ap (λ (x : ℕ). relate (relationOf (s .args .relation)) x (s .args .k)) (c .before .field-at .ensures .0)
 
 pub against-number-spec : {M : Type 1} → statement M
-against-number-spec = tie.close (tie.spec field-at-requires relates-requires all-if-requires returns)
+against-number-spec = tie.close (tie.spec field-at-requires relates-requires returns)

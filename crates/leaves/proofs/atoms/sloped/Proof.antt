@@ -3,7 +3,6 @@ use mathlib.Core.Path.{ap, _∙_}
 use Prim.Native.Nat.{ℕ}
 use Rattle.meaning.specs.inner.Truth.{codedAt}
 use Rattle.meaning.specs.inner.Coded.{coded}
-use Rattle.leaves.specs.laws.Span.{spans-ext}
 use lib.Dec.{eqb}
 use Rattle.recording.specs.Reading.{Curve}
 use Rattle.meaning.specs.inner.Coded.{codedSlope}
@@ -17,15 +16,11 @@ curve-requires c κs = search needs
 slope-at-requires : tie.Need-slope-at-requires
 slope-at-requires c κs = let s = c .before .before in (s .pre .0, s .pre .1, c .curve .ensures .0)
 
-all-if-requires : tie.Need-all-if-requires
-all-if-requires c κs = search needs
-
 returns : tie.Need-returns
 returns c =
-    let s = c .before .before .before .before in
-    spans-ext _ _ _
-    (λ n h. ap (λ (x : ℕ). eqb x (s .args .slope)) (c .before .slope-at .ensures
-    ∙ ap (λ (k : Curve). codedSlope k (codedAt (coded (s .args .rec .now)) (s .args .i))) (c .before .before .curve .ensures .1))) (c .all-if .ensures)
+    let s = c .before .before .before in
+    ap (λ (x : ℕ). eqb x (s .args .slope)) (c .slope-at .ensures
+    ∙ ap (λ (k : Curve). codedSlope k (codedAt (coded (s .args .rec .now)) (s .args .i))) (c .before .curve .ensures .1))
 
 pub sloped-spec : {M : Type 1} → statement M
-sloped-spec = tie.close (tie.spec curve-requires slope-at-requires all-if-requires returns)
+sloped-spec = tie.close (tie.spec curve-requires slope-at-requires returns)

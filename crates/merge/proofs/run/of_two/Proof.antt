@@ -16,27 +16,27 @@ unknown-requires-2 c κs = search needs
 returns-2 : tie.Need-returns-2
 returns-2 c = not-known _ _ _ _ (c .unknown2 .ensures)
 
-shared-slice-read-of-runs : tie.Need-shared-slice-read-of-runs
-shared-slice-read-of-runs c = search needs
+shared-slice-read-shared : tie.Need-shared-slice-read-shared
+shared-slice-read-shared c = search needs
 
-shared-slice-read-of-runs-2 : tie.Need-shared-slice-read-of-runs-2
-shared-slice-read-of-runs-2 c = search needs
+shared-slice-read-shared-2 : tie.Need-shared-slice-read-shared-2
+shared-slice-read-shared-2 c = search needs
 
-shared-slice-read-of-runs-3 : tie.Need-shared-slice-read-of-runs-3
-shared-slice-read-of-runs-3 c = search needs
+shared-slice-read-shared-3 : tie.Need-shared-slice-read-shared-3
+shared-slice-read-shared-3 c = search needs
 
-shared-slice-read-of-runs-4 : tie.Need-shared-slice-read-of-runs-4
-shared-slice-read-of-runs-4 c = search needs
+shared-slice-read-shared-4 : tie.Need-shared-slice-read-shared-4
+shared-slice-read-shared-4 c = search needs
 
-of-runs-requires : tie.Need-of-runs-requires
-of-runs-requires c κs =
+shared-requires : tie.Need-shared-requires
+shared-requires c κs =
     let s = c .before .before .before .before .before .before .before .before in
     (two-ascend (s .args .a .now) (s .pre .0) (c .before .before .before .before .before .if1 .left), two-ascend (s .args .b .now) (s .pre .1) (c .before .before .before .before .if2 .left))
 
 returns-3 : tie.Need-returns-3
 returns-3 c =
     let g = c .before .before .before .before .before .before .before .before .before .args in
-    of-cuts _ (g .a .now) (g .b .now) _ (c .before .before .before .before .before .before .if1 .left) (c .before .before .before .before .before .if2 .left) (c .of-runs .ensures)
+    of-cuts _ (g .a .now) (g .b .now) _ (c .before .before .before .before .before .before .if1 .left) (c .before .before .before .before .before .if2 .left) (c .shared .ensures)
 
 pub of-two-spec : {M : Type 1} → statement M
 of-two-spec =
@@ -46,9 +46,9 @@ of-two-spec =
     returns
     unknown-requires-2
     returns-2
-    shared-slice-read-of-runs
-    shared-slice-read-of-runs-2
-    shared-slice-read-of-runs-3
-    shared-slice-read-of-runs-4
-    of-runs-requires
+    shared-slice-read-shared
+    shared-slice-read-shared-2
+    shared-slice-read-shared-3
+    shared-slice-read-shared-4
+    shared-requires
     returns-3)

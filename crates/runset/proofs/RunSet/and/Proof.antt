@@ -17,8 +17,8 @@ cuts-of-requires c κs = search needs
 cuts-of-requires-2 : tie.Need-cuts-of-requires-2
 cuts-of-requires-2 c κs = search needs
 
-combine-requires : tie.Need-combine-requires
-combine-requires c κs =
+intersect-requires : tie.Need-intersect-requires
+intersect-requires c κs =
     let s = c .before .before .before .before .before .before in
     let a = sym (c .before .before .cuts-of .ensures) in
     let b = sym (c .before .cuts-of2 .ensures) in (
@@ -34,8 +34,8 @@ same-length c = search needs
 
 returns : tie.Need-returns
 unfolding member
-returns c = makes-lists _&&_ _ _ (c .before .before .before .before .before .cuts-of .ensures) (c .before .before .before .before .cuts-of2 .ensures) (c .before .before .combine .ensures)
+returns c = makes-lists _&&_ _ _ (c .before .before .before .before .before .cuts-of .ensures) (c .before .before .before .before .cuts-of2 .ensures) (c .before .before .intersect .ensures)
 
 pub and-spec : {M : Type 1} → statement M
 and-spec =
-    tie.close (tie.spec cuts-of-requires cuts-of-requires-2 combine-requires same-length returns)
+    tie.close (tie.spec cuts-of-requires cuts-of-requires-2 intersect-requires same-length returns)

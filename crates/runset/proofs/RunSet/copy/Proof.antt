@@ -1,93 +1,54 @@
--- Cut by cut: the first i are the same.
-use Prim.Native.Nat.{ℕ, _-_, _≤_}
+-- The cuts, and their number.
+use Prim.Native.Nat.{ℕ, _+_, _*_, _≤_}
 use mathlib.Core.Path.{_≡_, refl, sym, ap, _∙_}
+use mathlib.Core.List.{List, _++_}
 use native.Mathlib.Omega.{arith}
-use lib.ListN.{length, getD, take, set, length-set}
-use lib.Seq.{getD-set-same, take-set-le}
-use Rattle.runs.specs.Set.{cutsOf, member}
-use Rattle.runs.specs.laws.Set.{held, cuts-length, one-more}
+use lib.ListN.{length, take, drop, set, length-set}
+use lib.Seq.{take-append-seam, take-set-le, getD-set-same}
+use Rattle.runs.specs.Runs.{mostRuns}
+use Rattle.runs.specs.Set.{slotWords, cutsOf, member, Valid, Holds}
+use Rattle.runs.specs.laws.Set.{held, cuts-length}
 use borrow.Author.Needs.{needs}
 use Rattle.runset.proofs.RunSet.copy.Statement.{statement}
 use Rattle.runset.proofs.RunSet.copy.Tie as tie
 
-abbrev Inv-loop : tie.InvT-loop
-Inv-loop a set₀ n i₀ set i = (i ≤ n) × (length set ≡ length set₀) × (take i set ≡ take i a)
+short : (a k : List ℕ) → Valid a → k ≡ cutsOf a → length k ≤ 2 * mostRuns
+short a k v e = omega (arith, ap length e ∙ cuts-length a v, v .few)
 
-abbrev μ-loop : tie.MeasureT-loop
-μ-loop a set₀ n i₀ set i = n - i
+copied : (a old k p : List ℕ) → Valid a → k ≡ cutsOf a → length p ≡ slotWords → p ≡ take 0 old ++ (k ++ drop (0 + length k) old) → Holds (member a) (set p (2 * mostRuns) (length k))
+unfolding member
+copied a old k p v e size is =
+    let n = ap length e in
+    held (cutsOf a) (set p (2 * mostRuns) (length k)) (v .canonical) (omega (arith, short a k v e)) (length-set p (2 * mostRuns) (length k) ∙ size)
+    (getD-set-same p (2 * mostRuns) (length k) 0 (omega arith) ∙ n)
+    (ap (λ (i : ℕ). take i (set p (2 * mostRuns) (length k))) (sym n) ∙ take-set-le (length k) p (2 * mostRuns) (length k) (short a k v e) ∙ ap (take (length k)) is ∙ take-append-seam k (drop (0 + length k) old) ∙ e)
+    (member a) (λ w h. refl)
 
-cuts-in-requires : tie.Need-cuts-in-requires Inv-loop μ-loop
-cuts-in-requires c κs = search needs
+cuts-of-requires : tie.Need-cuts-of-requires
+cuts-of-requires c κs = search needs
 
-loop-holds : tie.Need-loop-holds Inv-loop μ-loop
-loop-holds c = (omega arith, refl, refl)
+copy-requires : tie.Need-copy-requires
+copy-requires c κs = let s = c .before .before .before .before in omega (arith, short (s .args .a .now) _ (s .pre .0) (c .before .cuts-of .ensures), s .pre .1)
 
-mul-set : tie.Need-mul-set Inv-loop μ-loop
-mul-set c = let s = c .before .before .before .before .before in omega (arith, c .loop-test .taken, c .before .before .cuts-in .ensures, s .pre .0 .few, s .pre .0 .size)
+cast-set : tie.Need-cast-set
+cast-set c = let s = c .before .before .before .before .before .before .before in omega (arith, short (s .args .a .now) _ (s .pre .0) (c .before .before .before .before .cuts-of .ensures))
 
-shared-slice-read-set : tie.Need-shared-slice-read-set Inv-loop μ-loop
-shared-slice-read-set c = let s = c .before .before .before .before .before .before in omega (arith, c .before .loop-test .taken, c .before .before .before .cuts-in .ensures, s .pre .0 .few, s .pre .0 .size)
+slice-write-set : tie.Need-slice-write-set
+slice-write-set c = search needs
 
-mul-set-2 : tie.Need-mul-set-2 Inv-loop μ-loop
-mul-set-2 c = let s = c .before .before .before .before .before .before in omega (arith, c .before .loop-test .taken, c .before .before .before .cuts-in .ensures, s .pre .0 .few, s .pre .0 .size)
-
-slice-write-set : tie.Need-slice-write-set Inv-loop μ-loop
-slice-write-set c = let s = c .before .before .before .before .before .before in omega (arith, c .before .loop-test .taken, c .before .before .before .cuts-in .ensures, s .pre .0 .few, s .pre .1, c .before .before .loop .inv .1)
-
-add-i : tie.Need-add-i Inv-loop μ-loop
-add-i c = search needs
-
-loop-less : tie.Need-loop-less Inv-loop μ-loop
-loop-less c = search needs
-
-loop-again : tie.Need-loop-again Inv-loop μ-loop
-loop-again c =
-    let s = c .before .before .before .before .before .before in
-    let l = c .before .before .loop in
-    let a = s .args .a .now in
-    let n = c .before .before .before .cuts-in .ensures in
-    let t = c .before .loop-test .taken in
-    (omega arith, length-set (l .set) (l .i) (getD a (l .i) 0) ∙ l .inv .1, one-more a (l .set) (l .i) (omega (arith, s .pre .0 .few, s .pre .0 .size)) (omega (arith, l .inv .1, s .pre .0 .few, s .pre .1)) (l .inv .2))
-
-cast-set : tie.Need-cast-set Inv-loop μ-loop
-cast-set c = let s = c .before .before .before .before .before in omega (arith, c .before .before .cuts-in .ensures, s .pre .0 .few)
-
-slice-write-set-2 : tie.Need-slice-write-set-2 Inv-loop μ-loop
-slice-write-set-2 c = omega (arith, c .before .loop .inv .1, c .before .before .before .before .before .pre .1)
-
-same-length : tie.Need-same-length Inv-loop μ-loop
+same-length : tie.Need-same-length
 same-length c = search needs
 
-returns : tie.Need-returns Inv-loop μ-loop
-unfolding member
-returns c =
-    let s = c .before .before .before .before .before in
-    let l = c .before .loop in
-    let a = s .args .a .now in
-    let n = c .before .before .cuts-in .ensures in
-    let w : length (cutsOf a) ≡ c .before .before .cuts-in .result = cuts-length a (s .pre .0) ∙ sym n in
-    let e : l .i ≡ length (cutsOf a) = omega (arith, c .loop-test .left, l .inv .0) in
-    held (cutsOf a) _ (s .pre .0 .canonical) (omega (arith, s .pre .0 .few)) (length-set (l .set) 512 _ ∙ l .inv .1 ∙ s .pre .1)
-    (getD-set-same (l .set) 512 _ 0 (omega (arith, l .inv .1, s .pre .1)) ∙ sym w)
-    (take-set-le (length (cutsOf a)) (l .set) 512 _ (omega (arith, s .pre .0 .few))
-    ∙ ap (λ (j : ℕ). take j (l .set)) (sym e) ∙ l .inv .2 ∙ ap (λ (j : ℕ). take j a) (e ∙ w ∙ n)) (member a) (λ v h. refl)
+returns : tie.Need-returns
+returns c = let s = c .before .before .before .before .before .before .before in copied (s .args .a .now) (s .args .set .now) _ _ (s .pre .0) (c .before .before .before .before .cuts-of .ensures) (c .before .set .given ∙ s .pre .1) (c .before .before .copy .ensures)
 
 pub copy-spec : {M : Type 1} → statement M
 copy-spec =
     tie.close
     (tie.spec
-    Inv-loop
-    μ-loop
-    cuts-in-requires
-    loop-holds
-    mul-set
-    shared-slice-read-set
-    mul-set-2
-    slice-write-set
-    add-i
-    loop-less
-    loop-again
+    cuts-of-requires
+    copy-requires
     cast-set
-    slice-write-set-2
+    slice-write-set
     same-length
     returns)
