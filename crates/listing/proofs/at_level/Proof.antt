@@ -2,7 +2,7 @@
 use native.Mathlib.Omega.{arith}
 use mathlib.Core.Path.{refl, sym, _∙_}
 use mathlib.Core.List.{List}
-use Prim.Native.Nat.{ℕ}
+use Prim.Native.Nat.{ℕ, _*_}
 use lib.ListN.{length}
 use borrow.Author.Tests.{ltb-true, ltb-false}
 use Rattle.number.specs.Axis.{whole}
@@ -26,13 +26,13 @@ returns c =
     let s = c .before .before .before .before in
     let a = s .args in
     of-short (a .summary .now) (a .curve) (a .out .now) (a .n) (s .pre .0) (whole (a .index)) (many (a .summary .now) (a .n) (a .curve) (a .index)) refl
-    (ltb-true (length (a .out .now)) _ (sym (c .before .too-short .ensures) ∙ c .if1 .taken))
+    (ltb-true (length (a .out .now)) (4 * many (a .summary .now) (a .n) (a .curve) (a .index)) (sym (c .before .too-short .ensures) ∙ c .if1 .taken))
 
 put-numbers-requires : tie.Need-put-numbers-requires
 put-numbers-requires c κs =
     let s = c .before .before .before .before .before in
     let a = s .args in
-    let room = ltb-false (length (a .out .now)) _ (sym (c .before .before .too-short .ensures) ∙ c .before .if1 .left) in
+    let room = ltb-false (length (a .out .now)) (4 * many (a .summary .now) (a .n) (a .curve) (a .index)) (sym (c .before .before .too-short .ensures) ∙ c .before .if1 .left) in
     (omega (arith, s .pre .0), s .pre .1, s .pre .2, s .pre .3, room)
 
 mul-size : tie.Need-mul-size
@@ -52,7 +52,7 @@ returns-2 c =
     let s = t .before .before .before .before in
     let a = s .args in
     let w = c .before .before .put-numbers in
-    let room = ltb-false (length (a .out .now)) _ (sym (t .before .too-short .ensures) ∙ t .if1 .left) in
+    let room = ltb-false (length (a .out .now)) (4 * many (a .summary .now) (a .n) (a .curve) (a .index)) (sym (t .before .too-short .ensures) ∙ t .if1 .left) in
     of-written (a .summary .now) (a .curve) (a .out .now) (a .n) (s .pre .0) (whole (a .index)) (w .result) (w .ensures .0) (omega (arith, w .ensures .0, room))
     (w .last .1 .1 .1 .1 .0) (w .ensures .1)
 
