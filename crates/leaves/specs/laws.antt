@@ -3,4 +3,5 @@ pub mod Code
 pub mod Span
 pub mod Extreme
 pub mod Stamp
+pub mod Differing
 pub mod Leaf

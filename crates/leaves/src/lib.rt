@@ -9,18 +9,28 @@ ghost use mathlib.Core.Path.{_≡_};
 ghost use Prim.Native.Nat.{ℕ, _≤_, _<_};
 ghost use lib.ListN.{length};
 ghost use Rattle.runs.specs.Set.{slotWords, Holds, Makes};
-ghost use Rattle.meaning.specs.inner.Truth.{val};
+ghost use Rattle.meaning.specs.inner.Truth.{val, asksTooMany, ofListed};
 ghost use Rattle.grammar.specs.inner.Kinds.{COMPARE-V, HIGH, PEAKS, DOSE, AMPL, GAPS};
 ghost use Rattle.meaning.specs.inner.Coded.{coded};
 ghost use Rattle.leaves.specs.inner.Leaf.{leafOf, timesOf, Asked};
 ghost use Rattle.grammar.specs.Syntax.{listed};
 ghost use Rattle.tops.specs.inner.Events.{eventOf, Known};
 ghost use Rattle.leaves.specs.inner.Span.{Spans};
+ghost use Rattle.leaves.specs.inner.Differing.{Differs};
+ghost use Rattle.recording.specs.Recording.{Accepted};
+ghost use Rattle.grammar.specs.inner.Table.{unaryFrom};
 use grammar::Row;
 use grammar::kinds;
 use runset::RunSet;
 use span::Span;
 use tops::Event;
+
+// The set of differences between tops: there are too many tops, or it has too many runs, or it is made.
+pub enum Differing {
+    TooManyTops,
+    TooManyRuns,
+    Made,
+}
 
 // Whether an atom without v holds.
 fn holds(rec: &[u8], i: usize, row: Row) -> bool
@@ -122,10 +132,10 @@ fn added(rec: &[u8], i: usize, row: Row, set: &mut [u32]) -> bool
     times::additions(rec, row.number, set)
 }
 
-// Leaves on differences between tops: `gaps`, `steps` and `lag`.
-fn apart(rec: &[u8], i: usize, row: Row, set: &mut [u32]) -> bool
-    requires { ⌜ Asked (now rec) i row × (GAPS ≤ row .kind) × (length (now set) ≡ slotWords) ⌝ }
-    ensures { λ r. ⌜ Makes (λ v. val (coded (now (rec .entry))) v (leafOf row) i) (now (set .exit)) r ⌝ }
+// LEAVES ON DIFFERENCES BETWEEN TOPS: `gaps`, `steps` and `lag`. Says whether there are too many tops, and else whether the set has too many runs.
+pub fn between_tops(rec: &[u8], row: Row, set: &mut [u32]) -> Differing
+    requires { ⌜ Accepted (now rec) × (GAPS ≤ row .kind) × (row .kind < unaryFrom) × (length (now set) ≡ slotWords) ⌝ }
+    ensures { λ r. ⌜ ((i : ℕ) → Differs (ofListed (asksTooMany (coded (now (rec .entry)))) (leafOf row)) (λ v. val (coded (now (rec .entry))) v (leafOf row) i) (now (set .exit)) r) ⌝ }
 {
     let kind = row.kind;
     if kind == kinds::LAG {
@@ -136,6 +146,19 @@ fn apart(rec: &[u8], i: usize, row: Row, set: &mut [u32]) -> bool
         return times::gaps(rec, curve, set);
     }
     times::steps(rec, curve, set)
+}
+
+// The same where the tops are few enough.
+fn apart(rec: &[u8], i: usize, row: Row, set: &mut [u32]) -> bool
+    requires { ⌜ Asked (now rec) i row × (GAPS ≤ row .kind) × (length (now set) ≡ slotWords) ⌝ }
+    ensures { λ r. ⌜ Makes (λ v. val (coded (now (rec .entry))) v (leafOf row) i) (now (set .exit)) r ⌝ }
+{
+    let found = between_tops(rec, row, set);
+    match found {
+        Differing::TooManyTops => true,
+        Differing::TooManyRuns => true,
+        Differing::Made => false,
+    }
 }
 
 // THE SET OF A LEAF at record i. Says whether it has too many runs.

@@ -6,13 +6,16 @@ ghost use Rattle.recording.specs.Recording.{Accepted};
 ghost use Rattle.grammar.specs.Syntax as asks;
 ghost use Rattle.meaning.specs.inner.Coded.{codedTimes, codedAdditions};
 ghost use Rattle.tops.specs.Tops.{mostTops};
-ghost use Rattle.meaning.specs.inner.Truth.{truth};
+ghost use Rattle.meaning.specs.inner.Truth.{truth, manyTops};
+ghost use mathlib.Core.Bool.{_||_};
 ghost use Rattle.runs.specs.Set.{slotWords, Makes};
 ghost use Rattle.meaning.specs.inner.Coded.{coded};
 ghost use Rattle.leaves.specs.inner.Leaf.{timesOf};
 ghost use Rattle.leaves.specs.inner.Stamps.{Early, Shifted, Stamped};
+ghost use Rattle.leaves.specs.inner.Differing.{FewStamped, judgedRuns, Differs};
 ghost use Rattle.recording.specs.Reading.{a-top, curveOf};
 ghost use Rattle.tops.specs.inner.Events.{eventOf, Known};
+use crate::Differing;
 use tops::Event;
 
 // The most events of one kind: half of the records.
@@ -70,31 +73,65 @@ pub fn additions(rec: &[u8], k: u32, set: &mut [u32]) -> bool
     differences::moments(&times[..n], set)
 }
 
-pub fn gaps(rec: &[u8], curve: usize, set: &mut [u32]) -> bool
-    requires { ⌜ Accepted (now rec) × (curve < 2) × (length (codedTimes (a-top (curveOf curve)) (coded (now rec))) ≤ mostTops) × (length (now set) ≡ slotWords) ⌝ }
-    ensures { λ r. ⌜ Makes (λ v. truth (asks.gaps (curveOf curve)) (coded (now (rec .entry))) v) (now (set .exit)) r ⌝ }
+// The times of the tops of a curve, as indices, where they are few enough for differences; how many there are.
+fn top_stamps(rec: &[u8], curve: usize, times: &mut [u32]) -> usize
+    requires { ⌜ Accepted (now rec) × (curve < 2) × (length (now times) ≡ mostTops) ⌝ }
+    ensures { λ r. ⌜ FewStamped (codedTimes (a-top (curveOf curve)) (coded (now (rec .entry)))) r (now (times .exit)) ⌝ }
 {
-    let mut times = [0u32; tops::MOST_TOPS];
-    let n = stamps(rec, Event::Top(curve), &mut times);
-    differences::gaps(&times[..n], set)
+    let n = tops::event_times(rec, rec.len() / 16, Event::Top(curve), times);
+    if n <= tops::MOST_TOPS {
+        shift(times, n);
+    }
+    n
 }
 
-pub fn steps(rec: &[u8], curve: usize, set: &mut [u32]) -> bool
-    requires { ⌜ Accepted (now rec) × (curve < 2) × (length (codedTimes (a-top (curveOf curve)) (coded (now rec))) ≤ mostTops) × (length (now set) ≡ slotWords) ⌝ }
-    ensures { λ r. ⌜ Makes (λ v. truth (asks.steps (curveOf curve)) (coded (now (rec .entry))) v) (now (set .exit)) r ⌝ }
+// A set that is made, by whether it has too many runs.
+fn made(over: bool) -> Differing
+    ensures { λ r. ⌜ r ≡ judgedRuns over ⌝ }
 {
-    let mut times = [0u32; tops::MOST_TOPS];
-    let n = stamps(rec, Event::Top(curve), &mut times);
-    differences::steps(&times[..n], set)
+    if over {
+        return Differing::TooManyRuns;
+    }
+    Differing::Made
 }
 
-pub fn lag(rec: &[u8], set: &mut [u32]) -> bool
-    requires { ⌜ Accepted (now rec) × (length (codedTimes (a-top (curveOf 0)) (coded (now rec))) ≤ mostTops) × (length (codedTimes (a-top (curveOf 1)) (coded (now rec))) ≤ mostTops) × (length (now set) ≡ slotWords) ⌝ }
-    ensures { λ r. ⌜ Makes (λ v. truth asks.lag (coded (now (rec .entry))) v) (now (set .exit)) r ⌝ }
+pub fn gaps(rec: &[u8], curve: usize, set: &mut [u32]) -> Differing
+    requires { ⌜ Accepted (now rec) × (curve < 2) × (length (now set) ≡ slotWords) ⌝ }
+    ensures { λ r. ⌜ Differs (manyTops (curveOf curve) (coded (now (rec .entry)))) (λ v. truth (asks.gaps (curveOf curve)) (coded (now (rec .entry))) v) (now (set .exit)) r ⌝ }
+{
+    let mut times = [0u32; tops::MOST_TOPS];
+    let n = top_stamps(rec, curve, &mut times);
+    if tops::MOST_TOPS < n {
+        return Differing::TooManyTops;
+    }
+    made(differences::gaps(&times[..n], set))
+}
+
+pub fn steps(rec: &[u8], curve: usize, set: &mut [u32]) -> Differing
+    requires { ⌜ Accepted (now rec) × (curve < 2) × (length (now set) ≡ slotWords) ⌝ }
+    ensures { λ r. ⌜ Differs (manyTops (curveOf curve) (coded (now (rec .entry)))) (λ v. truth (asks.steps (curveOf curve)) (coded (now (rec .entry))) v) (now (set .exit)) r ⌝ }
+{
+    let mut times = [0u32; tops::MOST_TOPS];
+    let n = top_stamps(rec, curve, &mut times);
+    if tops::MOST_TOPS < n {
+        return Differing::TooManyTops;
+    }
+    made(differences::steps(&times[..n], set))
+}
+
+pub fn lag(rec: &[u8], set: &mut [u32]) -> Differing
+    requires { ⌜ Accepted (now rec) × (length (now set) ≡ slotWords) ⌝ }
+    ensures { λ r. ⌜ Differs (manyTops (curveOf 0) (coded (now (rec .entry))) || manyTops (curveOf 1) (coded (now (rec .entry)))) (λ v. truth asks.lag (coded (now (rec .entry))) v) (now (set .exit)) r ⌝ }
 {
     let mut a = [0u32; tops::MOST_TOPS];
+    let m = top_stamps(rec, 0, &mut a);
+    if tops::MOST_TOPS < m {
+        return Differing::TooManyTops;
+    }
     let mut b = [0u32; tops::MOST_TOPS];
-    let m = stamps(rec, Event::Top(0), &mut a);
-    let n = stamps(rec, Event::Top(1), &mut b);
-    differences::lags(&a[..m], &b[..n], set)
+    let n = top_stamps(rec, 1, &mut b);
+    if tops::MOST_TOPS < n {
+        return Differing::TooManyTops;
+    }
+    made(differences::lags(&a[..m], &b[..n], set))
 }

@@ -3,6 +3,7 @@ ghost use mathlib.Core.Path.{_≡_};
 ghost use mathlib.Core.Bool.{true, cond};
 ghost use mathlib.Core.List.{[], _∷_, _++_};
 ghost use Prim.Native.Nat.{_+_, _*_, _≤_, _<_};
+ghost use lib.Dec.{ltb};
 ghost use lib.ListN.{length, take, drop};
 ghost use Rattle.number.specs.Axis.{axis, whole};
 ghost use Rattle.number.specs.Words.{wordBytes, wordsBytes};
@@ -75,10 +76,21 @@ fn put_number(out: &mut [u8], k: usize, i: usize, wanted: bool) -> usize
     k
 }
 
-// Writes the numbers of those of the first n entries that say so, and leaves the bytes behind them.
-fn put_numbers(summary: &[u8], n: usize, curve: usize, index: u32, out: &mut [u8])
+// Whether an output of `room` bytes is too short for the numbers of those of the first n entries that say so. They are counted only where it has no room for all n.
+fn too_short(summary: &[u8], n: usize, curve: usize, index: u32, room: usize) -> bool
+    requires { ⌜ (n * entryBytes ≤ length (now summary)) × (n ≤ mostEntries) × (curve < 2) × (index < axis) ⌝ }
+    ensures { λ r. ⌜ r ≡ ltb room (4 * length (numbersTo (curveOf curve) (whole index) (now (summary .entry)) n)) ⌝ }
+{
+    if 4 * n <= room {
+        return false;
+    }
+    room < 4 * count_entries(summary, n, curve, index)
+}
+
+// Writes the numbers of those of the first n entries that say so, leaves the bytes behind them, and says how many they are.
+fn put_numbers(summary: &[u8], n: usize, curve: usize, index: u32, out: &mut [u8]) -> usize
     requires { ⌜ (n * entryBytes ≤ length (now summary)) × (n ≤ mostEntries) × (curve < 2) × (index < axis) × (4 * length (numbersTo (curveOf curve) (whole index) (now summary) n) ≤ length (now out)) ⌝ }
-    ensures { λ r. ⌜ now (out .exit) ≡ wordsBytes (numbersTo (curveOf curve) (whole index) (now (summary .entry)) n) ++ drop (4 * length (numbersTo (curveOf curve) (whole index) (now (summary .entry)) n)) (now (out .entry)) ⌝ }
+    ensures { λ r. ⌜ (r ≡ length (numbersTo (curveOf curve) (whole index) (now (summary .entry)) n)) × (now (out .exit) ≡ wordsBytes (numbersTo (curveOf curve) (whole index) (now (summary .entry)) n) ++ drop (4 * length (numbersTo (curveOf curve) (whole index) (now (summary .entry)) n)) (now (out .entry))) ⌝ }
 {
     let mut i: usize = 0;
     let mut k: usize = 0;
@@ -87,6 +99,7 @@ fn put_numbers(summary: &[u8], n: usize, curve: usize, index: u32, out: &mut [u8
         k = put_number(out, k, i, wanted);
         i += 1;
     }
+    k
 }
 
 // The find call for a level on the axis, given as its index: the listing, or 10.
@@ -94,11 +107,10 @@ fn at_level(summary: &[u8], n: usize, curve: usize, index: u32, out: &mut [u8]) 
     requires { ⌜ (length (now summary) ≡ n * entryBytes) × (n ≤ mostEntries) × (curve < 2) × (index < axis) ⌝ }
     ensures { λ r. ⌜ Answers (judged (outputLine (length (now (out .entry))) (listing (curveOf curve) (whole index) (now (summary .entry))) ∷ []) (listing (curveOf curve) (whole index) (now (summary .entry)))) (now (out .entry)) r (now (out .exit)) ⌝ }
 {
-    let size = 4 * count_entries(summary, n, curve, index);
-    if out.len() < size {
+    if too_short(summary, n, curve, index, out.len()) {
         return Written::Refused(Refusal::ShortOutput);
     }
-    put_numbers(summary, n, curve, index, out);
+    let size = 4 * put_numbers(summary, n, curve, index, out);
     Written::Bytes(size)
 }
 

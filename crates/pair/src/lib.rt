@@ -8,6 +8,7 @@ ghost use Rattle.number.specs.Axis.{whole};
 ghost use Rattle.recording.specs.Recording.{readings, Accepted};
 ghost use Rattle.refusal.specs.Outcome.{result, judged};
 ghost use Rattle.pair.specs.Pair.{pairsOf, firstApart, firstPair, tooManyTops, acceptedLines, outcomeOf, pairOf};
+ghost use Rattle.pair.specs.inner.Search.{Rising};
 ghost use Rattle.recording.specs.Reading.{curveOf};
 
 // The answer of the pair call.
@@ -26,19 +27,22 @@ fn wide(x: u32) -> u64
     x as u64
 }
 
-// The first two of the first n times that differ by g: the later one is sought for each earlier one in turn.
+// The first two of the first n times, which ascend, that differ by g: the later one is sought for each earlier one in turn, from where the search before it ended.
 fn search(times: &[u32], n: usize, g: u32) -> TopPair
-    requires { ⌜ n ≤ length (now times) ⌝ }
+    requires { ⌜ (n ≤ length (now times)) × (0 < g) × Rising (now times) n ⌝ }
     ensures { λ r. ⌜ outcomeOf r ≡ result (firstApart (pos g) (pairsOf (take n (now (times .entry))))) ⌝ }
 {
     let mut i: usize = 0;
     let mut j: usize = 0;
     'earlier: while i < n {
         let sought = wide(times[i]) + wide(g);
-        j = i + 1;
         while j < n {
-            if wide(times[j]) == sought {
+            let later = wide(times[j]);
+            if later == sought {
                 break 'earlier;
+            }
+            if sought < later {
+                break;
             }
             j += 1;
         }

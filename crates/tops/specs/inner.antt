@@ -1,2 +1,3 @@
 pub mod Events
 pub mod Scan
+pub mod Turning

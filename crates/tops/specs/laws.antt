@@ -1,4 +1,5 @@
 pub mod Scan
+pub mod Turning
 pub mod Turn
 pub mod Pick
 pub mod Event

@@ -58,6 +58,10 @@ map-at f [] k h = absurd (not-suc-le-zero h)
 map-at f (x ∷ l) zero h = refl
 map-at f (x ∷ l) (suc k) h = map-at f l k (le-of-suc-le-suc h)
 
+-- as many are found as there are times
+pub scan-count : (raw found old new : List ℕ) (count : ℕ) → found ≡ map indexOf raw → Scanned raw old count new → count ≡ length found
+scan-count raw found old new count is s = s .counted ∙ sym (ap length is ∙ length-map raw indexOf)
+
 -- a scan for the times `raw`, whose indices are `found`
 module _ (raw found old new : List ℕ) (count : ℕ) (is : found ≡ map indexOf raw) (s : Scanned raw old count new) (fits : length found ≤ length old) where
   room : length raw ≤ length old

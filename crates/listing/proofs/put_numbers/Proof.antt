@@ -6,7 +6,7 @@ use native.Mathlib.Omega.{arith}
 use Rattle.number.specs.Axis.{whole}
 use Rattle.recording.specs.Reading.{curveOf}
 use Rattle.listing.specs.Listing.{entryAt, reaches}
-use Rattle.listing.specs.laws.Listing.{Writing, writing-start, writing-room, writing-turn, writing-end, count-few}
+use Rattle.listing.specs.laws.Listing.{Writing, writing-start, writing-room, writing-turn, writing-end, counting-end, count-few}
 use borrow.Author.Needs.{needs}
 use Rattle.listing.proofs.put_numbers.Statement.{statement}
 use Rattle.listing.proofs.put_numbers.Tie as tie
@@ -62,7 +62,10 @@ returns : tie.Need-returns Inv-loop μ-loop
 returns c =
     let l = c .before .loop in
     let a = c .before .before .before .before .args in
-    writing-end (says (a .summary .now) (a .curve) (a .index)) (a .n) (a .out .now) (l .i) (l .k) (l .out) (c .loop-test .left) (l .inv)
+    let p = says (a .summary .now) (a .curve) (a .index) in (
+      counting-end p (a .n) (l .i) (l .k) (c .loop-test .left) (l .inv .counting),
+      writing-end p (a .n) (a .out .now) (l .i) (l .k) (l .out) (c .loop-test .left) (l .inv),
+    )
 
 pub put-numbers-spec : {M : Type 1} → statement M
 put-numbers-spec =

@@ -11,15 +11,18 @@ use Rattle.number.specs.Axis.{origin, whole}
 use Rattle.refusal.specs.Outcome.{result, judged, NoneMeets}
 use Rattle.refusal.specs.declared.Refusal.the-variants.{TooManyTops}
 use Rattle.recording.specs.Condition.{pick}
-use Rattle.recording.specs.Reading.{top, curveOf}
+use Rattle.recording.specs.Reading.{top, curveOf, a-top}
 use Rattle.recording.specs.laws.Outcome.{judged-none}
 use Rattle.recording.specs.Recording.{chunks, reading, readings, Accepted}
 use Rattle.tops.specs.Tops.{topTimes, mostTops}
 use Rattle.tops.specs.inner.Scan.{Scanned}
+use Rattle.tops.specs.laws.Event.{event-times-ascend}
+use Rattle.tops.specs.laws.Pick.{Ascending}
+use Rattle.pair.specs.inner.Search.{Rising}
 use Rattle.pair.specs.declared.TopPair.{TopPair}
 use Rattle.pair.specs.declared.TopPair.the-variants as answer
 use Rattle.pair.specs.Pair.{Given, pairsOf, firstApart, firstPair, tooManyTops, outcomeOf}
-use Rattle.pair.specs.laws.Pair.{scanned-all, count-tops, none-for-low, whole-below, whole-above, answer-first}
+use Rattle.pair.specs.laws.Pair.{scanned-all, rising-taken, count-tops, none-for-low, whole-below, whole-above, answer-first}
 use Rattle.pair.proofs.tops_apart.Statement.{statement}
 use Rattle.pair.proofs.tops_apart.Tie as tie
 
@@ -48,13 +51,18 @@ module _ (bytes : List ℕ) (n curve index : ℕ) (a : Accepted bytes) (e : n �
         ap result (sym (none-for-low (curveOf curve) bytes a (whole index) (whole-below index k)))
         ∙ sym (judged-none (tooManyTops bytes curve ∷ []) given few)
 
+    all : take count new ≡ topTimes (curveOf curve) (readings bytes)
+    all = scanned-all (topTimes (curveOf curve) (readings bytes)) old new count scanned (let t = scanned .counted in omega arith)
+
+    rising : count ≤ length new → Rising new count
+    rising fits = rising-taken new count fits (subst Ascending (sym all) (event-times-ascend (a-top (curveOf curve)) bytes a))
+
     above : origin < index → (p : TopPair) → outcomeOf p ≡ result (firstApart (pos (index - origin)) (pairsOf (take count new)))
         → outcomeOf p ≡ judged (tooManyTops bytes curve ∷ []) given
     unfolding firstPair
     above k p f =
         f
-        ∙ ap₂ (λ (g : ℤ) (ts : List ℕ). result (firstApart g (pairsOf ts))) (sym (whole-above index (omega arith)))
-        (scanned-all (topTimes (curveOf curve) (readings bytes)) old new count scanned (let t = scanned .counted in omega arith))
+        ∙ ap₂ (λ (g : ℤ) (ts : List ℕ). result (firstApart g (pairsOf ts))) (sym (whole-above index (omega arith))) all
         ∙ sym (judged-none (tooManyTops bytes curve ∷ []) given few)
 
 slice-aggregate-event-times : tie.Need-slice-aggregate-event-times
@@ -85,7 +93,15 @@ sub-search : tie.Need-sub-search
 sub-search c = search needs
 
 search-requires : tie.Need-search-requires
-search-requires c κs = search needs
+search-requires c κs =
+    let t = c .before .before .before .before in
+    let h = t .before .before .before in
+    let args = h .args in
+    let new : List ℕ = t .event-times .last .1 .1 .1 .0 in
+    let up : t .event-times .result ≤ length new → Rising new (t .event-times .result) =
+    rising (args .rec .now) (args .n) (args .curve) (args .index) (h .pre .0) (h .pre .1) _ refl (t .event-times .result) new (t .event-times .ensures)
+    (c .before .before .if1 .left) in
+    (search needs, search needs, λ a b h l. up (search needs) a b h (search needs))
 
 returns-3 : tie.Need-returns-3
 returns-3 c =

@@ -6,6 +6,10 @@ use mathlib.Core.List.{List}
 use lib.IntN.{ℤ, subℕ}
 use lib.ListN.{length, getD}
 
+-- the first n times ascend
+abbrev pub Rising : List ℕ → ℕ → Type 0
+Rising times n = (a b : ℕ) → a < b → b < n → getD times a 0 < getD times b 0
+
 -- the time at place j is g more than the one at the earlier place i
 pub record Apart (times : List ℕ) (g : ℤ) (i j : ℕ) : Type 0 where
   pub order : i < j

@@ -7,7 +7,7 @@ use mathlib.Core.Bool.{true}
 use mathlib.Core.Logic.{_⊎_, inl, inr, ⊎-elim}
 use mathlib.Core.List.{List, [], _∷_, _++_}
 use lib.ListN.{length, getD, take, drop, length-map, List·getD-map}
-use lib.Seq.{take-all, take-append-seam}
+use lib.Seq.{take-all, take-append-seam, getD-take, length-take-le}
 use lib.IntN.{ℤ, pos, negsuc, subℕ}
 use lib.Signed.{leZ}
 use borrow.Author.Tests.{leb-true}
@@ -28,7 +28,7 @@ use Rattle.tops.specs.laws.Pick.{Ascending, pickedIndex, index-rising, index-fo
 use Rattle.pair.specs.declared.TopPair.{TopPair}
 use Rattle.pair.specs.declared.TopPair.the-variants as answer
 use Rattle.pair.specs.Pair.{timeAt, Fits, Given, times, none, pairsOf, firstApart, firstPair, OfTops, Foremost, FirstFitting, outcomeOf}
-use Rattle.pair.specs.inner.Search.{Apart, FirstApart}
+use Rattle.pair.specs.inner.Search.{Rising, Apart, FirstApart}
 use Rattle.pair.specs.laws.Search.{none-apart, first-apart, decide-apart, pos-negsuc}
 
 -- ---- the times of tops
@@ -39,6 +39,15 @@ scanned-all found old new count s h =
     let c = s .counted in
     ap₂ (λ (n : ℕ) (l : List ℕ). take n l) c (s .held ∙ ap (λ (l : List ℕ). l ++ drop (length found) old) (take-all (length old) found (omega arith)))
     ∙ take-append-seam found (drop (length found) old)
+
+-- the first n ascend
+pub rising-taken : (ts : List ℕ) (n : ℕ) → n ≤ length ts → Ascending (take n ts) → Rising ts n
+rising-taken ts n fits asc a b h l =
+    let k = length-take-le n ts fits in
+    let x = getD-take n ts a 0 (omega arith) in
+    let y = getD-take n ts b 0 l in
+    let up = asc a b h (omega arith) in
+    omega arith
 
 -- ---- places among them, and records
 

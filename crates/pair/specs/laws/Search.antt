@@ -1,7 +1,7 @@
 -- The first pair by the order of the list is the first by places.
 use Prim.Native.Nat.{ℕ, zero, suc, _+_, _-_, _≤_, _<_, suc-le-suc}
 use native.Mathlib.Omega.{arith}
-use native.Mathlib.Nat.{le-of-suc-le-suc}
+use native.Mathlib.Nat.{le-of-suc-le-suc, eq-or-lt-of-le}
 use mathlib.Core.Path.{_≡_, refl, sym, ap, ap₂, _∙_}
 use mathlib.Core.Bool.{Bool, true, false, cond, true≢false}
 use mathlib.Core.Logic.{_⊎_, inl, inr, ⊎-elim}
@@ -11,10 +11,11 @@ use lib.IntN.{ℤ, pos, negsuc, subℕ}
 use lib.ListN.{length, getD, take}
 use lib.Seq.{getD-take, length-take-le}
 use borrow.Author.Tests.{eqb-true, eq-eqb}
+use borrow.Author.Count.{below-more}
 use Rattle.number.specs.laws.Order.{less-or-not}
 use Rattle.targets.specs.laws.Target.{sub-above, sub-below}
 use Rattle.pair.specs.Pair.{Given, times, none, Two, with, pairsOf, eqZ, firstApart}
-use Rattle.pair.specs.inner.Search.{Apart, Spaced, FirstApart}
+use Rattle.pair.specs.inner.Search.{Rising, Apart, Spaced, FirstApart}
 
 pub eqZ-true : (x y : ℤ) → eqZ x y ≡ true → x ≡ y
 eqZ-true (pos m) (pos n) e = ap pos (eqb-true m n e)
@@ -192,3 +193,34 @@ module _ (ts : List ℕ) (n : ℕ) (fits : n ≤ length ts) (g : ℕ) where
 
   pub found-none : ((a b : ℕ) → Spaced ts n g a b → ⊥) → firstApart (pos g) (pairsOf (take n ts)) ≡ none
   found-none h = none-apart (pos g) (take n ts) (λ a b p. h a b (apart-spaced a b p))
+
+-- ---- one walk with two places
+
+-- each time before place j is less than g more than any from place i on
+abbrev pub Low : List ℕ → ℕ → ℕ → ℕ → ℕ → Type 0
+Low ts n g i j = (b : ℕ) → b < j → (a : ℕ) → i ≤ a → a < n → getD ts b 0 < getD ts a 0 + g
+
+module _ (ts : List ℕ) (n : ℕ) (rising : Rising ts n) (g : ℕ) where
+  -- a later place has no lesser time
+  no-less : (a b : ℕ) → a ≤ b → b < n → getD ts a 0 ≤ getD ts b 0
+  no-less a b h m = ⊎-elim (λ (e : a ≡ b). let q = ap (λ (k : ℕ). getD ts k 0) e in omega arith) (λ (l : a < b). let q = rising a b l m in omega arith) (eq-or-lt-of-le h)
+
+  pub low-more : (i j : ℕ) → Low ts n g i j → getD ts j 0 < getD ts i 0 + g → Low ts n g i (j + 1)
+  low-more i j low h = below-more _ j low (λ a m l. let q = no-less i a m l in omega arith)
+
+  pub low-next : (i j : ℕ) → Low ts n g i j → Low ts n g (i + 1) j
+  low-next i j low b h a m l = low b h a (omega arith) l
+
+  -- no later time is sought where all before j are low and the one at j is more
+  pub none-later : (i j : ℕ) → i < n → Low ts n g i j → (j < n → getD ts i 0 + g < getD ts j 0) → (b : ℕ) → Spaced ts n g i b → ⊥
+  none-later i j l low more b s =
+      let e = s .sum in
+      let m = s .inside in
+      ⊎-elim (λ (h : b < j). let q = low b h i (omega arith) l in omega arith) (λ (h : j ≤ b). let q = no-less j b h m in let z = more (omega arith) in omega arith) (less-or-not b j)
+
+  -- the place of the time that is sought lies behind, and no place before it fits
+  pub behind-earlier : (i j : ℕ) → i < n → 0 < g → getD ts i 0 + g ≡ getD ts j 0 → i < j
+  behind-earlier i j l p e = ⊎-elim (λ (h : i < j). h) (λ (h : j ≤ i). let q = no-less j i h l in omega arith) (less-or-not i j)
+
+  pub none-before : (i j : ℕ) → i < n → Low ts n g i j → (b : ℕ) → b < j → Spaced ts n g i b → ⊥
+  none-before i j l low b h s = let e = s .sum in let q = low b h i (omega arith) l in omega arith

@@ -6,6 +6,7 @@ use lib.ListN.{length}
 use Rattle.refusal.specs.Outcome.{Outcome, refused, judged, NoneMeets}
 use Rattle.refusal.specs.Numbers.{numberOf, placeOf}
 use Rattle.refusal.specs.declared.Refusal.{Refusal}
+use Rattle.refusal.specs.declared.Refusal.the-variants.{TooManyTops, TooManyRuns}
 use Rattle.recording.specs.Recording.{Accepted}
 use Rattle.runs.specs.Set.{Holds}
 use Rattle.grammar.specs.Syntax.{Text}
@@ -14,6 +15,8 @@ use Rattle.grammar.specs.inner.Table.{Falling}
 use Rattle.parser.specs.inner.Rows.{Laid}
 use Rattle.meaning.specs.inner.Coded.{coded}
 use Rattle.meaning.specs.inner.Truth.{val}
+use Rattle.leaves.specs.declared.Differing.{Differing}
+use Rattle.leaves.specs.declared.Differing.the-variants as found
 use Rattle.evaluation.specs.inner.Evaluation.{textOf}
 use Rattle.question.specs.Question.{setLines}
 use Rattle.question.specs.declared.answered.Verdict.{Verdict}
@@ -28,6 +31,12 @@ pub record Answerable (table : List ℕ) (count : ℕ) (bytes : List ℕ) : Type
   pub rows : 4 * count ≤ length table
   pub some : 0 < count
   pub few : count ≤ mostNodes
+
+-- what differences between tops come to
+abbrev pub verdictOf : Differing → Verdict
+verdictOf found.TooManyTops = Refused TooManyTops
+verdictOf found.TooManyRuns = Refused TooManyRuns
+verdictOf found.Made = Fine
 
 -- refused by 9 or 8 exactly as the table has it; else the set of the numbers with which the text is true at the first record
 pub record Gives (bytes : List ℕ) (p : Text) (words : List ℕ) (verdict : Verdict) : Type 0 where

@@ -11,13 +11,22 @@ use Rattle.refusal.specs.Numbers.{numberOf, placeOf}
 use Rattle.refusal.specs.declared.Refusal.{Refusal}
 use Rattle.refusal.specs.declared.Refusal.the-variants.{TooManyTops, TooManyRuns}
 use Rattle.recording.specs.laws.Outcome.{judged-first, judged-skip}
-use Rattle.runs.specs.Set.{Holds}
+use Rattle.runs.specs.Set.{Holds, Makes}
 use Rattle.grammar.specs.Syntax.{Text}
+use Rattle.grammar.specs.declared.Row.{Row}
+use Rattle.grammar.specs.inner.Kinds.{NOT}
+use Rattle.grammar.specs.inner.Table.{rowAt}
 use Rattle.meaning.specs.inner.Coded.{coded}
-use Rattle.meaning.specs.inner.Truth.{val, refused8, refused9}
-use Rattle.evaluation.specs.inner.Evaluation.{textOf, Asking}
+use Rattle.meaning.specs.inner.Truth.{val, refused8, refused9, asksTooMany, ofListed}
+use Rattle.leaves.specs.inner.Leaf.{leafOf}
+use Rattle.leaves.specs.inner.Differing.{Differs}
+use Rattle.leaves.specs.declared.Differing.{Differing}
+use Rattle.leaves.specs.declared.Differing.the-variants as found
+use Rattle.evaluation.specs.inner.Evaluation.{textOf, Asking, Evaluates}
+use Rattle.evaluation.specs.laws.Alone.{alone-evaluates}
 use Rattle.question.specs.Question.{setLines}
-use Rattle.question.specs.inner.Answered.{Answerable, Gives}
+use Rattle.question.specs.inner.Answered.{Answerable, verdictOf, Gives}
+use Rattle.question.specs.laws.Limit.{asks-leaf}
 use Rattle.question.specs.declared.answered.Verdict.{Verdict}
 use Rattle.question.specs.declared.answered.Verdict.the-variants.{Fine, Refused}
 
@@ -68,3 +77,26 @@ module _ (table : List ℕ) (count : ℕ) (bytes : List ℕ) (ready : Answerable
         record-there = ready .record-there;
         few-tops = nine;
       }
+
+  -- a text that is one question on differences between tops
+  module _ (root : Row) (is-root : root ≡ rowAt table (count - 1)) (leaf : root .kind < NOT) (words : List ℕ) where
+    abbrev asked : Bool
+    asked = ofListed (asksTooMany (coded bytes)) (leafOf root)
+
+    nine-is : (x : Bool) → asked ≡ x → refused9 (coded bytes) (textOf table count) ≡ x
+    nine-is x e =
+        let some = ready .some in
+        sym (asks-leaf table count bytes (ready .falling) (count - 1) (omega arith) root is-root leaf x (sym e))
+
+    evaluates : asked ≡ false → (over : Bool) → Makes (λ v. val (coded bytes) v (leafOf root) 0) words over → Evaluates (coded bytes) (textOf table count) words over
+    evaluates few over m = alone-evaluates table count bytes (asking (nine-is false few)) root is-root leaf words over m
+
+    gives-found : (d : Differing) → Differs asked (λ v. val (coded bytes) v (leafOf root) 0) words d → Gives bytes (textOf table count) words (verdictOf d)
+    gives-found found.TooManyTops h = gives-nine bytes (textOf table count) words (nine-is true h)
+    gives-found found.TooManyRuns h = gives-eight bytes (textOf table count) words (nine-is false (h .0)) (sym (evaluates (h .0) true (h .1) .flag))
+    gives-found found.Made h =
+        let e = evaluates (h .0) false (h .1) in
+        gives-set bytes (textOf table count) words (nine-is false (h .0)) (sym (e .flag)) (e .holds refl)
+
+    pub gives-alone : (d : Differing) → Differs asked (λ v. val (coded bytes) v (leafOf root) 0) words d → (v : Verdict) → v ≡ verdictOf d → Gives bytes (textOf table count) words v
+    gives-alone d h v e = subst (Gives bytes (textOf table count) words) (sym e) (gives-found d h)

@@ -1,71 +1,104 @@
 -- The differences of each top of B with each top of A.
-use mathlib.Core.Path.{refl, sym, subst}
-use Prim.Native.Nat.{ℕ}
+use mathlib.Core.Path.{sym, subst}
+use mathlib.Core.Bool.{_||_}
 use mathlib.Core.List.{List}
+use Prim.Native.Nat.{ℕ}
 use lib.Seq.{length-take-le}
-use Rattle.meaning.specs.inner.Truth.{truth}
+use Rattle.number.specs.laws.Boolean.{or-left, or-right, or-none}
+use Rattle.recording.specs.Reading.{A, B, a-top}
+use Rattle.grammar.specs.Syntax as asks
+use Rattle.meaning.specs.inner.Coded.{coded, codedTimes}
+use Rattle.meaning.specs.inner.Truth.{truth, manyTops}
 use Rattle.runs.specs.laws.Set.{makes-of}
 use Rattle.differences.specs.inner.Times.{Times, lagsOf}
 use Rattle.leaves.specs.laws.Stamp.{event-times}
+use Rattle.leaves.specs.laws.Differing.{differs-made, too-many, few-enough}
 use borrow.Author.Needs.{needs}
 use Rattle.leaves.proofs.times.lag.Statement.{statement}
 use Rattle.leaves.proofs.times.lag.Tie as tie
-use Rattle.recording.specs.Reading.{A, B, a-top, curveOf}
 
-slice-aggregate-stamps : tie.Need-slice-aggregate-stamps
-slice-aggregate-stamps c = search needs
+slice-aggregate-top-stamps : tie.Need-slice-aggregate-top-stamps
+slice-aggregate-top-stamps c = search needs
 
-stamps-requires : tie.Need-stamps-requires
-stamps-requires c κs = search needs
+top-stamps-requires : tie.Need-top-stamps-requires
+top-stamps-requires c κs = search needs
 
-slice-aggregate-stamps-2 : tie.Need-slice-aggregate-stamps-2
-slice-aggregate-stamps-2 c = search needs
+returns : tie.Need-returns
+returns c =
+    let t = c .before .before .top-stamps in
+    let r = coded (c .before .before .before .before .before .before .args .rec .now) in
+    or-left (manyTops A r) (manyTops B r) (too-many (codedTimes (a-top A) r) (t .result) (t .ensures .counted) (c .if1 .taken))
 
-stamps-requires-2 : tie.Need-stamps-requires-2
-stamps-requires-2 c κs = search needs
+slice-aggregate-top-stamps-2 : tie.Need-slice-aggregate-top-stamps-2
+slice-aggregate-top-stamps-2 c = search needs
+
+top-stamps-requires-2 : tie.Need-top-stamps-requires-2
+top-stamps-requires-2 c κs = search needs
+
+returns-2 : tie.Need-returns-2
+returns-2 c =
+    let t = c .before .before .top-stamps2 in
+    let r = coded (c .before .before .before .before .before .before .before .before .before .before .args .rec .now) in
+    or-right (manyTops A r) (manyTops B r) (too-many (codedTimes (a-top B) r) (t .result) (t .ensures .counted) (c .if2 .taken))
 
 array-share-prefix-a : tie.Need-array-share-prefix-a
 array-share-prefix-a c = search needs
 
 slice-aggregate-lags : tie.Need-slice-aggregate-lags
-slice-aggregate-lags c = let t = c .before .before .before .before .before .stamps in sym (length-take-le (t .result) (t .last .1 .1 .0) (t .ensures .room))
+slice-aggregate-lags c = let t = c .before .before .before .before .before .before .before .top-stamps in sym (length-take-le (t .result) (t .last .1 .1 .0) (t .ensures .stamped (c .before .before .before .before .before .if1 .left) .room))
 
 array-share-prefix-b : tie.Need-array-share-prefix-b
 array-share-prefix-b c = search needs
 
 slice-aggregate-lags-2 : tie.Need-slice-aggregate-lags-2
-slice-aggregate-lags-2 c = let t = c .before .before .before .stamps2 in sym (length-take-le (t .result) (t .last .1 .1 .0) (t .ensures .room))
+slice-aggregate-lags-2 c = let t = c .before .before .before .before .top-stamps2 in sym (length-take-le (t .result) (t .last .1 .1 .0) (t .ensures .stamped (c .before .before .if2 .left) .room))
 
 lags-requires : tie.Need-lags-requires
 lags-requires c κs =
-    let s = c .before .before .before .before .before .before .before .before .before .before .before in (
-      subst Times (sym (c .before .before .before .before .before .before .before .stamps .ensures .stamps)) (event-times (s .args .rec .now) (s .pre .0) (a-top A)),
-      subst Times (sym (c .before .before .before .before .stamps2 .ensures .stamps)) (event-times (s .args .rec .now) (s .pre .0) (a-top B)),
-      s .pre .3,
+    let s = c .before .before .before .before .before .before .before .before .before .before .before .before .before in
+    let t = c .before .before .before .before .before .before .before .before .before .top-stamps in
+    let u = c .before .before .before .before .before .top-stamps2 in (
+      subst Times (sym (t .ensures .stamped (c .before .before .before .before .before .before .before .if1 .left) .stamps)) (event-times (s .args .rec .now) (s .pre .0) (a-top A)),
+      subst Times (sym (u .ensures .stamped (c .before .before .before .if2 .left) .stamps)) (event-times (s .args .rec .now) (s .pre .0) (a-top B)),
+      s .pre .1,
     )
+
+made-requires : tie.Need-made-requires
+made-requires c κs = search needs
 
 same-length : tie.Need-same-length
 same-length c = search needs
 
-returns : tie.Need-returns
+returns-3 : tie.Need-returns-3
 unfolding truth
-returns c =
-    let a = c .before .before .before .before .before .before .before .before .before .before .stamps .ensures .stamps in
-    let b = c .before .before .before .before .before .before .before .stamps2 .ensures .stamps in
-    makes-of (λ (l : List ℕ × List ℕ). lagsOf (l .0) (l .1)) _ _ (λ i. (a i, b i)) (c .before .before .lags .ensures)
+returns-3 c =
+    let t = c .before .before .before .before .before .before .before .before .before .before .before .before .before .top-stamps in
+    let u = c .before .before .before .before .before .before .before .before .before .top-stamps2 in
+    let few = c .before .before .before .before .before .before .before .before .before .before .before .if1 .left in
+    let few-b = c .before .before .before .before .before .before .before .if2 .left in
+    let w = c .before .before .before .lags in
+    let r = coded (c .before .before .before .before .before .before .before .before .before .before .before .before .before .before .before .before .before .args .rec .now) in
+    let a = t .ensures .stamped few .stamps in
+    let b = u .ensures .stamped few-b .stamps in
+    differs-made (manyTops A r || manyTops B r) (λ v. truth asks.lag r v) _
+    (or-none (few-enough (codedTimes (a-top A) r) (t .result) (t .ensures .counted) few) (few-enough (codedTimes (a-top B) r) (u .result) (u .ensures .counted) few-b)) (w .result)
+    (makes-of (λ (l : List ℕ × List ℕ). lagsOf (l .0) (l .1)) _ _ (λ i. (a i, b i)) (w .ensures)) (c .made .result) (c .made .ensures)
 
 pub lag-spec : {M : Type 1} → statement M
 lag-spec =
     tie.close
     (tie.spec
-    slice-aggregate-stamps
-    stamps-requires
-    slice-aggregate-stamps-2
-    stamps-requires-2
+    slice-aggregate-top-stamps
+    top-stamps-requires
+    returns
+    slice-aggregate-top-stamps-2
+    top-stamps-requires-2
+    returns-2
     array-share-prefix-a
     slice-aggregate-lags
     array-share-prefix-b
     slice-aggregate-lags-2
     lags-requires
+    made-requires
     same-length
-    returns)
+    returns-3)
