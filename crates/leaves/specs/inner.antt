@@ -1,4 +1,4 @@
 pub mod Leaf
 pub mod Span
 pub mod Extreme
-pub mod Stamps
+pub mod Indices

@@ -2,5 +2,5 @@ pub mod Coding
 pub mod Code
 pub mod Span
 pub mod Extreme
-pub mod Stamp
+pub mod Indices
 pub mod Leaf

@@ -10,7 +10,7 @@ ghost use Rattle.meaning.specs.inner.Truth.{truth};
 ghost use Rattle.runs.specs.Set.{slotWords, Makes};
 ghost use Rattle.meaning.specs.inner.Coded.{coded};
 ghost use Rattle.leaves.specs.inner.Leaf.{timesOf};
-ghost use Rattle.leaves.specs.inner.Stamps.{Early, Shifted, Stamped};
+ghost use Rattle.leaves.specs.inner.Indices.{Early, Shifted, Indexed};
 ghost use Rattle.recording.specs.Reading.{a-top, curveOf};
 ghost use Rattle.tops.specs.inner.Events.{eventOf, Known};
 use tops::Event;
@@ -31,9 +31,9 @@ fn shift(times: &mut [u32], n: usize)
 }
 
 // The times of an event, as indices.
-fn stamps(rec: &[u8], event: Event, times: &mut [u32]) -> usize
+fn event_indices(rec: &[u8], event: Event, times: &mut [u32]) -> usize
     requires { ⌜ Accepted (now rec) × Known event × (length (codedTimes (eventOf event) (coded (now rec))) ≤ length (now times)) ⌝ }
-    ensures { λ r. ⌜ Stamped (codedTimes (eventOf event) (coded (now (rec .entry)))) r (now (times .exit)) ⌝ }
+    ensures { λ r. ⌜ Indexed (codedTimes (eventOf event) (coded (now (rec .entry)))) r (now (times .exit)) ⌝ }
 {
     let n = tops::event_times(rec, rec.len() / 16, event, times);
     shift(times, n);
@@ -46,14 +46,14 @@ pub fn events(rec: &[u8], event: Event, set: &mut [u32]) -> bool
     ensures { λ r. ⌜ Makes (λ v. truth (timesOf (eventOf event)) (coded (now (rec .entry))) v) (now (set .exit)) r ⌝ }
 {
     let mut times = [0u32; MOST_EVENTS];
-    let n = stamps(rec, event, &mut times);
-    differences::moments(&times[..n], set)
+    let n = event_indices(rec, event, &mut times);
+    differences::time_set(&times[..n], set)
 }
 
 // The times of the additions of a pigment, as indices.
-fn addition_stamps(rec: &[u8], k: u32, times: &mut [u32]) -> usize
+fn addition_indices(rec: &[u8], k: u32, times: &mut [u32]) -> usize
     requires { ⌜ Accepted (now rec) × (length (codedAdditions k (coded (now rec))) ≤ length (now times)) ⌝ }
-    ensures { λ r. ⌜ Stamped (codedAdditions k (coded (now (rec .entry)))) r (now (times .exit)) ⌝ }
+    ensures { λ r. ⌜ Indexed (codedAdditions k (coded (now (rec .entry)))) r (now (times .exit)) ⌝ }
 {
     let n = tops::addition_times(rec, rec.len() / 16, k, times);
     shift(times, n);
@@ -66,8 +66,8 @@ pub fn additions(rec: &[u8], k: u32, set: &mut [u32]) -> bool
     ensures { λ r. ⌜ Makes (λ v. truth (asks.dose k) (coded (now (rec .entry))) v) (now (set .exit)) r ⌝ }
 {
     let mut times = [0u32; recording::MOST_RECORDS];
-    let n = addition_stamps(rec, k, &mut times);
-    differences::moments(&times[..n], set)
+    let n = addition_indices(rec, k, &mut times);
+    differences::time_set(&times[..n], set)
 }
 
 pub fn gaps(rec: &[u8], curve: usize, set: &mut [u32]) -> bool
@@ -75,7 +75,7 @@ pub fn gaps(rec: &[u8], curve: usize, set: &mut [u32]) -> bool
     ensures { λ r. ⌜ Makes (λ v. truth (asks.gaps (curveOf curve)) (coded (now (rec .entry))) v) (now (set .exit)) r ⌝ }
 {
     let mut times = [0u32; tops::MOST_TOPS];
-    let n = stamps(rec, Event::Top(curve), &mut times);
+    let n = event_indices(rec, Event::Top(curve), &mut times);
     differences::gaps(&times[..n], set)
 }
 
@@ -84,7 +84,7 @@ pub fn steps(rec: &[u8], curve: usize, set: &mut [u32]) -> bool
     ensures { λ r. ⌜ Makes (λ v. truth (asks.steps (curveOf curve)) (coded (now (rec .entry))) v) (now (set .exit)) r ⌝ }
 {
     let mut times = [0u32; tops::MOST_TOPS];
-    let n = stamps(rec, Event::Top(curve), &mut times);
+    let n = event_indices(rec, Event::Top(curve), &mut times);
     differences::steps(&times[..n], set)
 }
 
@@ -94,7 +94,7 @@ pub fn lag(rec: &[u8], set: &mut [u32]) -> bool
 {
     let mut a = [0u32; tops::MOST_TOPS];
     let mut b = [0u32; tops::MOST_TOPS];
-    let m = stamps(rec, Event::Top(0), &mut a);
-    let n = stamps(rec, Event::Top(1), &mut b);
+    let m = event_indices(rec, Event::Top(0), &mut a);
+    let n = event_indices(rec, Event::Top(1), &mut b);
     differences::lags(&a[..m], &b[..n], set)
 }

@@ -13,7 +13,7 @@ use Rattle.recording.specs.Condition.{pick, holdsAt}
 use Rattle.recording.specs.Reading.{Reading, Curve, top, nothing, curveOf}
 use Rattle.recording.specs.Recording.{records, readings, recordingLines, noRecord}
 use Rattle.tops.specs.Tops.{recordedTime, topTimes, mostTops}
-use Rattle.targets.specs.Target.{offAxis}
+use Rattle.targets.specs.Target.{badTarget}
 use Rattle.pair.specs.declared.TopPair.{TopPair}
 use Rattle.pair.specs.declared.TopPair.the-variants as answer
 
@@ -85,10 +85,6 @@ FirstFitting r c g (times t u) = OfTops r c g t u × Foremost r c g t u
 FirstFitting r c g none = (i j : ℕ) → Fits r c g i j → ⊥
 
 -- ---- the call
-
--- the target is off the axis, or the curve number is not 0 or 1
-abbrev pub badTarget : ℕ → ℤ → Line
-badTarget curve g = line 12 (ltb 1 curve || offAxis g)
 
 -- the curve has more than 256 tops
 abbrev pub tooManyTops : List ℕ → ℕ → Line

@@ -6,7 +6,6 @@ use Rattle.meaning.specs.inner.Truth.{val}
 use Rattle.meaning.specs.inner.Coded.{coded}
 use Rattle.leaves.specs.inner.Span.{Spans}
 use Rattle.leaves.specs.laws.Leaf.{by-kind, past, just}
-use borrow.Author.Needs.{needs}
 use Rattle.leaves.proofs.atom.Statement.{statement}
 use Rattle.leaves.proofs.atom.Tie as tie
 

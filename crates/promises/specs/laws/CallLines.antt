@@ -22,7 +22,7 @@ use Rattle.recording.specs.Recording.{records, readings, recordingLines, noReco
 use Rattle.recording.specs.Output.{outputLine}
 use Rattle.runs.specs.Runs.{runCount, setBytes}
 use Rattle.runs.specs.laws.Runs.{runCount-ext, setBytes-length}
-use Rattle.targets.specs.Target.{offAxis}
+use Rattle.targets.specs.Target.{offAxis, badTarget}
 use Rattle.tops.specs.Tops.{mostTops}
 use Rattle.grammar.specs.Syntax.{Text}
 use Rattle.grammar.specs.Grammar.{ReadsWhole}
@@ -50,7 +50,7 @@ use Rattle.sheet.specs.Sheet.{mostLines, noPigment}
 use Rattle.sheet.specs.Call.{sheetLines, orderLines}
 use Rattle.lab.specs.Lab.{LaboratoryText, textLine, curveLine, askerLines, labAskingLines}
 use Rattle.lab.specs.laws.Laboratory.{clear-laboratory, laboratory-clear}
-use Rattle.pair.specs.Pair.{badTarget, tooManyTops}
+use Rattle.pair.specs.Pair.{tooManyTops}
 use Rattle.report.specs.Report.{Naming, mostBatches, reportBytes, namingLines}
 use Rattle.entry.specs.Entry.{entryBytes}
 use Rattle.entry.specs.inner.Reckoned.{reckoned}

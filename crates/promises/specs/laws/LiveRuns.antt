@@ -23,7 +23,7 @@ use Rattle.thin.specs.laws.Selection.{kept-selection}
 use Rattle.reply.specs.Reply.{packed, numberIn, unpacked, InHalf}
 use Rattle.reply.specs.laws.Unpacked.{number-result, number-refused, unpacked-packed}
 use Rattle.live_state.specs.State.{liveBytes, noState, started}
-use Rattle.live.specs.History.{History, begun, Step, add, save, restore, after, told, answer, keptRun, keptOf}
+use Rattle.live.specs.History.{History, begun, Step, add, save, restore, after, told, stepAnswer, keptRun, keptOf}
 use Rattle.live.specs.Call.{StepTold, startOf, startAfter, stepOf, stateAfter, heldOf, Behind}
 use Rattle.live.specs.laws.Step.{start-by}
 use Rattle.live.specs.laws.InHalf.{step-in-half, step-numbered, start-in-half, start-numbered, held-in-half, held-numbered}

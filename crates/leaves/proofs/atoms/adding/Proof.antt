@@ -1,7 +1,7 @@
 -- One test for all numbers.
 use mathlib.Core.Path.{sym, ap, _∙_}
 use Rattle.recording.specs.Recording.{rawAt, reading}
-use Rattle.meaning.specs.inner.Coded.{Coded, codedAdds}
+use Rattle.meaning.specs.inner.Coded.{codedAdds}
 use Rattle.meaning.specs.laws.Listed.{adds-code}
 use Rattle.leaves.specs.laws.Coding.{coded-at, record-inside}
 use Rattle.leaves.specs.laws.Span.{spans-ext}

@@ -1,45 +1,43 @@
 -- The differences of neighbouring tops.
-use mathlib.Core.Path.{refl, sym, subst}
-use Prim.Native.Nat.{ℕ}
-use mathlib.Core.List.{List}
+use mathlib.Core.Path.{sym, subst}
 use lib.Seq.{length-take-le}
 use Rattle.meaning.specs.inner.Truth.{truth}
 use Rattle.runs.specs.laws.Set.{makes-of}
 use Rattle.differences.specs.inner.Times.{Times, stepsOf}
-use Rattle.leaves.specs.laws.Stamp.{event-times}
+use Rattle.leaves.specs.laws.Indices.{event-times}
 use borrow.Author.Needs.{needs}
 use Rattle.leaves.proofs.times.steps.Statement.{statement}
 use Rattle.leaves.proofs.times.steps.Tie as tie
-use Rattle.recording.specs.Reading.{A, B, a-top, curveOf}
+use Rattle.recording.specs.Reading.{a-top, curveOf}
 
-slice-aggregate-stamps : tie.Need-slice-aggregate-stamps
-slice-aggregate-stamps c = search needs
+slice-aggregate-event-indices : tie.Need-slice-aggregate-event-indices
+slice-aggregate-event-indices c = search needs
 
-stamps-requires : tie.Need-stamps-requires
-stamps-requires c κs = search needs
+event-indices-requires : tie.Need-event-indices-requires
+event-indices-requires c κs = search needs
 
 array-share-prefix-times : tie.Need-array-share-prefix-times
 array-share-prefix-times c = search needs
 
 slice-aggregate-steps : tie.Need-slice-aggregate-steps
-slice-aggregate-steps c = let t = c .before .before .stamps in sym (length-take-le (t .result) (t .last .1 .1 .0) (t .ensures .room))
+slice-aggregate-steps c = let t = c .before .before .event-indices in sym (length-take-le (t .result) (t .last .1 .1 .0) (t .ensures .room))
 
 steps-requires : tie.Need-steps-requires
-steps-requires c κs = let s = c .before .before .before .before .before .before .before in (subst Times (sym (c .before .before .before .stamps .ensures .stamps)) (event-times (s .args .rec .now) (s .pre .0) (a-top (curveOf (s .args .curve)))), s .pre .3)
+steps-requires c κs = let s = c .before .before .before .before .before .before .before in (subst Times (sym (c .before .before .before .event-indices .ensures .indices)) (event-times (s .args .rec .now) (s .pre .0) (a-top (curveOf (s .args .curve)))), s .pre .3)
 
 same-length : tie.Need-same-length
 same-length c = search needs
 
 returns : tie.Need-returns
 unfolding truth
-returns c = makes-of stepsOf _ _ (c .before .before .before .before .before .before .stamps .ensures .stamps) (c .before .before .steps .ensures)
+returns c = makes-of stepsOf _ _ (c .before .before .before .before .before .before .event-indices .ensures .indices) (c .before .before .steps .ensures)
 
 pub steps-spec : {M : Type 1} → statement M
 steps-spec =
     tie.close
     (tie.spec
-    slice-aggregate-stamps
-    stamps-requires
+    slice-aggregate-event-indices
+    event-indices-requires
     array-share-prefix-times
     slice-aggregate-steps
     steps-requires
