@@ -51,7 +51,7 @@ unread = record { kept = 0; state = More }
 
 -- TURNS, from nothing kept: one behind the other, each with what the last one left, as long as there may be more
 pub data Turns (store : List ℕ) : List ℕ → Input → Type 0 where
-  begun : Turns store store unread
+  no-turn : Turns store store unread
   then : {before new : List ℕ} {r next : Input} → Turns store before r → r .state ≡ More → Turn before (r .kept) new next → Turns store new next
 
 -- A FILE, read by turns; if it can't be opened nothing is kept, and it is at its end or it failed

@@ -1,6 +1,6 @@
 // The ends of the two sets of each question: today's run, moved by e.
 ghost use mathlib.Core.Path.{_≡_};
-ghost use Prim.Native.Nat.{ℕ, _≤_, _<_, min, max};
+ghost use Prim.Native.Nat.{_≤_, _<_};
 ghost use lib.ListN.{length};
 ghost use Rattle.recording.specs.Recording.{Accepted};
 ghost use Rattle.recording.specs.Reading.{curveOf};
@@ -78,20 +78,6 @@ pub fn capafter(rec: &[u8], curve: usize, after: u32, e: u32) -> Bands
     from(today.low + e, today.low - e)
 }
 
-// The lesser of two.
-fn least(m: u32, n: u32) -> u32
-    ensures { λ r. ⌜ r ≡ min m n ⌝ }
-{
-    if m < n { m } else { n }
-}
-
-// The greater of two.
-fn greatest(m: u32, n: u32) -> u32
-    ensures { λ r. ⌜ r ≡ max m n ⌝ }
-{
-    if m < n { n } else { m }
-}
-
 // A single record spreads by nothing.
 pub fn ampl(rec: &[u8], curve: usize, e: u32) -> Bands
     requires { ⌜ Accepted (now rec) × (0 < length (coded (now rec))) × (curve < 2) × (e ≤ widest) ⌝ }
@@ -102,7 +88,7 @@ pub fn ampl(rec: &[u8], curve: usize, e: u32) -> Bands
     }
     let today = extremes::ampl(rec, curve);
     upto(
-        greatest(today.high - 2 * e, ORIGIN),
-        least(today.high + 2 * e, RunSet::HIGH),
+        number::greater(today.high - 2 * e, ORIGIN),
+        number::lesser(today.high + 2 * e, RunSet::HIGH),
     )
 }

@@ -1,7 +1,7 @@
 // The band call: what a question on extremes says of every curve within plus or minus e of a recording, and of at least one.
 ghost use mathlib.Core.Path.{_≡_};
 ghost use mathlib.Core.List.{[], _∷_};
-ghost use Prim.Native.Nat.{ℕ, _≤_, _<_};
+ghost use Prim.Native.Nat.{_≤_, _<_};
 ghost use Rattle.number.specs.Axis.{whole};
 ghost use Rattle.refusal.specs.Outcome.{judged};
 ghost use Rattle.meaning.specs.inner.Coded.{coded};

@@ -1,7 +1,7 @@
 // The degree call: how near the answered set of a question comes to a wanted number.
 ghost use mathlib.Core.Path.{_≡_};
 ghost use mathlib.Core.List.{_∷_};
-ghost use Prim.Native.Nat.{ℕ, _<_};
+ghost use Prim.Native.Nat.{_<_};
 ghost use Rattle.number.specs.Axis.{axis};
 ghost use Rattle.refusal.specs.Outcome.{result, judged};
 ghost use Rattle.runs.specs.Set.{member, Valid};

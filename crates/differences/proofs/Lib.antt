@@ -2,5 +2,5 @@ pub mod SearchLaws
 pub mod WindowLaws
 pub mod StepLaws
 pub mod GatherLaws
-pub mod MomentLaws
+pub mod TimeLaws
 pub mod GapLaws

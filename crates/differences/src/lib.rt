@@ -2,10 +2,10 @@
 // A time, like every number here, is carried as its index on the axis. Runs are found in ascending order, so that one too many is seen when it starts.
 ghost use mathlib.Core.Path.{_≡_};
 ghost use mathlib.Core.Bool.{true};
-ghost use Prim.Native.Nat.{ℕ, suc, _+_, _-_, _<_, _≤_, min};
-ghost use lib.ListN.{getD, length};
+ghost use Prim.Native.Nat.{_+_, _-_, _<_, _≤_};
+ghost use lib.ListN.{length};
 ghost use Rattle.number.specs.Axis.{origin, axis};
-ghost use Rattle.differences.specs.inner.Times.{Times, lagsOf, gapsOf, stepsOf, momentsOf};
+ghost use Rattle.differences.specs.inner.Times.{Times, lagsOf, gapsOf, stepsOf, timeSet};
 ghost use Rattle.differences.specs.inner.Search.{Least, Past, Follows, chosen, from, Better, Marked, Lead};
 ghost use Rattle.runs.specs.Set.{slotWords, Makes};
 use runset::RunSet;
@@ -17,12 +17,6 @@ const WINDOW: usize = 256;
 struct Run {
     end: u32,
     next: u32,
-}
-
-fn lower(p: u32, q: u32) -> u32
-    ensures { λ r. ⌜ r ≡ min p q ⌝ }
-{
-    if p < q { p } else { q }
 }
 
 // The index of t - s.
@@ -49,7 +43,7 @@ fn least(a: &[u32], b: &[u32], x: u32) -> u32
         if d < x {
             j += 1;
         } else {
-            best = lower(best, d);
+            best = number::lesser(best, d);
             i += 1;
         }
     }
@@ -128,11 +122,11 @@ fn past(a: &[u32], b: &[u32], x: u32) -> u32
     e
 }
 
-// The lower of best and d, where d is not under x.
+// The lesser of best and d, where d is not under x.
 fn better(best: u32, d: u32, x: u32) -> u32
     ensures { λ r. ⌜ Better best d x r ⌝ }
 {
-    if d < x { best } else { lower(best, d) }
+    if d < x { best } else { number::lesser(best, d) }
 }
 
 // The least difference of neighbours from x on, or AXIS.
@@ -246,9 +240,9 @@ pub fn steps(t: &[u32], set: &mut [u32]) -> bool
 }
 
 // `peaks` and `cross`: the times themselves.
-pub fn moments(t: &[u32], set: &mut [u32]) -> bool
+pub fn time_set(t: &[u32], set: &mut [u32]) -> bool
     requires { ⌜ Times (now t) × (length (now set) ≡ slotWords) ⌝ }
-    ensures { λ r. ⌜ Makes (momentsOf (now (t .entry))) (now (set .exit)) r ⌝ }
+    ensures { λ r. ⌜ Makes (timeSet (now (t .entry))) (now (set .exit)) r ⌝ }
 {
     RunSet::empty(set);
     let mut i: usize = 0;

@@ -6,7 +6,7 @@ pub mod slots;
 mod step;
 
 ghost use mathlib.Core.Path.{_≡_};
-ghost use mathlib.Core.Bool.{Bool, true, false};
+ghost use mathlib.Core.Bool.{true, false};
 ghost use lib.ListN.{length};
 ghost use Rattle.runs.specs.Set.{slotWords, sharedWords};
 ghost use Rattle.meaning.specs.inner.Coded.{coded};

@@ -1,7 +1,7 @@
 // One node at one record: its set goes to its slot in `own`. The sets of its children, and its own at the next record, lie in `other`; a child's at the next record lies in `own`.
 ghost use mathlib.Core.Path.{_≡_};
-ghost use mathlib.Core.Bool.{Bool, false, cond};
-ghost use Prim.Native.Nat.{ℕ, _≤_, _<_};
+ghost use mathlib.Core.Bool.{false, cond};
+ghost use Prim.Native.Nat.{_≤_, _<_};
 ghost use lib.ListN.{length};
 ghost use Rattle.runs.specs.Set.{sharedWords, member, Valid};
 ghost use Rattle.grammar.specs.Size.{mostNodes};

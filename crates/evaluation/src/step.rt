@@ -1,6 +1,6 @@
 // The set of a node at one record, from the sets of its children there and the sets of the next record; whether it has too many runs is told.
 ghost use mathlib.Core.Path.{_≡_};
-ghost use mathlib.Core.Bool.{Bool, true, false};
+ghost use mathlib.Core.Bool.{Bool, false};
 ghost use Prim.Native.Nat.{ℕ, _≤_, _<_};
 ghost use lib.ListN.{length};
 ghost use Rattle.runs.specs.Set.{slotWords, sharedWords, member, Valid, Makes};

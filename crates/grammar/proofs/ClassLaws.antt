@@ -6,10 +6,10 @@ use Prim.Native.Nat.{ℕ, zero, suc, _+_, _≤_, _<_}
 use native.Mathlib.Omega.{arith}
 use lib.Dec.{eqb}
 use borrow.Author.Tests.{eqb-true, eqb-false, ne-eqb}
+use Rattle.number.specs.laws.Boolean.{and-left, and-right}
 use Rattle.grammar.specs.declared.Class.{Class}
 use Rattle.grammar.specs.declared.Class.the-variants.{Digit, Letter, Sign, Foreign}
 use Rattle.grammar.specs.Classes.{classOf, isDigit, isLetter, isSign}
-use Rattle.grammar.specs.laws.Word.{and-left, and-right}
 use Rattle.grammar.specs.laws.Class.{number, same-number}
 
 or-right : (x y : Bool) → (x || y) ≡ true → x ≡ false → y ≡ true

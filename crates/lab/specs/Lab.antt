@@ -3,6 +3,7 @@ use Prim.Native.Nat.{ℕ}
 use mathlib.Core.List.{List, [], _∷_, _++_}
 use lib.Dec.{eqb}
 use lib.IntN.{ℤ}
+use Rattle.targets.specs.Target.{badTarget}
 use Rattle.refusal.specs.Outcome.{Outcome, Line, line, judged}
 use Rattle.recording.specs.Reading.{B, curveOf}
 use Rattle.recording.specs.Recording.{readings, recordingLines, noRecord}
@@ -14,7 +15,7 @@ use Rattle.meaning.specs.Named.{curve, Names}
 use Rattle.meaning.specs.inner.Coded.{index}
 use Rattle.question.specs.Question.{read, answer, askingLines, setLines}
 use Rattle.degree.specs.Degree.{Value, valueOf, targetLine}
-use Rattle.pair.specs.Pair.{Given, firstPair, badTarget, tooManyTops}
+use Rattle.pair.specs.Pair.{Given, firstPair, tooManyTops}
 use Rattle.marks.specs.Marks.{marksOf, marksLine}
 use Rattle.lab.specs.inner.Barred.{notForLaboratory}
 

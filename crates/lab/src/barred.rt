@@ -1,6 +1,6 @@
 // Refusal 14 of a text: a scan over its nodes.
 ghost use mathlib.Core.Path.{_≡_};
-ghost use Prim.Native.Nat.{ℕ, _*_, _≤_};
+ghost use Prim.Native.Nat.{_*_, _≤_};
 ghost use lib.ListN.{length};
 ghost use Rattle.grammar.specs.Syntax.{Text};
 ghost use Rattle.parser.specs.inner.Rows.{Laid};

@@ -1,12 +1,9 @@
 // The calls of a buyer's laboratory: question, degree and pair over A, refused by 14 where what is asked could tell of B.
 ghost use mathlib.Core.Path.{_≡_};
-ghost use mathlib.Core.List.{[], _∷_};
-ghost use Prim.Native.Nat.{ℕ, _*_, _≤_};
+ghost use Prim.Native.Nat.{_*_, _≤_};
 ghost use lib.ListN.{length};
 ghost use Rattle.refusal.specs.Outcome.{judged};
 ghost use Rattle.recording.specs.Output.{Answers};
-ghost use Rattle.recording.specs.Recording.{readings};
-ghost use Rattle.recording.specs.Reading.{curveOf};
 ghost use Rattle.grammar.specs.Size.{mostBytes};
 ghost use Rattle.grammar.specs.Syntax.{Text};
 ghost use Rattle.parser.specs.inner.Rows.{Laid};

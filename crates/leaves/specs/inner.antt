@@ -1,5 +1,5 @@
 pub mod Leaf
 pub mod Span
 pub mod Extreme
-pub mod Stamps
+pub mod Indices
 pub mod Differing

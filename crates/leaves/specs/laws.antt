@@ -2,6 +2,6 @@ pub mod Coding
 pub mod Code
 pub mod Span
 pub mod Extreme
-pub mod Stamp
+pub mod Indices
 pub mod Differing
 pub mod Leaf

@@ -28,7 +28,7 @@ pub fn slope_at(rec: &[u8], i: usize, curve: usize) -> u8
     requires { ⌜ Accepted (now rec) × (i < length (coded (now rec))) × (curve < 2) ⌝ }
     ensures { λ r. ⌜ r ≡ codedSlope (curveOf curve) (codedAt (coded (now (rec .entry))) i) ⌝ }
 {
-    recording::byte_in(rec, i, 12 + curve)
+    recording::byte_in(rec, i, recording::SLOPE_A + curve)
 }
 
 // The field with a code of a row: 0 for A, 1 for B, 2 for T.

@@ -11,8 +11,8 @@ ghost use mathlib.Core.Bool.{_||_};
 ghost use Rattle.runs.specs.Set.{slotWords, Makes};
 ghost use Rattle.meaning.specs.inner.Coded.{coded};
 ghost use Rattle.leaves.specs.inner.Leaf.{timesOf};
-ghost use Rattle.leaves.specs.inner.Stamps.{Early, Shifted, Stamped};
-ghost use Rattle.leaves.specs.inner.Differing.{FewStamped, judgedRuns, Differs};
+ghost use Rattle.leaves.specs.inner.Indices.{Early, Shifted, Indexed};
+ghost use Rattle.leaves.specs.inner.Differing.{FewIndexed, judgedRuns, Differs};
 ghost use Rattle.recording.specs.Reading.{a-top, curveOf};
 ghost use Rattle.tops.specs.inner.Events.{eventOf, Known};
 use crate::Differing;
@@ -34,9 +34,9 @@ fn shift(times: &mut [u32], n: usize)
 }
 
 // The times of an event, as indices.
-fn stamps(rec: &[u8], event: Event, times: &mut [u32]) -> usize
+fn event_indices(rec: &[u8], event: Event, times: &mut [u32]) -> usize
     requires { ⌜ Accepted (now rec) × Known event × (length (codedTimes (eventOf event) (coded (now rec))) ≤ length (now times)) ⌝ }
-    ensures { λ r. ⌜ Stamped (codedTimes (eventOf event) (coded (now (rec .entry)))) r (now (times .exit)) ⌝ }
+    ensures { λ r. ⌜ Indexed (codedTimes (eventOf event) (coded (now (rec .entry)))) r (now (times .exit)) ⌝ }
 {
     let n = tops::event_times(rec, rec.len() / 16, event, times);
     shift(times, n);
@@ -49,14 +49,14 @@ pub fn events(rec: &[u8], event: Event, set: &mut [u32]) -> bool
     ensures { λ r. ⌜ Makes (λ v. truth (timesOf (eventOf event)) (coded (now (rec .entry))) v) (now (set .exit)) r ⌝ }
 {
     let mut times = [0u32; MOST_EVENTS];
-    let n = stamps(rec, event, &mut times);
-    differences::moments(&times[..n], set)
+    let n = event_indices(rec, event, &mut times);
+    differences::time_set(&times[..n], set)
 }
 
 // The times of the additions of a pigment, as indices.
-fn addition_stamps(rec: &[u8], k: u32, times: &mut [u32]) -> usize
+fn addition_indices(rec: &[u8], k: u32, times: &mut [u32]) -> usize
     requires { ⌜ Accepted (now rec) × (length (codedAdditions k (coded (now rec))) ≤ length (now times)) ⌝ }
-    ensures { λ r. ⌜ Stamped (codedAdditions k (coded (now (rec .entry)))) r (now (times .exit)) ⌝ }
+    ensures { λ r. ⌜ Indexed (codedAdditions k (coded (now (rec .entry)))) r (now (times .exit)) ⌝ }
 {
     let n = tops::addition_times(rec, rec.len() / 16, k, times);
     shift(times, n);
@@ -69,14 +69,14 @@ pub fn additions(rec: &[u8], k: u32, set: &mut [u32]) -> bool
     ensures { λ r. ⌜ Makes (λ v. truth (asks.dose k) (coded (now (rec .entry))) v) (now (set .exit)) r ⌝ }
 {
     let mut times = [0u32; recording::MOST_RECORDS];
-    let n = addition_stamps(rec, k, &mut times);
-    differences::moments(&times[..n], set)
+    let n = addition_indices(rec, k, &mut times);
+    differences::time_set(&times[..n], set)
 }
 
 // The times of the tops of a curve, as indices, where they are few enough for differences; how many there are.
-fn top_stamps(rec: &[u8], curve: usize, times: &mut [u32]) -> usize
+fn top_indices(rec: &[u8], curve: usize, times: &mut [u32]) -> usize
     requires { ⌜ Accepted (now rec) × (curve < 2) × (length (now times) ≡ mostTops) ⌝ }
-    ensures { λ r. ⌜ FewStamped (codedTimes (a-top (curveOf curve)) (coded (now (rec .entry)))) r (now (times .exit)) ⌝ }
+    ensures { λ r. ⌜ FewIndexed (codedTimes (a-top (curveOf curve)) (coded (now (rec .entry)))) r (now (times .exit)) ⌝ }
 {
     let n = tops::event_times(rec, rec.len() / 16, Event::Top(curve), times);
     if n <= tops::MOST_TOPS {
@@ -100,7 +100,7 @@ pub fn gaps(rec: &[u8], curve: usize, set: &mut [u32]) -> Differing
     ensures { λ r. ⌜ Differs (manyTops (curveOf curve) (coded (now (rec .entry)))) (λ v. truth (asks.gaps (curveOf curve)) (coded (now (rec .entry))) v) (now (set .exit)) r ⌝ }
 {
     let mut times = [0u32; tops::MOST_TOPS];
-    let n = top_stamps(rec, curve, &mut times);
+    let n = top_indices(rec, curve, &mut times);
     if tops::MOST_TOPS < n {
         return Differing::TooManyTops;
     }
@@ -112,7 +112,7 @@ pub fn steps(rec: &[u8], curve: usize, set: &mut [u32]) -> Differing
     ensures { λ r. ⌜ Differs (manyTops (curveOf curve) (coded (now (rec .entry)))) (λ v. truth (asks.steps (curveOf curve)) (coded (now (rec .entry))) v) (now (set .exit)) r ⌝ }
 {
     let mut times = [0u32; tops::MOST_TOPS];
-    let n = top_stamps(rec, curve, &mut times);
+    let n = top_indices(rec, curve, &mut times);
     if tops::MOST_TOPS < n {
         return Differing::TooManyTops;
     }
@@ -124,12 +124,12 @@ pub fn lag(rec: &[u8], set: &mut [u32]) -> Differing
     ensures { λ r. ⌜ Differs (manyTops (curveOf 0) (coded (now (rec .entry))) || manyTops (curveOf 1) (coded (now (rec .entry)))) (λ v. truth asks.lag (coded (now (rec .entry))) v) (now (set .exit)) r ⌝ }
 {
     let mut a = [0u32; tops::MOST_TOPS];
-    let m = top_stamps(rec, 0, &mut a);
+    let m = top_indices(rec, 0, &mut a);
     if tops::MOST_TOPS < m {
         return Differing::TooManyTops;
     }
     let mut b = [0u32; tops::MOST_TOPS];
-    let n = top_stamps(rec, 1, &mut b);
+    let n = top_indices(rec, 1, &mut b);
     if tops::MOST_TOPS < n {
         return Differing::TooManyTops;
     }

@@ -5,10 +5,11 @@ use mathlib.Core.List.{List, [], _∷_}
 use Prim.Native.Nat.{ℕ, _+_, _≤_, _<_}
 use native.Mathlib.Omega.{arith}
 use lib.ListN.{length}
+use Rattle.number.specs.laws.Boolean.{and-left, and-right}
 use Rattle.grammar.specs.declared.Found.{Found}
-use Rattle.grammar.specs.declared.Found.the-variants.{At, Missing}
+use Rattle.grammar.specs.declared.Found.the-variants.{At}
 use Rattle.grammar.specs.inner.Lexer.{spelledAt, Word, firstOf, curves, relations, heads}
-use Rattle.grammar.specs.laws.Word.{and-left, and-right, bound, solid, stands-solid}
+use Rattle.grammar.specs.laws.Word.{bound, solid, stands-solid}
 
 unfoldable pub allSolid : List Word → Bool
 allSolid [] = true

@@ -2,7 +2,6 @@
 ghost use mathlib.Core.Path.{_≡_};
 ghost use Prim.Native.Nat.{_+_, _-_, _*_, _≤_, _<_, min};
 ghost use lib.ListN.{length, drop};
-ghost use Rattle.number.specs.Axis.{origin};
 ghost use Rattle.grammar.specs.Grammar.{decimal};
 ghost use Rattle.grammar.specs.inner.Lexer.{digitRun, unsignedAt, numberAt, pigmentAt};
 use grammar::Found;

@@ -8,7 +8,7 @@ use lib.ListN.{length}
 use Rattle.refusal.specs.Outcome.{Outcome, Line, line, judged}
 use Rattle.recording.specs.Reading.{curveOf}
 use Rattle.recording.specs.Output.{outputLine}
-use Rattle.targets.specs.Target.{offAxis}
+use Rattle.targets.specs.Target.{badTarget}
 use Rattle.entry.specs.Entry.{entryBytes}
 use Rattle.listing.specs.Listing.{mostEntries, entryCount, listing}
 
@@ -16,13 +16,9 @@ use Rattle.listing.specs.Listing.{mostEntries, entryCount, listing}
 abbrev pub badSummary : List ℕ → Line
 badSummary summary = line 20 (not (eqb (length summary % entryBytes) 0) || ltb mostEntries (entryCount summary))
 
--- REFUSAL 12: a level off the axis, or a curve number that is not 0 or 1
-abbrev pub badLevel : ℕ → ℤ → Line
-badLevel curve level = line 12 (ltb 1 curve || offAxis level)
-
 -- 12 and 10, in order: the lines for a summary that is not refused
 abbrev pub levelLines : List ℕ → ℕ → ℤ → ℕ → List Line
-levelLines summary curve level room = badLevel curve level ∷ outputLine room (listing (curveOf curve) level summary) ∷ []
+levelLines summary curve level room = badTarget curve level ∷ outputLine room (listing (curveOf curve) level summary) ∷ []
 
 -- THE FIND CALL: its refusals in the order 20, 12, 10; else the listing
 unfoldable pub findOf : List ℕ → ℕ → ℤ → ℕ → Outcome (List ℕ)

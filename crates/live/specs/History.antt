@@ -15,7 +15,7 @@ use Rattle.thin.specs.Thin.{keptBytes}
 use Rattle.live_state.specs.Limits.{mostHeld, mostMoments}
 
 -- a moment that was set: its name, and the run's readings as they were then
-pub record Named : Type 0 where
+pub record SetMoment : Type 0 where
   pub name : ℕ
   pub readings : List Raw
 
@@ -23,7 +23,7 @@ pub record Named : Type 0 where
 pub record History : Type 0 where
   pub marks : List ℕ
   pub run : List Raw
-  pub moments : List Named
+  pub moments : List SetMoment
 
 -- "A run starts empty with its marks"
 abbrev pub begun : List ℕ → History
@@ -34,9 +34,9 @@ pub data Moment : Type 0 where
   unset : Moment
   set : List Raw → Moment
 
-abbrev pub named : ℕ → List Named → Moment
-named name [] = unset
-named name (m ∷ ms) = cond (eqb name (m .name)) (set (m .readings)) (named name ms)
+abbrev pub lastSet : ℕ → List SetMoment → Moment
+lastSet name [] = unset
+lastSet name (m ∷ ms) = cond (eqb name (m .name)) (set (m .readings)) (lastSet name ms)
 
 -- the kept readings, under these marks
 abbrev pub keptOf : List ℕ → List Raw → List Raw
@@ -73,7 +73,7 @@ readingLines h x =
 abbrev pub stepLines : History → Step → List Line
 stepLines h (add x) = readingLines h x
 stepLines h (save name) = marksLine (h .marks) ∷ line 18 (badName name) ∷ []
-stepLines h (restore name) = marksLine (h .marks) ∷ line 18 (badName name || not (isSet (named name (h .moments)))) ∷ []
+stepLines h (restore name) = marksLine (h .marks) ∷ line 18 (badName name || not (isSet (lastSet name (h .moments)))) ∷ []
 
 -- ---- the history after a step that is not refused
 
@@ -83,14 +83,14 @@ backTo unset run = run
 backTo (set readings) run = readings
 
 -- the reading goes behind the run's; a moment that is set, or set again, is the run as it is; going back makes the run that of the moment, and all moments stay
-abbrev pub taken : History → Step → History
-taken h (add x) = record { marks = h .marks; run = h .run ++ x ∷ []; moments = h .moments }
-taken h (save name) = record { marks = h .marks; run = h .run; moments = record { name = name; readings = h .run } ∷ h .moments }
-taken h (restore name) = record { marks = h .marks; run = backTo (named name (h .moments)) (h .run); moments = h .moments }
+abbrev pub withStep : History → Step → History
+withStep h (add x) = record { marks = h .marks; run = h .run ++ x ∷ []; moments = h .moments }
+withStep h (save name) = record { marks = h .marks; run = h .run; moments = record { name = name; readings = h .run } ∷ h .moments }
+withStep h (restore name) = record { marks = h .marks; run = backTo (lastSet name (h .moments)) (h .run); moments = h .moments }
 
 -- WHAT A STEP DOES: it is refused by the first line that meets, or it takes the history on
 unfoldable pub outcome : History → Step → Outcome History
-outcome h s = judged (stepLines h s) (taken h s)
+outcome h s = judged (stepLines h s) (withStep h s)
 
 -- "A refused step changes nothing."
 abbrev pub goesOn : History → Outcome History → History
@@ -105,13 +105,13 @@ abbrev pub told : {R : Type 0} → Outcome R → Outcome ℕ
 told (result r) = result 0
 told (refused n p) = refused n p
 
-abbrev pub answer : History → Step → Outcome ℕ
-answer h s = told (outcome h s)
+abbrev pub stepAnswer : History → Step → Outcome ℕ
+stepAnswer h s = told (outcome h s)
 
 -- of a list of steps: what each answers, and the history after them
-abbrev pub answers : History → List Step → List (Outcome ℕ)
-answers h [] = []
-answers h (s ∷ ss) = answer h s ∷ answers (after h s) ss
+abbrev pub stepAnswers : History → List Step → List (Outcome ℕ)
+stepAnswers h [] = []
+stepAnswers h (s ∷ ss) = stepAnswer h s ∷ stepAnswers (after h s) ss
 
 abbrev pub afterAll : History → List Step → History
 afterAll h [] = h

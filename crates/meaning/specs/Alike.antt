@@ -25,8 +25,8 @@ pub record Plain (marks : List ℕ) (p : Text) : Type 0 where
   pub marked : (k : ℕ) → List·Memᴰ k (afterTimes p) → List·Memᴰ k (map markIndex marks)
 
 -- the times of the records of which the condition holds
-abbrev pub times : Condition Reading → List Reading → List ℕ
-times ρ r = map (λ (x : Reading). x .time) (pick ρ r)
+abbrev pub pickedTimes : Condition Reading → List Reading → List ℕ
+pickedTimes ρ r = map (λ (x : Reading). x .time) (pick ρ r)
 
 -- THE SAME OBSERVATION: the first reading, how far each curve goes up and down, also after each mark, and the times of every event and of the additions of every pigment
 pub record Alike (marks : List ℕ) (r s : List Reading) : Type 0 where
@@ -37,8 +37,8 @@ pub record Alike (marks : List ℕ) (r s : List Reading) : Type 0 where
       → SomeRecord r (λ x. After k x × (z <ℤ value c x)) ↔ SomeRecord s (λ x. After k x × (z <ℤ value c x))
   pub down-after : (k : ℕ) → List·Memᴰ k (map markIndex marks) → (c : Curve) (z : ℤ)
       → SomeRecord r (λ x. After k x × (value c x ≤ℤ z)) ↔ SomeRecord s (λ x. After k x × (value c x ≤ℤ z))
-  pub events : (e : Event) → times (event e) r ≡ times (event e) s
-  pub additions : (k : ℕ) → times (added k) r ≡ times (added k) s
+  pub events : (e : Event) → pickedTimes (event e) r ≡ pickedTimes (event e) s
+  pub additions : (k : ℕ) → pickedTimes (added k) r ≡ pickedTimes (added k) s
 
 -- the same truth for every number, and the same refusals 8 and 9
 pub record Same (r s : List Reading) (p : Text) : Type 0 where

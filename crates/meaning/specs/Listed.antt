@@ -8,7 +8,7 @@ use lib.IntN.{ℤ, pos, _+ℤ_, _-ℤ_}
 use lib.Signed.{_≤ℤ_, _<ℤ_}
 use Rattle.number.specs.Axis.{whole}
 use Rattle.recording.specs.Condition.{Condition, holdsAt}
-use Rattle.recording.specs.Reading.{Reading, Curve, A, B, value, top, dip, crossing, upcrossing, added, pigmented, nothing}
+use Rattle.recording.specs.Reading.{Reading, Curve, A, B, value, top, dip, crossing, upcrossing, added, nothing}
 use Rattle.grammar.specs.Syntax.{Listed, high, low, lowafter, capafter, peaks, dips, cross, crossup, dose, ampl, gaps, steps, lag}
 
 -- record i

@@ -68,8 +68,8 @@ pub record Agree (N : Channel → Type 0) (x y : Reading) : Type 0 where
 
 -- two recordings that agree so, record by record
 pub data Agreeing (N : Channel → Type 0) : List Reading → List Reading → Type 0 where
-  none : Agreeing N [] []
-  more : {x y : Reading} {r s : List Reading} → Agree N x y → Agreeing N r s → Agreeing N (x ∷ r) (y ∷ s)
+  agree-none : Agreeing N [] []
+  agree-more : {x y : Reading} {r s : List Reading} → Agree N x y → Agreeing N r s → Agreeing N (x ∷ r) (y ∷ s)
 
 -- THE SAME MEANING of both recordings: at every record, with every number, and in 8 and 9. A text has it of recordings that agree in what it names: `agreeing-same` (laws/Named)
 pub record SameMeaning (r s : List Reading) (p : Text) : Type 0 where

@@ -30,7 +30,7 @@ children (weakUntil p q) = p ∷ q ∷ []
 -- a node of p: p itself, or a node of one of its children
 pub data Node : Text → Text → Type 0 where
   itself : {p : Text} → Node p p
-  below : {q p c : Text} → List·Memᴰ c (children p) → Node q c → Node q p
+  of-child : {q p c : Text} → List·Memᴰ c (children p) → Node q c → Node q p
 
 -- f is the set of p at record i: the numbers of the axis with which p holds there
 abbrev pub IsSet : (ℕ → Bool) → List Reading → Text → ℕ → Type 0

@@ -1,7 +1,7 @@
 // Numbers of the axis, and numbers of 32 bits in bytes.
 ghost use mathlib.Core.Path.{_≡_};
 ghost use mathlib.Core.List.{_++_};
-ghost use Prim.Native.Nat.{_+_, _%_, _≤_, _<_};
+ghost use Prim.Native.Nat.{_+_, _%_, _≤_, _<_, min, max};
 ghost use lib.ListN.{length, take, drop};
 ghost use Rattle.number.specs.Axis.{axis, whole};
 ghost use Rattle.number.specs.Words.{word, wordBytes, offsetBinary, bits};
@@ -11,6 +11,20 @@ pub const ORIGIN: u32 = 2_000_000_000;
 
 // How many numbers the axis has.
 pub const AXIS: u32 = 4_000_000_001;
+
+// The lesser of two.
+pub fn lesser(m: u32, n: u32) -> u32
+    ensures { λ r. ⌜ r ≡ min m n ⌝ }
+{
+    if m < n { m } else { n }
+}
+
+// The greater of two.
+pub fn greater(m: u32, n: u32) -> u32
+    ensures { λ r. ⌜ r ≡ max m n ⌝ }
+{
+    if m < n { n } else { m }
+}
 
 fn wide(x: u8) -> u32
     ensures { λ r. ⌜ (r ≡ x) × (r < 256) ⌝ }

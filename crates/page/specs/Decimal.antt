@@ -11,10 +11,10 @@ use Rattle.grammar.specs.Bytes.{bytes}
 unfoldable pub places : ℕ → ℕ
 places n = suc (least (λ k. ltb n (10 ^ suc k)) n)
 
-unfoldable pub decimal : ℕ → List ℕ
-decimal n = digits 10 (places n) n
+unfoldable pub inDecimal : ℕ → List ℕ
+inDecimal n = digits 10 (places n) n
 
 -- a minus before a number below 0
 unfoldable pub signedDecimal : ℤ → List ℕ
-signedDecimal (pos n) = decimal n
-signedDecimal (negsuc n) = bytes "-" ++ decimal (suc n)
+signedDecimal (pos n) = inDecimal n
+signedDecimal (negsuc n) = bytes "-" ++ inDecimal (suc n)

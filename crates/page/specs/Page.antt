@@ -6,7 +6,7 @@ use lib.IntN.{ℤ}
 use Rattle.number.specs.Words.{word, signed}
 use Rattle.refusal.specs.Outcome.{Outcome, result, refused}
 use Rattle.grammar.specs.Bytes.{bytes}
-use Rattle.page.specs.Decimal.{decimal, signedDecimal}
+use Rattle.page.specs.Decimal.{inDecimal, signedDecimal}
 
 abbrev pub newline : List ℕ
 newline = 10 ∷ []
@@ -22,5 +22,5 @@ runLines (suc k) set = runLines k set ++ runLine (signed (word set (8 * k))) (si
 
 -- THE PAGE: the number of runs, then low and high of each; or number and place of the refusal
 unfoldable pub page : Outcome (List ℕ) → List ℕ
-page (result set) = bytes "runs " ++ decimal (length set / 8) ++ newline ++ runLines (length set / 8) set
-page (refused number place) = bytes "refused " ++ decimal number ++ bytes " " ++ decimal place ++ newline
+page (result set) = bytes "runs " ++ inDecimal (length set / 8) ++ newline ++ runLines (length set / 8) set
+page (refused number place) = bytes "refused " ++ inDecimal number ++ bytes " " ++ inDecimal place ++ newline

@@ -1,6 +1,6 @@
 // THE PAGE of a question: what the program prints.
 ghost use mathlib.Core.Path.{_≡_};
-ghost use lib.ListN.{length, take};
+ghost use lib.ListN.{take};
 ghost use Rattle.io.specs.Counts.{Counts};
 ghost use Rattle.page.specs.Typed.{withoutNewline};
 ghost use Rattle.page.specs.Printed.{printed, Prints};

@@ -2,7 +2,7 @@
 ghost use Prim.Native.Nat.{_+_, _≤_, _<_};
 ghost use lib.ListN.{length};
 ghost use Rattle.number.specs.Words.{signed};
-ghost use Rattle.page.specs.Decimal.{decimal, signedDecimal};
+ghost use Rattle.page.specs.Decimal.{inDecimal, signedDecimal};
 ghost use Rattle.page.specs.inner.Puts.{Puts};
 use crate::put;
 
@@ -11,8 +11,8 @@ const ZERO: u32 = 2_147_483_648;
 
 // Puts a number.
 pub fn unsigned(out: &mut [u8], at: usize, n: u64) -> usize
-    requires { ⌜ at + length (decimal n) ≤ length (now out) ⌝ }
-    ensures { λ r. ⌜ Puts (decimal n) (now (out .entry)) at (now (out .exit)) r ⌝ }
+    requires { ⌜ at + length (inDecimal n) ≤ length (now out) ⌝ }
+    ensures { λ r. ⌜ Puts (inDecimal n) (now (out .entry)) at (now (out .exit)) r ⌝ }
 {
     let mut digits = [0u8; 20];
     let k = io::decimal(n, &mut digits);

@@ -1,7 +1,7 @@
 -- Document 01, "Degree and pair": the pair call. Which pair it gives: document 02, Paper 2.
 use Prim.Native.Nat.{ℕ, _≤_, _<_}
 use mathlib.Core.Path.{_≡_}
-use mathlib.Core.Bool.{Bool, true, false, cond, _||_}
+use mathlib.Core.Bool.{Bool, true, false, cond}
 use mathlib.Core.Logic.{_⊎_}
 use mathlib.Core.List.{List, [], _∷_, _++_, map}
 use lib.ListN.{length, getD}
@@ -11,9 +11,9 @@ use Rattle.refusal.specs.Outcome.{Outcome, result, refused, Line, line, judged}
 use Rattle.refusal.specs.Numbers.{numberOf, placeOf}
 use Rattle.recording.specs.Condition.{pick, holdsAt}
 use Rattle.recording.specs.Reading.{Reading, Curve, top, nothing, curveOf}
-use Rattle.recording.specs.Recording.{records, readings, recordingLines, noRecord}
+use Rattle.recording.specs.Recording.{readings, recordingLines, noRecord}
 use Rattle.tops.specs.Tops.{recordedTime, topTimes, mostTops}
-use Rattle.targets.specs.Target.{offAxis}
+use Rattle.targets.specs.Target.{badTarget}
 use Rattle.pair.specs.declared.TopPair.{TopPair}
 use Rattle.pair.specs.declared.TopPair.the-variants as answer
 
@@ -85,10 +85,6 @@ FirstFitting r c g (times t u) = OfTops r c g t u × Foremost r c g t u
 FirstFitting r c g none = (i j : ℕ) → Fits r c g i j → ⊥
 
 -- ---- the call
-
--- the target is off the axis, or the curve number is not 0 or 1
-abbrev pub badTarget : ℕ → ℤ → Line
-badTarget curve g = line 12 (ltb 1 curve || offAxis g)
 
 -- the curve has more than 256 tops
 abbrev pub tooManyTops : List ℕ → ℕ → Line

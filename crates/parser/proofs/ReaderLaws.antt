@@ -1,10 +1,8 @@
 -- What each way through each function of the reader comes to.
 use mathlib.Core.Path.{_≡_, refl, sym, ap, subst, _∙_}
-use mathlib.Core.Bool.{Bool, true, false}
 use mathlib.Core.List.{List}
-use Prim.Native.Nat.{ℕ, zero, suc, _+_, _-_, _*_, _≤_, _<_}
+use Prim.Native.Nat.{ℕ, zero, suc, _+_, _-_, _≤_, _<_}
 use native.Mathlib.Omega.{arith}
-use lib.Dec.{eqb, lit<}
 use lib.ListN.{length}
 use borrow.Author.Tests.{eq-eqb, ne-eqb, lt-ltb, le-ltb}
 use Rattle.grammar.specs.declared.Row.{Row}
@@ -14,11 +12,11 @@ use Rattle.grammar.specs.declared.Leaf.{Leaf}
 use Rattle.grammar.specs.declared.Leaf.the-variants.{Node, Open, Nothing}
 use Rattle.grammar.specs.Syntax.{Text}
 use Rattle.grammar.specs.inner.Kinds.{NOT, BRACKET}
-use Rattle.grammar.specs.inner.Table.{row, rowAt, unaryFrom, binaryFrom, kinds}
+use Rattle.grammar.specs.inner.Table.{row, unaryFrom, binaryFrom, kinds}
 use Rattle.grammar.specs.inner.Lexer.{byte, leafAt}
-use Rattle.grammar.specs.inner.Parse.{Joiner, bars, ampersands, sign, Task, chain, more, not-at, prim-at, argument, part, joinKind, leafOf, node, Out, got, unread, after, opened, begun, closed, parse, rank}
+use Rattle.grammar.specs.inner.Parse.{Joiner, bars, ampersands, sign, chain, more, not-at, prim-at, argument, part, joinKind, rowText, node, Out, got, unread, after, closed, parse, rank}
 use Rattle.parser.specs.inner.Rows.{Put, Same, Laid, leaf, unary, binary, Room, Ahead, Onward, Within, Fits, Parses, AnswersMore, AnswersOpened}
-use Rattle.parser.specs.laws.Rows.{ahead-of}
+use Rattle.parser.specs.laws.Rows.{ahead-of, laid-above}
 use Rattle.grammar.specs.laws.Word.{inside, bound}
 use Rattle.grammar.specs.laws.Leaf.{Opening, round, single, double, open-held, leaf-held, leaf-low}
 use Rattle.grammar.specs.laws.Unique.{longer, rank-part, rank-low, rank-high}
@@ -46,18 +44,13 @@ same-on n m l x y = record { row-at = λ j h. y .row-at j (omega arith) ∙ x .r
 put-same : {T U : List ℕ} {r : Row} (n : ℕ) → Put T n r U → Same n T U
 put-same n p = record { row-at = λ j h. p .others j (λ e. omega arith) }
 
-holds-above : {T : List ℕ} {b m : ℕ} {t : Text} → Laid T b m t → b < m
-holds-above (leaf l e) = omega arith
-holds-above (unary k a c h e) = let x = holds-above h in omega arith
-holds-above (binary k a c h g e) = let x = holds-above h in let y = holds-above g in omega arith
-
 pub stays : {T U : List ℕ} {b m : ℕ} {t : Text} (n : ℕ) → m ≤ n → Same n T U → Laid T b m t → Laid U b m t
 stays {U = U} {b = b} n l x (leaf k e) =
     let r = x .row-at b (omega arith) in
-    leaf (subst (λ (y : Row). y .kind < unaryFrom) (sym r) k) (ap leafOf r ∙ e)
+    leaf (subst (λ (y : Row). y .kind < unaryFrom) (sym r) k) (ap rowText r ∙ e)
 stays n l x (unary {m = m} k a c h e) = unary k a c (stays n (omega arith) x h) (x .row-at m (omega arith) ∙ e)
 stays n l x (binary {m = m} {n = j} k a c h g e) =
-    let y = holds-above g in
+    let y = laid-above g in
     binary k a c (stays n (omega arith) x h) (stays n (omega arith) x g) (x .row-at j (omega arith) ∙ e)
 
 -- PARTS read one after the other
@@ -335,7 +328,7 @@ module _ (s : List ℕ) (at n : ℕ) {l : Leaf} (i : l ≡ leafAt s at) where
     leaf-fits zero h = absurd (omega arith)
     leaf-fits (suc f) h =
         let k = leaf-low s at e r (sym i ∙ p) in
-        rw (sym i ∙ p) (refl, leaf (subst (λ (y : Row). y .kind < unaryFrom) (sym (z .here)) k) (ap leafOf (z .here)))
+        rw (sym i ∙ p) (refl, leaf (subst (λ (y : Row). y .kind < unaryFrom) (sym (z .here)) k) (ap rowText (z .here)))
 
     pub prim-leaf : Parses s (prim-at at) at n T U (Upto e (n + 1))
     prim-leaf =

@@ -1,6 +1,5 @@
 // The reader: functions for or, and, not and primary call each other, and the bytes left to read fall.
 // Each writes the nodes of what it reads behind the n rows that stand in the table.
-ghost use mathlib.Core.Path.{_≡_};
 ghost use Prim.Native.Nat.{_+_, _≤_, _<_};
 ghost use Rattle.grammar.specs.inner.Table.{unaryFrom, binaryFrom, kinds};
 ghost use Rattle.grammar.specs.inner.Parse.{bars, ampersands, chain, not-at, prim-at, argument};

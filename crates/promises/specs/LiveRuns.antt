@@ -14,7 +14,7 @@ use Rattle.thin.specs.Thin.{keptBytes}
 use Rattle.reply.specs.Reply.{numberIn, unpacked}
 use Rattle.live_state.specs.Limits.{mostHeld}
 use Rattle.live_state.specs.State.{signature, liveBytes, marksIn, heldIn, noState}
-use Rattle.live.specs.History.{History, begun, Step, add, save, restore, after, told, answer, keptRun, readOut}
+use Rattle.live.specs.History.{History, begun, Step, add, save, restore, after, told, stepAnswer, keptRun, readOut}
 use Rattle.live.specs.Call.{startOf, stepOf, heldOf, Behind}
 use Rattle.mill.specs.Calls.{ThinCall, LiveStartCall, LiveAddCall, LiveSaveCall, LiveRestoreCall, LiveKeptCall}
 use Rattle.promises.specs.Output.{Wrote}
@@ -67,7 +67,7 @@ historyAfter h (c ∷ cs) = historyAfter (historyNext h c) cs
 
 -- the step answers as the history does, and a refused one leaves every byte of the state
 pub record StepAnswered (h : History) (live : List ℕ) (s : Step) (y : LiveReturned) : Type 0 where
-  pub answers : unpacked (y .returned) ≡ answer h s
+  pub answers : unpacked (y .returned) ≡ stepAnswer h s
   pub refused-stays : ¬ (numberIn (y .returned) ≡ 0) → y .left ≡ live
 
 -- the read-out writes exactly the kept readings of the history's run, or is refused and writes nothing

@@ -11,7 +11,7 @@ use Rattle.marks.specs.Marks.{marksOf, AcceptedMarks}
 use Rattle.thin.specs.Selection.{Selection}
 use Rattle.report.specs.Report.{Naming}
 use Rattle.report_state.specs.State.{stateless}
-use Rattle.report_state.specs.Calls.{Made, start, Returned, CallsMade, Exchanged, AsTheFold}
+use Rattle.report_state.specs.Calls.{Made, madeStart, ReportReturned, ReportCallsMade, Exchanged, AsTheFold}
 use Rattle.promises.specs.Demands.{AskedOfKept}
 
 -- a recording, or in its place a selection in order that includes the readings kept of it under some marks, of which the text may be asked
@@ -22,7 +22,7 @@ KeptOrFull text held full = (held ≡ full) ⊎ ((marks : List ℕ) × AcceptedM
 -- over its recordings does, number, place and figures, and the mean of every report that is given is near. `from-kept`: from kept readings it gives the same
 -- numbers, figures and bytes. `alike-no-state`: bytes that are all 0 or all 255 are plainly no state.
 pub record Reports : Type 0 where
-  pub from-a-start : (b : List ℕ) (n : Naming) (cs : List Made) (xs : List Returned) → CallsMade b (start n ∷ cs) xs → AsTheFold (length b) (start n ∷ cs) xs
-  pub from-no-state : (b : List ℕ) (cs : List Made) (xs : List Returned) → stateless b ≡ true → CallsMade b cs xs → AsTheFold (length b) cs xs
-  pub from-kept : (b : List ℕ) (n : Naming) (cs ds : List Made) (xs : List Returned) → Exchanged KeptOrFull (n .text) cs ds → CallsMade b (start n ∷ cs) xs → CallsMade b (start n ∷ ds) xs
+  pub from-a-start : (b : List ℕ) (n : Naming) (cs : List Made) (xs : List ReportReturned) → ReportCallsMade b (madeStart n ∷ cs) xs → AsTheFold (length b) (madeStart n ∷ cs) xs
+  pub from-no-state : (b : List ℕ) (cs : List Made) (xs : List ReportReturned) → stateless b ≡ true → ReportCallsMade b cs xs → AsTheFold (length b) cs xs
+  pub from-kept : (b : List ℕ) (n : Naming) (cs ds : List Made) (xs : List ReportReturned) → Exchanged KeptOrFull (n .text) cs ds → ReportCallsMade b (madeStart n ∷ cs) xs → ReportCallsMade b (madeStart n ∷ ds) xs
   pub alike-no-state : (b : List ℕ) (x : ℕ) → (x ≡ 0) ⊎ (x ≡ 255) → ((i : ℕ) → i < length b → getD b i 0 ≡ x) → stateless b ≡ true

@@ -1,5 +1,5 @@
 // THE QUESTION CALL.
-ghost use Prim.Native.Nat.{ℕ, _*_, _≤_};
+ghost use Prim.Native.Nat.{_*_};
 ghost use lib.ListN.{length};
 ghost use Rattle.recording.specs.Output.{Answers};
 ghost use Rattle.evaluation.specs.inner.Evaluation.{textOf};

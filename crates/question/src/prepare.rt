@@ -1,5 +1,5 @@
 // Reading a text that is to be asked of a recording: the refusals 1 to 7.
-ghost use Prim.Native.Nat.{ℕ, _*_, _≤_};
+ghost use Prim.Native.Nat.{_*_, _≤_};
 ghost use lib.ListN.{length};
 ghost use Rattle.grammar.specs.Size.{mostBytes};
 ghost use Rattle.question.specs.inner.Prepare.{Prepares};

@@ -93,9 +93,9 @@ pub data Stage : Type 0 where
   underWay : Naming → List Reach → Stage
 
 -- a call names a report, or hands in a recording of any bytes
-pub data Call : Type 0 where
-  start : Naming → Call
-  add : (recording : List ℕ) → Call
+pub data ReportCall : Type 0 where
+  startReport : Naming → ReportCall
+  addBatch : (recording : List ℕ) → ReportCall
 
 -- what a naming answers
 abbrev pub named : ℕ → Naming → Outcome Answer
@@ -107,29 +107,29 @@ openedBy n (result x) = underWay n []
 openedBy n (refused k p) = closed
 
 -- what a recording answers whose degree call gives o: "a recording that the degree call would refuse stops the report with that refusal"
-abbrev pub told : Naming → List Reach → Outcome Reach → Outcome Answer
-told n xs (result x) = cond (eqb (suc (length xs)) (n .count)) (result (given (figuresOf (xs ++ x ∷ [])))) (result taken)
-told n xs (refused k p) = refused k p
+abbrev pub batchAnswer : Naming → List Reach → Outcome Reach → Outcome Answer
+batchAnswer n xs (result x) = cond (eqb (suc (length xs)) (n .count)) (result (given (figuresOf (xs ++ x ∷ [])))) (result taken)
+batchAnswer n xs (refused k p) = refused k p
 
 abbrev pub onward : Naming → List Reach → Outcome Reach → Stage
 onward n xs (result x) = cond (eqb (suc (length xs)) (n .count)) closed (underWay n (xs ++ x ∷ []))
 onward n xs (refused k p) = closed
 
 -- WHAT A CALL ANSWERS: 15 comes before all others, after the named count and after a refusal
-abbrev pub answered : ℕ → Stage → Call → Outcome Answer
-answered room s (start n) = named room n
-answered room closed (add recording) = refused 15 0
-answered room (underWay n xs) (add recording) = told n xs (reachOf recording (n .text) (n .target))
+abbrev pub answered : ℕ → Stage → ReportCall → Outcome Answer
+answered room s (startReport n) = named room n
+answered room closed (addBatch recording) = refused 15 0
+answered room (underWay n xs) (addBatch recording) = batchAnswer n xs (reachOf recording (n .text) (n .target))
 
-abbrev pub stageAfter : ℕ → Stage → Call → Stage
-stageAfter room s (start n) = openedBy n (named room n)
-stageAfter room closed (add recording) = closed
-stageAfter room (underWay n xs) (add recording) = onward n xs (reachOf recording (n .text) (n .target))
+abbrev pub stageAfter : ℕ → Stage → ReportCall → Stage
+stageAfter room s (startReport n) = openedBy n (named room n)
+stageAfter room closed (addBatch recording) = closed
+stageAfter room (underWay n xs) (addBatch recording) = onward n xs (reachOf recording (n .text) (n .target))
 
 -- what each call of a list answers
-abbrev pub answers : ℕ → Stage → List Call → List (Outcome Answer)
-answers room s [] = []
-answers room s (c ∷ cs) = answered room s c ∷ answers room (stageAfter room s c) cs
+abbrev pub reportAnswers : ℕ → Stage → List ReportCall → List (Outcome Answer)
+reportAnswers room s [] = []
+reportAnswers room s (c ∷ cs) = answered room s c ∷ reportAnswers room (stageAfter room s c) cs
 
 -- ---- THE BOUND
 

@@ -9,7 +9,7 @@ use Rattle.meaning.specs.inner.Coded.{index}
 use Rattle.reply.specs.Reply.{packed}
 use Rattle.report.specs.Report.{MeanDegree, noMean, meanDegree, Naming, namingLines, named, Answer, taken, given}
 use Rattle.report.specs.inner.Running.{answerIn}
-use Rattle.report_state.specs.State.{startAfter, additionIn, addAfter}
+use Rattle.report_state.specs.State.{namingAfter, additionIn, addAfter}
 
 -- 1 where there is a mean, else 2
 abbrev pub meanTold : MeanDegree → ℕ
@@ -48,7 +48,7 @@ meanAfter (result (given f)) old = bitsAfter (f .mean) old
 meanAfter (refused n p) old = old
 
 -- what a call with this outcome returns, and the four places, `met`, `empty`, `distances` and `mean` before, `first` to `fourth` after
-pub record Reports (o : Outcome Answer) (met empty distances mean r first second third fourth : ℕ) : Type 0 where
+pub record ReportTold (o : Outcome Answer) (met empty distances mean r first second third fourth : ℕ) : Type 0 where
   pub returned : r ≡ packed (answerTold o)
   pub first-place : first ≡ metAfter o met
   pub second-place : second ≡ emptyAfter o empty
@@ -62,9 +62,9 @@ namedIndex n room = judged (namingLines n room) (index (n .target))
 -- THE START CALL: what it returns, and the bytes of the report, `old` before and `new` after
 pub record Starts (n : Naming) (old : List ℕ) (r : ℕ) (new : List ℕ) : Type 0 where
   pub returned : r ≡ packed (answerTold (named (length old) n))
-  pub state : new ≡ startAfter n (namedIndex n (length old)) old
+  pub state : new ≡ namingAfter n (namedIndex n (length old)) old
 
 -- THE ADD CALL, of any bytes that are handed in as the report
 pub record Adds (report recording : List ℕ) (met empty distances mean r : ℕ) (after : List ℕ) (first second third fourth : ℕ) : Type 0 where
-  pub told : Reports (answerIn (additionIn report recording)) met empty distances mean r first second third fourth
+  pub told : ReportTold (answerIn (additionIn report recording)) met empty distances mean r first second third fourth
   pub state : after ≡ addAfter (additionIn report recording) report

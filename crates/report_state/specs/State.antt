@@ -6,18 +6,18 @@ use mathlib.Core.List.{List, [], _∷_, _++_}
 use lib.Dec.{eqb, ltb}
 use lib.ListN.{length, take, drop}
 use lib.Ieee.{binary64, toBits, ofBits, nanBits}
-use Rattle.number.specs.Words.{word, wordBytes}
+use Rattle.number.specs.Words.{word, wordBytes, wordsBytes}
 use Rattle.refusal.specs.Outcome.{Outcome, result, refused}
 use Rattle.grammar.specs.Size.{mostBytes}
 use Rattle.report.specs.Report.{Naming, reportBytes}
-use Rattle.report.specs.inner.Running.{Addition, none, stopped, taken, last, additionTo, runningOf}
+use Rattle.report.specs.inner.Running.{Addition, none, stopped, further, last, additionTo, runningOf}
 use Rattle.report.specs.declared.Report.{Report}
 
 -- ---- the layout: words of 32 bits, then the text
 
 -- the head of every report under way: the bytes "rept"
-abbrev pub signature : ℕ
-signature = 1953523058
+abbrev pub reportSignature : ℕ
+reportSignature = 1953523058
 
 -- a number of 64 bits as two words, the lower first
 abbrev pub low : ℕ → ℕ
@@ -32,12 +32,8 @@ long bytes at = word bytes at + 4294967296 * word bytes (at + 4)
 -- 44 bytes: the head, the counts, and the sum of the distances, the sum of the degrees and the mean, the last two by their bits
 abbrev pub figureWords : Report → List ℕ
 figureWords r =
-    signature ∷ r .count ∷ r .taken ∷ r .met ∷ r .empty ∷ low (r .distances) ∷ high (r .distances) ∷ low (toBits binary64 (r .mean .sum))
+    reportSignature ∷ r .count ∷ r .taken ∷ r .met ∷ r .empty ∷ low (r .distances) ∷ high (r .distances) ∷ low (toBits binary64 (r .mean .sum))
     ∷ high (toBits binary64 (r .mean .sum)) ∷ low (toBits binary64 (r .mean .mean)) ∷ high (toBits binary64 (r .mean .mean)) ∷ []
-
-abbrev pub wordsBytes : List ℕ → List ℕ
-wordsBytes [] = []
-wordsBytes (w ∷ ws) = wordBytes w ++ wordsBytes ws
 
 abbrev pub reportIn : List ℕ → Report
 reportIn b =
@@ -57,13 +53,13 @@ indexIn b = word b 44
 abbrev pub sizeIn : List ℕ → ℕ
 sizeIn b = word b 48
 
-abbrev pub textIn : List ℕ → List ℕ
-textIn b = take (sizeIn b) (drop 52 b)
+abbrev pub reportText : List ℕ → List ℕ
+reportText b = take (sizeIn b) (drop 52 b)
 
 -- plainly no state: too short, with another head, with a text that is longer than any, or with a sum or a mean that is no number
 abbrev pub stateless : List ℕ → Bool
 stateless b =
-    ltb (length b) reportBytes || (not (eqb (word b 0) signature) || (ltb mostBytes (sizeIn b) || (nanBits binary64 (long b 28) || nanBits binary64 (long b 36))))
+    ltb (length b) reportBytes || (not (eqb (word b 0) reportSignature) || (ltb mostBytes (sizeIn b) || (nanBits binary64 (long b 28) || nanBits binary64 (long b 36))))
 
 -- ---- what a call leaves there; where nothing is said of a byte, it stays
 
@@ -77,17 +73,17 @@ namedBytes n text v b =
     wordsBytes (figureWords (runningOf n [])) ++ wordBytes v ++ wordBytes (length text) ++ text ++ drop (52 + length text) b
 
 -- A NAMING. Refused, it ends what the bytes held, where they are long enough to hold a report
-abbrev pub startAfter : Naming → Outcome ℕ → List ℕ → List ℕ
-startAfter n (result v) b = namedBytes (n .count) (n .text) v b
-startAfter n (refused k p) b = cond (ltb (length b) reportBytes) b (closedBytes b)
+abbrev pub namingAfter : Naming → Outcome ℕ → List ℕ → List ℕ
+namingAfter n (result v) b = namedBytes (n .count) (n .text) v b
+namingAfter n (refused k p) b = cond (ltb (length b) reportBytes) b (closedBytes b)
 
 -- A RECORDING handed in with these bytes
 abbrev pub additionIn : List ℕ → List ℕ → Addition
-additionIn b recording = cond (stateless b) none (additionTo (reportIn b) recording (textIn b) (indexIn b))
+additionIn b recording = cond (stateless b) none (additionTo (reportIn b) recording (reportText b) (indexIn b))
 
 -- a report that is refused or given is closed; 15 leaves every byte
 abbrev pub addAfter : Addition → List ℕ → List ℕ
 addAfter none b = b
 addAfter (stopped n p) b = closedBytes b
-addAfter (taken r) b = wordsBytes (figureWords r) ++ drop 44 b
+addAfter (further r) b = wordsBytes (figureWords r) ++ drop 44 b
 addAfter (last r) b = closedBytes b

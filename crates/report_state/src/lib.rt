@@ -5,12 +5,12 @@ ghost use mathlib.Core.List.{_++_};
 ghost use Prim.Native.Nat.{_+_, _/_, _%_, _≤_};
 ghost use lib.ListN.{length, take, drop};
 ghost use lib.Ieee.{binary64, ofBits, nanBits};
-ghost use Rattle.number.specs.Words.{wordBytes};
+ghost use Rattle.number.specs.Words.{wordsBytes};
 ghost use Rattle.mean.specs.inner.Running.{Numbers};
 ghost use Rattle.report.specs.inner.Naming.{naming};
 ghost use Rattle.report.specs.inner.Running.{additionOf, answerIn, last};
-ghost use Rattle.report_state.specs.State.{low, high, long, figureWords, wordsBytes, reportIn, stateless, closedBytes, namedBytes, additionIn, addAfter};
-ghost use Rattle.report_state.specs.Call.{Reports, Starts, Adds};
+ghost use Rattle.report_state.specs.State.{low, high, long, figureWords, reportIn, stateless, closedBytes, namedBytes, additionIn, addAfter};
+ghost use Rattle.report_state.specs.Call.{ReportTold, Starts, Adds};
 ghost use Rattle.report_state.specs.inner.Kept.{Held, Writable, Tellable, endedBytes};
 use mean::Mean;
 use refusal::Refusal;
@@ -216,7 +216,7 @@ fn remember(buffer: &mut [u8], a: Added)
 // Writes a report to its places. Returns 1, or 2 where there is no mean.
 fn give(r: Report, met: &mut u32, empty: &mut u32, distances: &mut u64, mean: &mut u64) -> u64
     requires { ⌜ Numbers (r .mean) ⌝ }
-    ensures { λ s. ⌜ Reports (answerIn (last r)) (now (met .entry)) (now (empty .entry)) (now (distances .entry)) (now (mean .entry)) s (now (met .exit)) (now (empty .exit)) (now (distances .exit)) (now (mean .exit)) ⌝ }
+    ensures { λ s. ⌜ ReportTold (answerIn (last r)) (now (met .entry)) (now (empty .entry)) (now (distances .entry)) (now (mean .entry)) s (now (met .exit)) (now (empty .exit)) (now (distances .exit)) (now (mean .exit)) ⌝ }
 {
     *met = r.met;
     *empty = r.empty;
@@ -232,7 +232,7 @@ fn give(r: Report, met: &mut u32, empty: &mut u32, distances: &mut u64, mean: &m
 // Tells the caller what a recording led to.
 fn tell(a: Added, met: &mut u32, empty: &mut u32, distances: &mut u64, mean: &mut u64) -> u64
     requires { ⌜ Tellable (additionOf a) ⌝ }
-    ensures { λ s. ⌜ Reports (answerIn (additionOf a)) (now (met .entry)) (now (empty .entry)) (now (distances .entry)) (now (mean .entry)) s (now (met .exit)) (now (empty .exit)) (now (distances .exit)) (now (mean .exit)) ⌝ }
+    ensures { λ s. ⌜ ReportTold (answerIn (additionOf a)) (now (met .entry)) (now (empty .entry)) (now (distances .entry)) (now (mean .entry)) s (now (met .exit)) (now (empty .exit)) (now (distances .exit)) (now (mean .exit)) ⌝ }
 {
     match a {
         Added::Nothing => reply::refused(Refusal::NoReport),

@@ -1,6 +1,6 @@
 -- Document 01, "The set": the maximal runs of a set of numbers of the axis, and its bytes. A set is given by its members: f n for the index n.
 use Prim.Native.Nat.{ℕ, zero, suc}
-use mathlib.Core.Bool.{Bool, true, false, not, cond, _&&_}
+use mathlib.Core.Bool.{Bool, not, cond, _&&_}
 use mathlib.Core.List.{List, [], _∷_, _++_}
 use lib.ListN.{length}
 use lib.Dec.{ltb}

@@ -1,17 +1,17 @@
 -- The replies, by what an operation made.
-use Prim.Native.Nat.{ℕ, _+_, _*_, _≤_, _<_}
+use Prim.Native.Nat.{ℕ, _*_, _≤_, _<_}
 use mathlib.Core.Path.{_≡_, refl, sym, ap, ap₂, subst, _∙_}
 use mathlib.Core.Bool.{Bool, true, false, not, cond, _&&_, _||_}
 use mathlib.Core.List.{List, _++_}
 use native.Mathlib.Omega.{arith}
-use lib.Dec.{leb, ltb, eqb}
+use lib.Dec.{ltb, eqb}
 use lib.ListN.{length, drop}
 use borrow.Author.Tests.{lt-ltb, le-ltb, le-leb, lt-leb, eq-eqb, ne-eqb, ltb-false}
 use Rattle.number.specs.Axis.{axis}
 use Rattle.runs.specs.Runs.{mostRuns, runCount, setBytes}
 use Rattle.runs.specs.Distance.{distance}
 use Rattle.runs.specs.laws.Distance.{distance-ext}
-use Rattle.runs.specs.Set.{member, Valid, Makes}
+use Rattle.runs.specs.Set.{member, Makes}
 use Rattle.join.specs.inner.Join.{Joins}
 use Rattle.join.specs.declared.Joined.{Joined}
 use Rattle.runs.specs.laws.Runs.{runCount-ext, setBytes-ext}

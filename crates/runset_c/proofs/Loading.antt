@@ -1,6 +1,6 @@
 -- A set read from bytes, run by run.
 use Prim.Native.Nat.{ℕ, zero, suc, _+_, _-_, _*_, _/_, _≤_, _<_, min}
-use mathlib.Core.Path.{_≡_, refl, sym, ap, ap₂, subst, _∙_}
+use mathlib.Core.Path.{_≡_, refl, sym, ap, ap₂, _∙_}
 use mathlib.Core.Bool.{Bool, true, false, cond, _&&_, _||_, true≢false}
 use mathlib.Core.List.{List}
 use native.Mathlib.Omega.{arith}
@@ -14,7 +14,7 @@ use Rattle.runs.specs.Runs.{mostRuns, runCount}
 use Rattle.runs.specs.Set.{member, Holds, Makes}
 use Rattle.runs.specs.laws.Runs.{runCount-ext}
 use Rattle.runs.specs.laws.Set.{holds-ext, makes-ext}
-use Rattle.runset_c.specs.Bytes.{indexAt, inRuns, unfitRuns, unfit, setOf}
+use Rattle.runset_c.specs.Bytes.{indexAt, inRuns, unfitRuns, setOf}
 use Rattle.runset_c.specs.Promises.{Extended, Loaded}
 
 -- ---- an index

@@ -3,7 +3,6 @@ use Prim.Native.Nat.{ℕ, zero, suc, _+_, _%_, _^_, _<_}
 use mathlib.Core.Path.{_≡_, refl, sym, ap, ap₂, _∙_}
 use mathlib.Core.Bool.{Bool, true, false, cond}
 use mathlib.Core.List.{List}
-use native.Mathlib.Omega.{arith}
 use native.Mathlib.Numerals.{add-one}
 use lib.Dec.{ltb, eqb}
 use lib.ListN.{getD}
@@ -12,10 +11,10 @@ use Rattle.number.specs.Axis.{axis}
 use Rattle.runs.specs.Runs.{mostRuns, runCount, lows}
 use Rattle.runs.specs.Set.{member, Makes}
 use Rattle.runs.specs.laws.Runs.{runCount-ext, lows-ext}
-use Rattle.runset_c.specs.Bytes.{sumOf, repeatReply}
+use Rattle.runset_c.specs.Bytes.{repeatSum, repeatReply}
 
 pub no-turn : (f : ℕ → Bool) → 0 ≡ repeatReply false f 0
-unfolding repeatReply sumOf
+unfolding repeatReply repeatSum
 no-turn f = by (ltb mostRuns (runCount f)) (eqb (runCount f) 0)
   where
     by : (a b : Bool) → _≡_ {A = ℕ} 0 (cond a 0 (cond b 0 0))
@@ -26,7 +25,7 @@ no-turn f = by (ltb mostRuns (runCount f)) (eqb (runCount f) 0)
 module _ (f : ℕ → Bool) (words : List ℕ) (over : Bool) (k : Makes f words over) (times : ℕ) where
   pub over-reply : over ≡ true → 0 ≡ repeatReply false f times
   unfolding repeatReply
-  over-reply o = sym (ap (λ (b : Bool). cond b 0 (cond (eqb (runCount f) 0) 0 (sumOf f times))) (sym (k .flag) ∙ o))
+  over-reply o = sym (ap (λ (b : Bool). cond b 0 (cond (eqb (runCount f) 0) 0 (repeatSum f times))) (sym (k .flag) ∙ o))
 
   pub same-runs : over ≡ false → runCount (member words) ≡ runCount f
   same-runs o = runCount-ext (member words) f (k .holds o .members)
@@ -34,35 +33,35 @@ module _ (f : ℕ → Bool) (words : List ℕ) (over : Bool) (k : Makes f words 
   pub empty-reply : over ≡ false → (n : ℕ) → n ≡ runCount (member words) → n ≡ 0 → 0 ≡ repeatReply false f times
   unfolding repeatReply
   empty-reply o n e z =
-      sym (ap₂ (λ (a b : Bool). cond a 0 (cond b 0 (sumOf f times))) (sym (k .flag) ∙ o) (eq-eqb (runCount f) 0 (sym (e ∙ same-runs o) ∙ z)))
+      sym (ap₂ (λ (a b : Bool). cond a 0 (cond b 0 (repeatSum f times))) (sym (k .flag) ∙ o) (eq-eqb (runCount f) 0 (sym (e ∙ same-runs o) ∙ z)))
 
-  sum-reply : over ≡ false → (n : ℕ) → n ≡ runCount (member words) → (n ≡ 0 → ⊥) → repeatReply false f times ≡ sumOf f times
+  sum-reply : over ≡ false → (n : ℕ) → n ≡ runCount (member words) → (n ≡ 0 → ⊥) → repeatReply false f times ≡ repeatSum f times
   unfolding repeatReply
   sum-reply o n e z =
-      ap₂ (λ (a b : Bool). cond a 0 (cond b 0 (sumOf f times))) (sym (k .flag) ∙ o) (ne-eqb (runCount f) 0 (λ q. z (e ∙ same-runs o ∙ q)))
+      ap₂ (λ (a b : Bool). cond a 0 (cond b 0 (repeatSum f times))) (sym (k .flag) ∙ o) (ne-eqb (runCount f) 0 (λ q. z (e ∙ same-runs o ∙ q)))
 
 -- one more turn
 pub one-more : (f : ℕ → Bool) (words : List ℕ) (over : Bool) (k : Makes f words over) (i total n low r : ℕ) → over ≡ false → n ≡ runCount (member words) → (n ≡ 0 → ⊥)
     → total ≡ repeatReply false f i → low ≡ getD (lows (member words)) (total % n) 0 → r ≡ (total + low) % 2 ^ 64 → r ≡ repeatReply false f (i + 1)
-unfolding sumOf
+unfolding repeatSum
 one-more f words over k i total n low r o e z t l s =
-    let q : total ≡ sumOf f i = t ∙ sum-reply f words over k i o n e z in
+    let q : total ≡ repeatSum f i = t ∙ sum-reply f words over k i o n e z in
     let c : n ≡ runCount f = e ∙ same-runs f words over k i o in
-    let w : low ≡ getD (lows f) (sumOf f i % runCount f) 0 =
+    let w : low ≡ getD (lows f) (repeatSum f i % runCount f) 0 =
     l ∙ ap₂ (λ (x : List ℕ) (y : ℕ). getD x y 0) (lows-ext (member words) f (k .holds o .members)) (ap₂ _%_ q c) in
-    s ∙ ap₂ (λ (x y : ℕ). (x + y) % 2 ^ 64) q w ∙ sym (ap (sumOf f) (add-one i)) ∙ sym (sum-reply f words over k (i + 1) o n e z)
+    s ∙ ap₂ (λ (x y : ℕ). (x + y) % 2 ^ 64) q w ∙ sym (ap (repeatSum f) (add-one i)) ∙ sym (sum-reply f words over k (i + 1) o n e z)
 
 pub refused-repeat : (refused : Bool) (f : ℕ → Bool) (times : ℕ) → refused ≡ true → 0 ≡ repeatReply refused f times
 unfolding repeatReply
 refused-repeat refused f times e =
-    sym (ap (λ (b : Bool). cond b 0 (cond (ltb mostRuns (runCount f)) 0 (cond (eqb (runCount f) 0) 0 (sumOf f times)))) e)
+    sym (ap (λ (b : Bool). cond b 0 (cond (ltb mostRuns (runCount f)) 0 (cond (eqb (runCount f) 0) 0 (repeatSum f times)))) e)
 
 -- the sum depends on the members alone
-sum-ext : (f g : ℕ → Bool) → ((v : ℕ) → v < axis → f v ≡ g v) → (n : ℕ) → sumOf f n ≡ sumOf g n
-unfolding sumOf
+sum-ext : (f g : ℕ → Bool) → ((v : ℕ) → v < axis → f v ≡ g v) → (n : ℕ) → repeatSum f n ≡ repeatSum g n
+unfolding repeatSum
 sum-ext f g e zero = refl
 sum-ext f g e (suc n) =
-    let q : sumOf f n ≡ sumOf g n = sum-ext f g e n in
+    let q : repeatSum f n ≡ repeatSum g n = sum-ext f g e n in
     ap₂ (λ (x y : ℕ). (x + y) % 2 ^ 64) q (ap₂ (λ (x : List ℕ) (y : ℕ). getD x y 0) (lows-ext f g e) (ap₂ _%_ q (runCount-ext f g e)))
 
 pub repeat-ext : (f g : ℕ → Bool) → ((v : ℕ) → v < axis → f v ≡ g v) → (times : ℕ) → repeatReply false f times ≡ repeatReply false g times

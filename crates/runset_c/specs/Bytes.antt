@@ -1,7 +1,7 @@
 -- Sets that come in as bytes, and what the calls on them answer. A run is two signed numbers of 32 bits, low and high, both included; the runs of the bytes may
 -- come in any order.
 use Prim.Native.Nat.{ℕ, zero, suc, _+_, _-_, _*_, _/_, _%_, _^_, min}
-use mathlib.Core.Bool.{Bool, true, false, not, cond, _&&_, _||_}
+use mathlib.Core.Bool.{Bool, false, not, cond, _&&_, _||_}
 use mathlib.Core.List.{List, _++_}
 use lib.Dec.{leb, ltb, eqb}
 use lib.ListN.{length, getD, drop}
@@ -61,13 +61,13 @@ abbrev pub distanceReply : Bool → (ℕ → Bool) → ℕ → ℕ
 distanceReply refused f v = cond refused 4294967295 (cond (leb axis v) 4294967294 (distance f v))
 
 -- a sum of lows, each picked by the sum before it, as 64 bits hold it
-unfoldable pub sumOf : (ℕ → Bool) → ℕ → ℕ
-sumOf f zero = 0
-sumOf f (suc n) = (sumOf f n + getD (lows f) (sumOf f n % runCount f) 0) % 2 ^ 64
+unfoldable pub repeatSum : (ℕ → Bool) → ℕ → ℕ
+repeatSum f zero = 0
+repeatSum f (suc n) = (repeatSum f n + getD (lows f) (repeatSum f n % runCount f) 0) % 2 ^ 64
 
 -- 0 for refused bytes, for too many runs and for the empty set
 unfoldable pub repeatReply : Bool → (ℕ → Bool) → ℕ → ℕ
-repeatReply refused f times = cond refused 0 (cond (ltb mostRuns (runCount f)) 0 (cond (eqb (runCount f) 0) 0 (sumOf f times)))
+repeatReply refused f times = cond refused 0 (cond (ltb mostRuns (runCount f)) 0 (cond (eqb (runCount f) 0) 0 (repeatSum f times)))
 
 -- the number of runs that joining stores, which is that of the result; 4,294,967,295 for refused bytes, 4,294,967,294 for too many runs
 unfoldable pub storesReply : Bool → (ℕ → Bool) → ℕ

@@ -10,6 +10,8 @@ use lib.ListN.{length, getD, take}
 use lib.Seq.{take-suc}
 use borrow.Author.Tests.{lt-ltb, le-ltb, ltb-true, ltb-false}
 use Rattle.number.specs.Least.{least}
+use Rattle.number.specs.laws.Least.{least-none}
+use Rattle.number.specs.laws.Order.{one-at-most}
 use Rattle.grammar.specs.Size.{count, openAt, tooDeep}
 
 count-parts : (b : ℕ) (x y : List ℕ) → count b (x ++ y) ≡ count b x + count b y
@@ -30,11 +32,6 @@ least-below P (suc n) (suc i) h e = go (P zero) (least-below (λ k. P (suc k)) n
     go true l = omega arith
     go false l = omega arith
 
-least-none : (P : ℕ → Bool) (n : ℕ) → ((k : ℕ) → k < n → P k ≡ false) → least P n ≡ n
-unfolding least
-least-none P zero h = refl
-least-none P (suc n) h = rw (h zero (omega arith)) (ap suc (least-none (λ k. P (suc k)) n (λ k l. h (suc k) (omega arith))))
-
 -- the bytes before i are counted, and at none of them too many brackets are open
 pub record Counted (s : List ℕ) (opened closed i : ℕ) : Type 0 where
   pub inside : i ≤ length s
@@ -45,10 +42,6 @@ pub record Counted (s : List ℕ) (opened closed i : ℕ) : Type 0 where
 
 pub none-counted : (s : List ℕ) → Counted s 0 0 0
 none-counted s = record { inside = omega arith; opens = refl; closes = refl; few = (omega arith, omega arith); shallow = λ k h. absurd (omega arith) }
-
-pub one-at-most : (b : Bool) → cond b 1 0 ≤ 1
-one-at-most true = omega arith
-one-at-most false = omega arith
 
 module _ (s : List ℕ) (opened closed i x y : ℕ) (h : Counted s opened closed i) (l : i < length s) (p : x ≡ cond (eqb (getD s i 0) 40) 1 0) (q : y ≡ cond (eqb (getD s i 0) 41) 1 0) where
   pub small : (x ≤ 1) × (y ≤ 1)

@@ -1,12 +1,9 @@
 -- What the rows that hold a tree say of it.
-use mathlib.Core.Path.{_≡_, refl, sym, ap, _∙_}
+use mathlib.Core.Path.{_≡_, sym, ap, _∙_}
 use mathlib.Core.List.{List}
-use Prim.Native.Nat.{ℕ, zero, suc, _+_, _≤_, _<_}
+use Prim.Native.Nat.{ℕ, _+_, _≤_, _<_}
 use native.Mathlib.Omega.{arith}
-use native.Mathlib.Numerals.{add-one}
-use mathlib.Core.Bool.{Bool, true, false, _&&_, _||_, or-true}
-use lib.Dec.{ltb}
-use borrow.Author.Tests.{ltb-true, ltb-false}
+use mathlib.Core.Bool.{Bool, true, false, _&&_, _||_}
 use Rattle.grammar.specs.inner.Kinds.{HIGH, LAG, NEXT, GLOBALLY, UNTIL, WEAK-UNTIL}
 use Rattle.grammar.specs.inner.Table.{rowAt, someKind}
 use Rattle.grammar.specs.Classes.{within}

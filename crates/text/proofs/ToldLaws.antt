@@ -1,10 +1,10 @@
 -- From the rows that hold a tree to the answer for the whole text.
 use mathlib.Core.Path.{_≡_, refl, sym, ap, subst, _∙_}
-use mathlib.Core.Bool.{Bool, true, false, cond, _||_}
+use mathlib.Core.Bool.{Bool, true, false}
 use mathlib.Core.List.{List}
-use Prim.Native.Nat.{ℕ, _+_, _-_, _*_, _≤_, _<_}
+use Prim.Native.Nat.{ℕ, _+_, _*_, _≤_, _<_}
 use native.Mathlib.Omega.{arith}
-use lib.Dec.{eqb, ltb}
+use lib.Dec.{ltb}
 use lib.ListN.{length}
 use borrow.Author.Tests.{eq-eqb, ne-eqb, lt-ltb, le-ltb}
 use Rattle.refusal.specs.declared.Refusal.the-variants.{TextLength, NoReading, TextTooLarge}
@@ -15,12 +15,11 @@ use Rattle.text.specs.declared.Answer.{Answer}
 use Rattle.text.specs.declared.Answer.the-variants.{Nodes, Refused}
 use Rattle.grammar.specs.Syntax.{Text}
 use Rattle.grammar.specs.Size.{mixed, nodes, tooDeep, mostBytes, mostNodes}
-use Rattle.grammar.specs.inner.Table.{treeAt, Falling}
-use Rattle.grammar.specs.inner.Parse.{Out, got, unread, chain, bars, parse, Parsed, one, none, unmixed, atEnd, parsed}
+use Rattle.grammar.specs.inner.Parse.{Out, got, unread, chain, bars, parse, one, none, unmixed, atEnd, parsed}
 use Rattle.parser.specs.inner.Rows.{Laid, Fits, Parses}
 use Rattle.text.specs.inner.Judge.{judgedText}
 use Rattle.text.specs.laws.Table.{decoded, held-falling, held-nodes}
-use Rattle.text.specs.Told.{badLength, noReading, tooLarge, textLines, nodesOf, outcomeOf, Tabled, Told}
+use Rattle.text.specs.Told.{badLength, Tabled, Told}
 
 -- JUDGING a text whose tree is read
 module _ (s T : List ℕ) (n : ℕ) (t : Text) (h : Laid T 0 n t) where

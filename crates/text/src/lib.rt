@@ -1,6 +1,6 @@
 // The question text: its one reading, as a table of nodes, or a refusal.
 ghost use mathlib.Core.Path.{_≡_};
-ghost use Prim.Native.Nat.{ℕ, _*_, _≤_};
+ghost use Prim.Native.Nat.{_*_, _≤_};
 ghost use lib.ListN.{length};
 ghost use Rattle.grammar.specs.Size.{mostBytes};
 ghost use Rattle.grammar.specs.Syntax.{Text};

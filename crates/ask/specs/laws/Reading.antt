@@ -9,11 +9,11 @@ use Rattle.page.specs.Intake.{spare, textBlocks, StandsFor}
 use Rattle.page.specs.laws.Intake.{stands-empty}
 use Rattle.page.specs.laws.Length.{printed-stands}
 use Rattle.ask.specs.declared.input.Input.{Input}
-use Rattle.ask.specs.Reading.{pieceOf, Turn, Turns, begun, then, Recorded, opened, missing}
+use Rattle.ask.specs.Reading.{pieceOf, Turns, no-turn, then, Recorded, opened, missing}
 
 -- ALL THE BYTES that were handed over: the pieces, joined in order
 abbrev pub handed : {store new : List ℕ} {r : Input} → Turns store new r → List ℕ
-handed begun = []
+handed no-turn = []
 handed (then t m u) = handed t ++ pieceOf (u .got) (u .buffer)
 
 abbrev pub recorded : {store new : List ℕ} {r : Input} → Recorded store new r → List ℕ
@@ -21,12 +21,12 @@ recorded (opened t) = handed t
 recorded (missing z n) = []
 
 same-size : {store new : List ℕ} {r : Input} → Turns store new r → length new ≡ length store
-same-size begun = refl
+same-size no-turn = refl
 same-size (then t m u) = u .size ∙ same-size t
 
 -- WHAT IS KEPT STANDS FOR ALL that was handed over
 pub turns-stand : {store new : List ℕ} {r : Input} (blocks : ℕ) → 16 * blocks + spare ≡ length store → (t : Turns store new r) → StandsFor blocks (handed t) new (r .kept)
-turns-stand {store} blocks e begun = stands-empty blocks store
+turns-stand {store} blocks e no-turn = stands-empty blocks store
 turns-stand blocks e (then t m u) = u .taken .takes .stands blocks (handed t) (e ∙ sym (same-size t)) (turns-stand blocks e t)
 
 pub recorded-stands : {store new : List ℕ} {r : Input} (blocks : ℕ) → 16 * blocks + spare ≡ length store → (t : Recorded store new r) → StandsFor blocks (recorded t) new (r .kept)

@@ -2,7 +2,6 @@
 use Rattle.evaluation.specs.inner.Evaluation.{textOf}
 use Rattle.meaning.specs.inner.Coded.{coded}
 use Rattle.band.specs.laws.Call.{width-below, width-over, width-good}
-use borrow.Author.Needs.{needs}
 use Rattle.band.proofs.at_index.Statement.{statement}
 use Rattle.band.proofs.at_index.Tie as tie
 

@@ -1,5 +1,5 @@
 -- By the kind of the text's last row, which is its root.
-use mathlib.Core.Path.{_≡_, refl}
+use mathlib.Core.Path.{refl}
 use native.Mathlib.Omega.{arith}
 use Rattle.recording.specs.Reading.{curveOf}
 use Rattle.grammar.specs.Syntax as asks

@@ -3,19 +3,19 @@ use Prim.Native.Nat.{ℕ, zero, suc, _+_, _-_, _≤_, _<_}
 use native.Mathlib.Nat.{not-suc-le-zero, le-of-suc-le-suc}
 use native.Mathlib.Omega.{arith}
 use mathlib.Core.Path.{_≡_, refl, sym, ap, _∙_, subst}
-use mathlib.Core.Bool.{Bool, true, false, not, _||_, _&&_, false≢true, true≢false}
+use mathlib.Core.Bool.{Bool, true, false, not, _||_, _&&_, true≢false}
 use mathlib.Core.List.{List, [], _∷_, _++_}
-use lib.Dec.{ltb, eqb}
+use lib.Dec.{eqb}
 use lib.IntN.{ℤ, pos, negsuc}
 use lib.ListN.{getD, length}
 use borrow.Author.Tests.{lt-ltb, le-ltb, ltb-true, ne-eqb, not-true}
 use Rattle.number.specs.Axis.{origin, whole}
 use Rattle.number.specs.laws.Boolean.{or-cases, or-none, and-left, and-right}
-use Rattle.refusal.specs.Outcome.{Outcome, result, refused, Line, judged, NoneMeets}
+use Rattle.refusal.specs.Outcome.{Outcome, result, refused, judged}
 use Rattle.refusal.specs.Numbers.{numberOf, placeOf}
 use Rattle.refusal.specs.declared.Refusal.{Refusal}
 use Rattle.recording.specs.Reading.{Curve, curveOf}
-use Rattle.recording.specs.laws.Outcome.{judged-pass, judged-skip, judged-first, judged-none, result-none, refusal-stands}
+use Rattle.recording.specs.laws.Outcome.{judged-pass, judged-skip, judged-first, judged-none, refusal-stands}
 use Rattle.grammar.specs.Syntax.{Listed, high, low, lowafter, capafter, ampl, Text, listed}
 use Rattle.grammar.specs.declared.Row.{Row}
 use Rattle.grammar.specs.inner.Kinds.{HIGH, LOW, LOWAFTER, CAPAFTER, AMPL}
@@ -29,6 +29,7 @@ use Rattle.evaluation.specs.laws.Tree.{kind-known}
 use Rattle.question.specs.Question.{theText, read, askingLines}
 use Rattle.question.specs.inner.Answered.{Answerable}
 use Rattle.question.specs.inner.Prepare.{preparedOf, Prepares}
+use Rattle.question.specs.laws.Prepare.{prepared-passes}
 use Rattle.question.specs.declared.prepare.Prepared.{Prepared}
 use Rattle.question.specs.declared.prepare.Prepared.the-variants as prepared
 use Rattle.targets.specs.Target.{offAxis, Placed}
@@ -166,7 +167,6 @@ module _ (bytes text table : List ℕ) (e : ℤ) (q : Prepared) (h : Prepares by
   unfolding bandOf
   band-answered n w z same o u =
       let is : textOf table n ≡ read text = ap theText (sym (h .tabled n w .reads)) in
-      let passed : NoneMeets (askingLines bytes text) = result-none (askingLines bytes text) (nodesOf (parsed text)) n (sym (h .outcome) ∙ ap preparedOf w) .0 in
       u ∙ ap (λ (t : ℤ). JudgedIn (textOf table n) t (coded bytes)) same
       ∙ ap (λ (p : Text). JudgedIn p e (coded bytes)) is
-      ∙ sym (judged-pass (askingLines bytes text) (widthLine e ∷ extremeLine (read text) ∷ []) (bandsOf (theQuestion (read text)) (widthOf e) (coded bytes)) passed)
+      ∙ sym (judged-pass (askingLines bytes text) (widthLine e ∷ extremeLine (read text) ∷ []) (bandsOf (theQuestion (read text)) (widthOf e) (coded bytes)) (prepared-passes h n w .0))

@@ -1,5 +1,5 @@
 -- Curves within the band and the values of their records: each curve's values are close to those recorded, and all close values are those of a curve.
-use Prim.Native.Nat.{ℕ, suc, _+_, _-_, _≤_, _<_}
+use Prim.Native.Nat.{ℕ, suc, _+_, _≤_}
 use native.Mathlib.Omega.{arith}
 use mathlib.Core.Path.{_≡_, refl, sym, ap, _∙_, subst}
 use mathlib.Core.Bool.{Bool, true, false, So}
@@ -7,14 +7,12 @@ use mathlib.Core.Logic.{_↔_}
 use mathlib.Core.List.{List, [], _∷_, map}
 use lib.Dec.{leb}
 use lib.IntN.{ℤ, pos, negsuc, _+ℤ_}
-use lib.Signed.{leZ, _≤ℤ_}
 use borrow.Author.Tests.{leb-true, le-leb}
-use Rattle.number.specs.Axis.{origin, axis, whole}
-use Rattle.number.specs.laws.Boolean.{and-left, and-right}
+use Rattle.number.specs.Axis.{origin, whole}
+use Rattle.number.specs.laws.Boolean.{and-left}
 use Rattle.recording.specs.Condition.{when}
 use Rattle.recording.specs.Reading.{Reading, Curve, A, B, value, slope, nothing}
 use Rattle.recording.specs.Recording.{inRange}
-use Rattle.meaning.specs.Listed.{recordAt}
 use Rattle.meaning.specs.inner.Recorded.{InRange}
 use Rattle.meaning.specs.inner.Coded.{Coded, code, index, codedValue}
 use Rattle.meaning.specs.laws.Whole.{Stands, stands-whole, index-whole, coded-value, stands-le, stands-add, le-test}

@@ -1,8 +1,8 @@
 -- The ends, over lists of numbers: a run of `bandsOf` holds exactly the numbers with which a test passes of every list within e, and of at least one.
 use Prim.Native.Nat.{ℕ, _+_, _-_, _*_, _≤_, _<_, max, min}
 use native.Mathlib.Omega.{arith}
-use mathlib.Core.Path.{_≡_, refl, sym, ap, _∙_, subst, fun-ext}
-use mathlib.Core.Bool.{Bool, true, false, So, false≢true}
+use mathlib.Core.Path.{_≡_, refl, sym, ap, _∙_, fun-ext}
+use mathlib.Core.Bool.{Bool, So, false≢true}
 use mathlib.Core.Logic.{_↔_, ⊎-elim}
 use mathlib.Core.List.{List, [], _∷_, map}
 use lib.Dec.{leb}
@@ -14,7 +14,7 @@ use Rattle.meaning.specs.inner.Truth.{allOf}
 use Rattle.band.specs.Means.{InPart, Bands}
 use Rattle.band.specs.inner.Ends.{greatestOf, leastOf, toGreatest, fromLeast, fromGreatest, spreadOf, toSpread}
 use Rattle.meaning.specs.laws.Pick.{Each}
-use Rattle.band.specs.laws.Values.{Close, Closely, closely-map, greatest-close, least-close, least-greatest, all-between, all-then, greatest-in, least-in, greatest-map, least-map, Upward, Downward, some-greatest, some-least, all-greatest}
+use Rattle.band.specs.laws.Values.{Closely, closely-map, greatest-close, least-close, least-greatest, all-between, greatest-in, least-in, greatest-map, least-map, Upward, Downward, some-greatest, some-least, all-greatest}
 
 -- ---- what a question asks of the values with the number at index n put in
 

@@ -1,12 +1,11 @@
 -- THE ENDS ARE THE MEANING: a number of the axis lies in a run of `bandsOf` exactly where it is certain, or possible.
-use Prim.Native.Nat.{ℕ, _+_, _≤_, _<_}
+use Prim.Native.Nat.{ℕ, _+_, _≤_}
 use mathlib.Core.Path.{_≡_, refl, sym, ap, ap₂, _∙_, subst}
 use mathlib.Core.Bool.{Bool, true, false, _&&_, _||_, not, So}
 use mathlib.Core.Logic.{_↔_}
 use mathlib.Core.List.{List, [], _∷_, map}
 use lib.Dec.{leb, ltb}
-use lib.IntN.{ℤ}
-use Rattle.number.specs.Axis.{axis, origin, whole}
+use Rattle.number.specs.Axis.{origin, whole}
 use Rattle.number.specs.laws.Boolean.{then}
 use Rattle.recording.specs.Condition.{when}
 use Rattle.recording.specs.Reading.{Reading, Curve}
@@ -19,7 +18,7 @@ use Rattle.meaning.specs.laws.Whole.{stands-whole}
 use Rattle.meaning.specs.laws.Listed.{says-at}
 use Rattle.meaning.specs.laws.Pick.{Each}
 use Rattle.band.specs.Band.{OfExtremes, of-high, of-low, of-lowafter, of-capafter, of-ampl, Certain, Possible}
-use Rattle.band.specs.Means.{InPart, Bands}
+use Rattle.band.specs.Means.{Bands}
 use Rattle.band.specs.inner.Ends.{valuesWhere, values, valuesAfter, bandsOf}
 use Rattle.band.specs.Means.{Mean}
 use Rattle.band.specs.laws.Lists.{reaches, sinks, stays, lieApart, EveryList, SomeList, Tells, tells-greatest, tells-least, tells-cap, tells-spread}

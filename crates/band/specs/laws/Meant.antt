@@ -2,7 +2,7 @@
 use Prim.Native.Nat.{ℕ}
 use native.Mathlib.Omega.{arith}
 use mathlib.Core.Path.{_≡_, refl, sym, subst, _∙_}
-use mathlib.Core.Bool.{Bool, true, false, not, false≢true}
+use mathlib.Core.Bool.{true, false≢true}
 use mathlib.Core.List.{List}
 use lib.IntN.{pos}
 use borrow.Author.Tests.{not-false}
@@ -10,13 +10,11 @@ use Rattle.refusal.specs.Outcome.{result}
 use Rattle.recording.specs.Recording.{readings}
 use Rattle.grammar.specs.Syntax.{Listed, high, low, lowafter, capafter, peaks, dips, cross, crossup, dose, ampl, gaps, steps, lag, Text, atom, listed, or, and, neg, finally, globally, next, until, weakUntil}
 use Rattle.grammar.specs.Grammar.{ReadsWhole}
-use Rattle.meaning.specs.inner.Coded.{coded}
 use Rattle.meaning.specs.laws.Recorded.{accepted-recorded}
 use Rattle.question.specs.Question.{read}
 use Rattle.question.specs.laws.Lines.{read-reads, reads-read}
 use Rattle.band.specs.Band.{OfExtremes, of-high, of-low, of-lowafter, of-capafter, of-ampl}
 use Rattle.band.specs.Means.{Bands}
-use Rattle.band.specs.inner.Ends.{bandsOf}
 use Rattle.band.specs.Means.{Mean, Meant}
 use Rattle.band.specs.Call.{ofExtremes, oneExtreme, theQuestion, bandOf}
 use Rattle.band.specs.laws.Meaning.{bands-mean}

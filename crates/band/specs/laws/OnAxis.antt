@@ -1,25 +1,23 @@
 -- The ends of a run that is shown are indices of the axis.
-use Prim.Native.Nat.{ℕ, _+_, _-_, _≤_, _<_}
+use Prim.Native.Nat.{ℕ, _≤_}
 use native.Mathlib.Omega.{arith}
-use mathlib.Core.Path.{_≡_, sym, ap, subst, _∙_}
-use mathlib.Core.Bool.{Bool, true, false, not, false≢true}
+use mathlib.Core.Path.{_≡_, sym, subst}
+use mathlib.Core.Bool.{false, false≢true}
 use mathlib.Core.List.{List, [], _∷_, _++_}
 use lib.IntN.{ℤ, pos, negsuc}
 use borrow.Author.Tests.{ltb-false}
-use Rattle.number.specs.Axis.{axis}
-use Rattle.refusal.specs.Outcome.{Outcome, result, Line, judged, NoneMeets}
-use Rattle.recording.specs.Recording.{readings, Accepted, recordingLines, noRecord}
+use Rattle.refusal.specs.Outcome.{result, NoneMeets}
+use Rattle.recording.specs.Recording.{Accepted, recordingLines, noRecord}
 use Rattle.recording.specs.laws.Outcome.{result-none, none-append}
 use Rattle.grammar.specs.Syntax.{Listed, high, low, lowafter, capafter, peaks, dips, cross, crossup, dose, ampl, gaps, steps, lag}
 use Rattle.text.specs.Told.{textLines}
-use Rattle.meaning.specs.inner.Coded.{coded, codedAfter}
-use Rattle.meaning.specs.laws.Recorded.{accepted-recorded}
+use Rattle.meaning.specs.inner.Coded.{coded}
 use Rattle.question.specs.Question.{read, askingLines}
 use Rattle.band.specs.Band.{widest}
-use Rattle.band.specs.Means.{Part, empty, run, Bands}
+use Rattle.band.specs.Means.{Bands}
 use Rattle.band.specs.inner.Ends.{toGreatest, fromLeast, fromGreatest, toSpread, bandsOf, values, valuesAfter}
 use Rattle.band.specs.Call.{badBand, widthOf, theQuestion, widthLine, extremeLine, bandOf}
-use Rattle.band.specs.inner.OnAxis.{EndsOnAxis, BothOnAxis}
+use Rattle.band.specs.inner.OnAxis.{BothOnAxis}
 use Rattle.meaning.specs.laws.Pick.{Each}
 use Rattle.band.specs.laws.Values.{greatest-in, least-in}
 use Rattle.band.specs.laws.Lists.{Inner}

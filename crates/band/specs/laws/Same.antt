@@ -1,16 +1,15 @@
 -- Recordings that a question on extremes does not tell apart have the same two sets within every band, for `ampl` where both or neither is a single record.
-use Prim.Native.Nat.{ℕ, _+_, _-_, _*_, _≤_, _<_, min}
+use Prim.Native.Nat.{ℕ, _+_, _-_, _*_, min}
 use native.Mathlib.Omega.{arith}
-use mathlib.Core.Path.{_≡_, refl, sym, ap, ap₂, _∙_}
-use mathlib.Core.Bool.{Bool, true, false, false≢true}
+use mathlib.Core.Path.{_≡_, refl, sym, ap, _∙_}
+use mathlib.Core.Bool.{false≢true}
 use mathlib.Core.Logic.{_↔_}
 use mathlib.Core.List.{List, [], _∷_}
 use lib.ListN.{length}
 use Rattle.number.specs.Axis.{origin, axis}
-use Rattle.recording.specs.Reading.{Curve}
 use Rattle.recording.specs.Recording.{Accepted}
 use Rattle.grammar.specs.Syntax.{Listed, high, low, lowafter, capafter, peaks, dips, cross, crossup, dose, ampl, gaps, steps, lag, Text, atom, listed, or, and, neg, finally, globally, next, until, weakUntil}
-use Rattle.meaning.specs.inner.Coded.{Coded, coded}
+use Rattle.meaning.specs.inner.Coded.{coded}
 use Rattle.meaning.specs.inner.Truth.{truth, val}
 use Rattle.band.specs.inner.Ends.{twoSets, upto, from, values, valuesAfter, greatestOf, leastOf, spreadOf, toGreatest, fromLeast, fromGreatest, toSpread, bandsOf}
 use Rattle.band.specs.Call.{theQuestion}
@@ -19,7 +18,7 @@ use Rattle.band.specs.laws.Values.{greatest-in, least-greatest}
 use Rattle.band.specs.laws.Lists.{Inner, reaches, sinks, stays, lieApart, reaches-is, sinks-is, stays-is, lie-is}
 use Rattle.band.specs.laws.Curves.{margin}
 use Rattle.band.specs.laws.Meaning.{high-values, low-values, lowafter-values, capafter-values, ampl-values}
-use Rattle.band.specs.laws.Today.{length-values, inner-values, inner-after}
+use Rattle.band.specs.laws.Today.{length-values, inner-after}
 
 -- ---- over lists of values
 

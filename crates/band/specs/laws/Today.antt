@@ -1,26 +1,25 @@
 -- From today's run to the two runs of a band: its end is the greatest or the least value, or how far they lie apart.
 use Prim.Native.Nat.{ℕ, suc, _+_, _-_, _*_, _/_, _≤_, _<_, max, min}
 use native.Mathlib.Omega.{arith}
-use mathlib.Core.Path.{_≡_, refl, sym, ap, ap₂, _∙_, subst}
-use mathlib.Core.Bool.{Bool, true, false, _&&_, So, false≢true}
-use mathlib.Core.Logic.{⊎-elim}
-use mathlib.Core.List.{List, [], _∷_, map}
+use mathlib.Core.Path.{_≡_, refl, sym, ap, ap₂, _∙_}
+use mathlib.Core.Bool.{Bool, true, false≢true}
+use mathlib.Core.List.{List, [], _∷_}
 use lib.Dec.{leb}
-use lib.ListN.{length, length-map}
+use lib.ListN.{length}
 use borrow.Author.Tests.{leb-true, le-leb}
 use Rattle.number.specs.Axis.{origin, axis}
-use Rattle.number.specs.laws.Boolean.{and-left, and-right, and-make, clash}
+use Rattle.number.specs.laws.Boolean.{and-left, and-right, and-make}
 use Rattle.recording.specs.Reading.{Curve}
 use Rattle.recording.specs.Recording.{readings, Accepted}
 use Rattle.grammar.specs.Syntax.{high, low, lowafter, capafter, ampl}
-use Rattle.meaning.specs.inner.Coded.{Coded, code, coded, codedAfter}
+use Rattle.meaning.specs.inner.Coded.{Coded, coded, codedAfter}
 use Rattle.meaning.specs.inner.Truth.{truth}
 use Rattle.meaning.specs.laws.Recorded.{accepted-recorded}
 use Rattle.leaves.specs.inner.Span.{Spans}
 use Rattle.leaves.specs.laws.Span.{spans-ext}
 use Rattle.leaves.specs.laws.Coding.{length-coded}
 use Rattle.leaves.specs.declared.span.Span.{Span}
-use Rattle.band.specs.Means.{Part, empty, Bands}
+use Rattle.band.specs.Means.{empty}
 use Rattle.band.specs.inner.Ends.{upto, from, twoSets, twice, values, valuesAfter, greatestOf, leastOf, spreadOf, toGreatest, fromLeast, fromGreatest, toSpread, bandsOf}
 use Rattle.meaning.specs.laws.Pick.{Each}
 use Rattle.band.specs.laws.Values.{greatest-in, least-in, least-greatest}

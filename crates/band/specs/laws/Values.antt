@@ -1,11 +1,11 @@
 -- Numbers that moved by at most e: how far the greatest and the least of them move, and tests that only these decide.
-use Prim.Native.Nat.{ℕ, _+_, _-_, _≤_, _<_, max, min}
+use Prim.Native.Nat.{ℕ, _+_, _≤_, max, min}
 use native.Mathlib.Omega.{arith}
 use mathlib.Core.Path.{_≡_, refl, sym, ap, _∙_, subst}
-use mathlib.Core.Bool.{Bool, true, false, _||_, _&&_, So, or-false}
+use mathlib.Core.Bool.{Bool, true, _||_, _&&_, or-false}
 use mathlib.Core.Logic.{⊎-elim}
 use mathlib.Core.List.{List, [], _∷_, map}
-use Rattle.number.specs.laws.Boolean.{same, or-left, or-right, or-cases, and-left, and-right, and-make}
+use Rattle.number.specs.laws.Boolean.{same, or-left, or-right, or-cases, and-left, and-right, and-make, and-true}
 use Rattle.number.specs.laws.Order.{less-or-not}
 use Rattle.recording.specs.Condition.{someOf}
 use Rattle.meaning.specs.inner.Truth.{allOf}
@@ -91,10 +91,6 @@ least-map f h x (y ∷ v) = ap (min (f x)) (least-map f h y v) ∙ sym (h x (lea
 
 -- ---- tests
 
-and-true : (b : Bool) → (b && true) ≡ b
-and-true true = refl
-and-true false = refl
-
 -- a test that goes up, one that goes down
 abbrev pub Upward : (ℕ → Bool) → Type 0
 Upward Q = (x y : ℕ) → x ≤ y → Q x ≡ true → Q y ≡ true
@@ -120,7 +116,7 @@ module _ (Q : ℕ → Bool) where
       (λ l. or-right (Q x) _ (let q : min x (leastOf y v) ≡ leastOf y v = omega arith in subst (λ (z : ℕ). Q z ≡ true) q h)) (less-or-not x (leastOf y v)))
 
   pub all-greatest : Downward Q → (x : ℕ) (v : List ℕ) → allOf Q (x ∷ v) ≡ Q (greatestOf x v)
-  all-greatest m x [] = and-true (Q x)
+  all-greatest m x [] = sym (and-true (Q x))
   all-greatest m x (y ∷ v) = ap (λ (b : Bool). Q x && b) (all-greatest m y v) ∙ same _ _
       (λ h. ⊎-elim
       (λ l. let q : greatestOf y v ≡ max x (greatestOf y v) = omega arith in subst (λ (z : ℕ). Q z ≡ true) q (and-right (Q x) _ h))

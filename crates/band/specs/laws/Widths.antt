@@ -2,12 +2,11 @@
 -- gains a number and possible never loses one.
 use Prim.Native.Nat.{ℕ, suc, _≤_}
 use native.Mathlib.Omega.{arith}
-use mathlib.Core.Path.{_≡_, refl, sym, ap, ap₂, _∙_, subst}
+use mathlib.Core.Path.{_≡_, refl, sym, ap₂, subst}
 use mathlib.Core.Logic.{_↔_}
 use mathlib.Core.List.{List, [], _∷_}
 use lib.IntN.{ℤ, pos, negsuc}
 use borrow.Author.Tests.{eq-eqb}
-use Rattle.number.specs.Axis.{origin}
 use Rattle.recording.specs.Reading.{Reading, Curve, A, B, value}
 use Rattle.grammar.specs.Syntax.{Listed}
 use Rattle.meaning.specs.Listed.{Says}

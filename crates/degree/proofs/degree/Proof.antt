@@ -7,10 +7,6 @@ use Rattle.degree.specs.laws.Call.{degree-refused, degree-answered}
 use borrow.Author.Needs.{needs}
 use Rattle.degree.proofs.degree.Statement.{statement}
 use Rattle.degree.proofs.degree.Tie as tie
-use Rattle.degree.proofs.degree.Reads as reads
-use Rattle.degree.proofs.degree.Lts as lts
-use Rattle.degree.proofs.near_target.Reads as near-target-reads
-use Rattle.question.proofs.prepare.prepare.Reads as prepare-reads
 
 slice-aggregate-prepare : tie.Need-slice-aggregate-prepare
 slice-aggregate-prepare c = search needs

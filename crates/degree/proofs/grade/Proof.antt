@@ -3,10 +3,6 @@ use Rattle.degree.specs.laws.Call.{grade-met, grade-short}
 use borrow.Author.Needs.{needs}
 use Rattle.degree.proofs.grade.Statement.{statement}
 use Rattle.degree.proofs.grade.Tie as tie
-use Rattle.degree.proofs.grade.Reads as reads
-use Rattle.degree.proofs.grade.Lts as lts
-use Rattle.ratio.proofs.distance_of.Reads as distance-of-reads
-use Rattle.ratio.proofs.degree_of.Reads as degree-of-reads
 
 returns : tie.Need-returns
 returns c = grade-met (c .before .args .d) (c .if1 .taken)

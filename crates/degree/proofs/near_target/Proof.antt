@@ -3,7 +3,6 @@ use Rattle.evaluation.specs.inner.Evaluation.{textOf}
 use Rattle.meaning.specs.inner.Coded.{coded}
 use Rattle.meaning.specs.inner.Truth.{val}
 use Rattle.question.specs.Question.{setLines}
-use Rattle.targets.specs.Target.{Placed}
 use Rattle.targets.specs.laws.Target.{placed-handed}
 use Rattle.targets.specs.declared.OnAxis.the-variants.{Index, Off}
 use Prim.Native.Nat.{ℕ}
@@ -15,10 +14,6 @@ use Rattle.degree.specs.laws.Call.{target-off, target-on, graded-lines}
 use borrow.Author.Needs.{needs}
 use Rattle.degree.proofs.near_target.Statement.{statement}
 use Rattle.degree.proofs.near_target.Tie as tie
-use Rattle.degree.proofs.near_target.Reads as reads
-use Rattle.degree.proofs.near_target.Lts as lts
-use Rattle.degree.proofs.near_text.Reads as near-text-reads
-use Rattle.targets.proofs.on_axis.Reads as on-axis-reads
 
 on-axis-requires : tie.Need-on-axis-requires
 on-axis-requires c κs = search needs

@@ -10,7 +10,7 @@ use lib.IntN.{ℤ}
 use lib.Ieee.{Float, isNan}
 use borrow.Author.Tests.{eq-eqb, ne-eqb, ltb-true}
 use Rattle.number.specs.Axis.{axis}
-use Rattle.refusal.specs.Outcome.{Outcome, result, refused, Line, judged, NoneMeets}
+use Rattle.refusal.specs.Outcome.{Outcome, result, refused, Line, judged}
 use Rattle.refusal.specs.Numbers.{numberOf, placeOf}
 use Rattle.refusal.specs.declared.Refusal.{Refusal}
 use Rattle.recording.specs.laws.Outcome.{judged-pass, judged-skip, judged-first, judged-none, result-none, refusal-stands}
@@ -27,6 +27,7 @@ use Rattle.meaning.specs.laws.Whole.{index-whole}
 use Rattle.evaluation.specs.inner.Evaluation.{textOf}
 use Rattle.question.specs.Question.{theText, read, answer, askingLines, setLines}
 use Rattle.question.specs.inner.Prepare.{preparedOf, Prepares}
+use Rattle.question.specs.laws.Prepare.{prepared-passes}
 use Rattle.question.specs.inner.Answered.{Gives}
 use Rattle.question.specs.declared.prepare.Prepared.{Prepared}
 use Rattle.question.specs.declared.prepare.Prepared.the-variants as prepared
@@ -36,10 +37,9 @@ use Rattle.ratio.specs.Degree.{distanceOf, degreeOf}
 use Rattle.ratio.specs.laws.Degree.{distance-number, degree-number}
 use Rattle.targets.specs.Target.{Placed}
 use Rattle.targets.specs.declared.OnAxis.the-variants.{Index, Off}
-use Rattle.degree.specs.Degree.{Reach, away, nowhere, reachIn, reachedOf, Value, met, short, noValue, graded, valued, valueOf, targetLine, nearnessOf, outcomeOf}
+use Rattle.degree.specs.Degree.{Reach, away, nowhere, reachIn, reachedOf, Value, met, short, noValue, graded, valued, valueOf, targetLine, nearnessOf}
 use Rattle.degree.specs.inner.Reach.{reachAt, mapped}
 use Rattle.degree.specs.declared.Reached.{Reached}
-use Rattle.degree.specs.declared.Reached.the-variants as reached
 
 -- ---- a distance
 
@@ -141,10 +141,9 @@ module _ (bytes text table : List ℕ) (g : ℤ) (q : Prepared) (h : Prepares by
   unfolding nearnessOf
   degree-answered n e z same o w =
       let is : textOf table n ≡ read text = ap theText (sym (h .tabled n e .reads)) in
-      let passed : NoneMeets (askingLines bytes text) = result-none (askingLines bytes text) (nodesOf (parsed text)) n (sym (h .outcome) ∙ ap preparedOf e) .0 in
       w ∙ ap (λ (t : ℤ). judged (targetLine t ∷ setLines bytes (textOf table n)) (valueOf (λ k. val (coded bytes) k (textOf table n) 0) (index t))) same
       ∙ ap (λ (p : Text). judged (targetLine g ∷ setLines bytes p) (valueOf (λ k. val (coded bytes) k p 0) (index g))) is
-      ∙ sym (judged-pass (askingLines bytes text) (targetLine g ∷ setLines bytes (read text)) (valueOf (answer bytes text) (index g)) passed)
+      ∙ sym (judged-pass (askingLines bytes text) (targetLine g ∷ setLines bytes (read text)) (valueOf (answer bytes text) (index g)) (prepared-passes h n e .0))
 
 -- the target is given by its index
 module _ (bytes text table : List ℕ) (v : ℕ) (q : Prepared) (h : Prepares bytes text table q) where
@@ -158,9 +157,8 @@ module _ (bytes text table : List ℕ) (v : ℕ) (q : Prepared) (h : Prepares by
   unfolding reachAt
   at-answered n e o w =
       let is : textOf table n ≡ read text = ap theText (sym (h .tabled n e .reads)) in
-      let passed : NoneMeets (askingLines bytes text) = result-none (askingLines bytes text) (nodesOf (parsed text)) n (sym (h .outcome) ∙ ap preparedOf e) .0 in
       w ∙ ap (λ (p : Text). judged (setLines bytes p) (reachIn (λ k. val (coded bytes) k p 0) v)) is
-      ∙ sym (judged-pass (askingLines bytes text) (setLines bytes (read text)) (reachIn (answer bytes text) v) passed)
+      ∙ sym (judged-pass (askingLines bytes text) (setLines bytes (read text)) (reachIn (answer bytes text) v) (prepared-passes h n e .0))
 
 -- ---- the distance and the degree are numbers
 

@@ -3,15 +3,14 @@ use Prim.Native.Nat.{ℕ, suc, _+_, _-_, _≤_, _<_}
 use native.Mathlib.Omega.{arith}
 use mathlib.Core.Path.{_≡_, refl, sym, ap, subst, _∙_}
 use mathlib.Core.List.{List, _∷_, _++_}
-use mathlib.Core.Bool.{Bool, true, false, cond, So}
-use mathlib.Core.Logic.{_↔_}
+use mathlib.Core.Bool.{Bool, true, false, cond}
 use lib.Dec.{eqb, ltb}
 use lib.IntN.{ℤ, pos, negsuc}
 use lib.Ieee.{Float}
 use lib.Ieee.Exact.{HasValue}
 use borrow.Author.Tests.{ltb-true, ltb-false, eqb-true, eqb-false}
 use Rattle.number.specs.Axis.{axis, origin, whole}
-use Rattle.refusal.specs.Outcome.{result, NoneMeets}
+use Rattle.refusal.specs.Outcome.{result}
 use Rattle.recording.specs.Reading.{Reading}
 use Rattle.recording.specs.Recording.{Accepted, readings, recordingLines, noRecord}
 use Rattle.recording.specs.laws.Outcome.{result-none, none-append}
@@ -30,7 +29,7 @@ use Rattle.ratio.specs.Degree.{distanceOf, degreeOf}
 use Rattle.ratio.specs.laws.Degree.{distance-exact}
 use Rattle.targets.specs.Target.{offAxis}
 use Rattle.targets.specs.laws.Target.{sub-above, sub-below}
-use Rattle.degree.specs.Degree.{Reach, away, nowhere, Value, met, short, noValue, graded, valued, valueOf, targetLine, nearnessOf}
+use Rattle.degree.specs.Degree.{away, nowhere, Value, met, short, graded, valued, valueOf, targetLine, nearnessOf}
 use Rattle.degree.specs.Nearest.{Member, Distance, TrueOf, Near}
 
 module _ (bytes text : List ℕ) (a : Accepted bytes) (v : ℕ) (h : v < axis) where

@@ -14,7 +14,7 @@ use Rattle.runs.specs.Distance.{distance}
 use Rattle.meaning.specs.inner.Coded.{index}
 use Rattle.question.specs.Question.{read, answer, askingLines, setLines}
 use Rattle.targets.specs.Target.{offAxis}
-use Rattle.degree.specs.Degree.{Reach, away, nowhere, reachIn, valued, targetLine, degreeLines, nearnessOf, reachOf}
+use Rattle.degree.specs.Degree.{away, nowhere, reachIn, valued, targetLine, degreeLines, nearnessOf, reachOf}
 use Rattle.degree.specs.inner.Reach.{reachAt, mapped}
 use Rattle.degree.specs.laws.Call.{judged-mapped}
 

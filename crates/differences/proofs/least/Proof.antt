@@ -60,8 +60,8 @@ loop-again c =
           (c .before .difference .result) (h .loop .inv .2) (c .before .before .before .before .before .loop-test .taken) (c .before .difference .ensures) (c .if2 .taken)),
     )
 
-lower-requires : tie.Need-lower-requires Inv-loop μ-loop
-lower-requires c κs = search needs
+lesser-requires : tie.Need-lesser-requires Inv-loop μ-loop
+lesser-requires c κs = search needs
 
 add-i : tie.Need-add-i Inv-loop μ-loop
 add-i c = search needs
@@ -75,7 +75,7 @@ loop-again-2 c =
     let s = h .before .before .before in (
       omega arith,
       omega arith,
-      rw (add-one, c .lower .ensures) (passed-row (s .args .a .now) (s .args .b .now) (s .pre .0) (s .pre .1) (s .args .x) (h .loop .i) (h .loop .j) (h .loop .best)
+      rw (add-one, c .lesser .ensures) (passed-row (s .args .a .now) (s .args .b .now) (s .pre .0) (s .pre .1) (s .args .x) (h .loop .i) (h .loop .j) (h .loop .best)
           (c .before .before .difference .result) (h .loop .inv .2) (c .before .before .before .before .before .before .loop-test .taken) (c .before .before .before .before .before .if1 .left)
           (c .before .before .difference .ensures) (c .before .if2 .left)),
     )
@@ -102,7 +102,7 @@ least-spec =
     add-j
     loop-less
     loop-again
-    lower-requires
+    lesser-requires
     add-i
     loop-less-2
     loop-again-2

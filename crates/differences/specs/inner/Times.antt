@@ -26,5 +26,5 @@ abbrev pub stepsOf : List ℕ → ℕ → Bool
 stepsOf t n = someStep (apart n) t
 
 -- `peaks`, `cross`: n is one of the times
-abbrev pub momentsOf : List ℕ → ℕ → Bool
-momentsOf t n = among n t
+abbrev pub timeSet : List ℕ → ℕ → Bool
+timeSet t n = among n t

@@ -1,11 +1,11 @@
 -- A node from its children, whose numbers are smaller. Each answer is a law on the rows of the text and the two tables of sets.
-use mathlib.Core.Path.{_≡_, sym, _∙_}
+use mathlib.Core.Path.{sym, _∙_}
 use Prim.Native.Nat.{ℕ, _<_}
 use native.Mathlib.Omega.{arith}
 use borrow.Author.Needs.{needs}
 use borrow.Fn.Kinds.{In}
 use borrow.Fn.PlainCycle.{Measures, is, falls, and}
-use Rattle.evaluation.specs.laws.Evaluate.{coded-length}
+use Rattle.leaves.specs.laws.Coding.{length-coded}
 use Rattle.evaluation.specs.laws.Line.{line-asked, line-leaf, first-node, first-falls, kind-fits, first-over, line-one-valid, line-one, second-node, second-falls, second-over, line-two-valid, line-two}
 use Rattle.evaluation.proofs.eval.Reads as eval
 use Rattle.evaluation.proofs.eval.Kinds as eval-kinds
@@ -56,7 +56,7 @@ eval-returns-2 t c =
 
 eval-add-last : (t : ℕ) → eval-lts.Need-add-last (callees t) (eval-at t) eval.Post
 eval-add-last t c =
-    omega (arith, c .before .before .before .before .before .before .before .before .before .before .pre .1 .0 .fit .index, coded-length (c .before .before .before .before .before .before .before .before .before .before .args .rec .now))
+    omega (arith, c .before .before .before .before .before .before .before .before .before .before .pre .1 .0 .fit .index, length-coded (c .before .before .before .before .before .before .before .before .before .before .args .rec .now))
 
 eval-one-at-requires : (t : ℕ) → eval-lts.Need-one-at-requires (callees t) (eval-at t) eval.Post
 eval-one-at-requires t c κs =

@@ -1,8 +1,8 @@
 -- The root is evaluated at the first record, and its set is copied out.
-use mathlib.Core.Path.{_≡_, refl, sym, subst, _∙_}
+use mathlib.Core.Path.{refl, sym, subst}
 use native.Mathlib.Omega.{arith}
 use Rattle.runs.specs.Set.{Valid}
-use Rattle.text.specs.laws.Table.{above}
+use Rattle.parser.specs.laws.Rows.{laid-above}
 use Rattle.evaluation.specs.laws.Walk.{flat-node, flat-over, flat-valid, flat-done, holds-same}
 use borrow.Author.Needs.{needs}
 use Rattle.evaluation.proofs.at_first.Statement.{statement}
@@ -10,7 +10,7 @@ use Rattle.evaluation.proofs.at_first.Tie as tie
 
 sub-root : tie.Need-sub-root
 sub-root c =
-    omega (arith, above (c .before .before .before .pre .0 .laid))
+    omega (arith, laid-above (c .before .before .before .pre .0 .laid))
 
 eval-requires : tie.Need-eval-requires
 eval-requires c κs =
@@ -25,7 +25,7 @@ slice-aggregate-set-in c = search needs
 
 set-in-requires : tie.Need-set-in-requires
 set-in-requires c κs =
-    (c .before .before .eval .ensures .1, omega (arith, above (c .before .before .before .before .before .before .before .before .before .pre .0 .laid), c .before .before .before .before .before .before .before .before .before .pre .0 .few))
+    (c .before .before .eval .ensures .1, omega (arith, laid-above (c .before .before .before .before .before .before .before .before .before .pre .0 .laid), c .before .before .before .before .before .before .before .before .before .pre .0 .few))
 
 copy-requires : tie.Need-copy-requires
 copy-requires c κs =

@@ -2,7 +2,7 @@
 use native.Mathlib.Omega.{arith}
 use mathlib.Core.Path.{_∙_}
 use borrow.Author.Needs.{needs}
-use Rattle.text.specs.laws.Table.{above}
+use Rattle.parser.specs.laws.Rows.{laid-above}
 use Rattle.evaluation.specs.laws.Alone.{alone-asked, alone-evaluates}
 use Rattle.evaluation.proofs.evaluate.Statement.{statement}
 use Rattle.evaluation.proofs.evaluate.Tie as tie
@@ -19,10 +19,10 @@ returns : tie.Need-returns
 returns c = c .before .before .walk .ensures
 
 sub-row-at : tie.Need-sub-row-at
-sub-row-at c = let s = c .before .before .before .before in omega (arith, above (s .pre .0 .laid))
+sub-row-at c = let s = c .before .before .before .before in omega (arith, laid-above (s .pre .0 .laid))
 
 row-at-requires : tie.Need-row-at-requires
-row-at-requires c κs = let s = c .before .before .before .before in omega (arith, above (s .pre .0 .laid), s .pre .0 .rows)
+row-at-requires c κs = let s = c .before .before .before .before in omega (arith, laid-above (s .pre .0 .laid), s .pre .0 .rows)
 
 leaf-requires : tie.Need-leaf-requires
 leaf-requires c κs =

@@ -5,8 +5,8 @@ use native.Mathlib.Omega.{arith}
 use lib.ListN.{length}
 use Rattle.runs.specs.Runs.{mostRuns}
 use Rattle.runs.specs.Set.{Valid}
-use Rattle.text.specs.laws.Table.{above}
-use Rattle.evaluation.specs.laws.Evaluate.{coded-length}
+use Rattle.parser.specs.laws.Rows.{laid-above}
+use Rattle.leaves.specs.laws.Coding.{length-coded}
 use Rattle.evaluation.specs.laws.Walk.{Walked, walk-start, into-a, into-b, walked-a, walked-b, over-a, over-b, valid-a, valid-b, done-a, done-b, holds-same}
 use borrow.Author.Needs.{needs}
 use Rattle.evaluation.proofs.walk.Statement.{statement}
@@ -20,11 +20,11 @@ abbrev μ-loop : tie.MeasureT-loop
 
 sub-root : tie.Need-sub-root Inv-loop μ-loop
 sub-root c =
-    omega (arith, above (c .before .before .before .pre .0 .laid))
+    omega (arith, laid-above (c .before .before .before .pre .0 .laid))
 
 loop-holds : tie.Need-loop-holds Inv-loop μ-loop
 loop-holds c =
-    (walk-start (c .before .before .before .args .table .now) (c .before .before .before .args .count) (c .before .before .before .args .rec .now) (c .before .before .before .pre .0) _ _ _ (sym (coded-length (c .before .before .before .args .rec .now))) refl refl, refl)
+    (walk-start (c .before .before .before .args .table .now) (c .before .before .before .args .count) (c .before .before .before .args .rec .now) (c .before .before .before .pre .0) _ _ _ (sym (length-coded (c .before .before .before .args .rec .now))) refl refl, refl)
 
 sub-i : tie.Need-sub-i Inv-loop μ-loop
 sub-i c = search needs
@@ -64,7 +64,7 @@ slice-aggregate-set-in c = search needs
 
 set-in-requires : tie.Need-set-in-requires Inv-loop μ-loop
 set-in-requires c κs =
-    (c .before .before .before .loop .inv .0 .size-a, omega (arith, above (c .before .before .before .before .before .before .before .pre .0 .laid), c .before .before .before .before .before .before .before .pre .0 .few))
+    (c .before .before .before .loop .inv .0 .size-a, omega (arith, laid-above (c .before .before .before .before .before .before .before .pre .0 .laid), c .before .before .before .before .before .before .before .pre .0 .few))
 
 copy-requires : tie.Need-copy-requires Inv-loop μ-loop
 copy-requires c κs =
@@ -82,7 +82,7 @@ slice-aggregate-set-in-2 c = search needs
 
 set-in-requires-2 : tie.Need-set-in-requires-2 Inv-loop μ-loop
 set-in-requires-2 c κs =
-    (c .before .before .before .loop .inv .0 .size-b, omega (arith, above (c .before .before .before .before .before .before .before .pre .0 .laid), c .before .before .before .before .before .before .before .pre .0 .few))
+    (c .before .before .before .loop .inv .0 .size-b, omega (arith, laid-above (c .before .before .before .before .before .before .before .pre .0 .laid), c .before .before .before .before .before .before .before .pre .0 .few))
 
 copy-requires-2 : tie.Need-copy-requires-2 Inv-loop μ-loop
 copy-requires-2 c κs =

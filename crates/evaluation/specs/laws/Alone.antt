@@ -1,10 +1,9 @@
 -- A text of one node: its set is the leaf's, and 8 judges it alone.
-use Prim.Native.Nat.{ℕ, zero, suc, _-_, _<_}
+use Prim.Native.Nat.{ℕ, _-_, _<_}
 use native.Mathlib.Omega.{arith}
 use mathlib.Core.Path.{_≡_, refl, sym, ap, subst, _∙_}
-use mathlib.Core.Bool.{Bool, true, false, false≢true}
-use mathlib.Core.List.{List, [], _∷_}
-use lib.ListN.{length, getD}
+use mathlib.Core.Bool.{Bool, true, false≢true}
+use mathlib.Core.List.{List}
 use Rattle.runs.specs.Set.{Makes}
 use Rattle.grammar.specs.Syntax.{Text, atom, listed, or, and, neg, finally, globally, next, until, weakUntil}
 use Rattle.grammar.specs.declared.Row.{Row}
@@ -15,7 +14,7 @@ use Rattle.meaning.specs.inner.Truth.{val, largeAt, someNode, refused8, refused
 use Rattle.leaves.specs.inner.Leaf.{leafOf, Asked}
 use Rattle.evaluation.specs.inner.Evaluation.{textOf, Asking, Evaluates}
 use Rattle.evaluation.specs.laws.Leaf.{isLeaf, row-leaf}
-use Rattle.text.specs.laws.Table.{above}
+use Rattle.parser.specs.laws.Rows.{laid-above}
 use Rattle.evaluation.specs.laws.Laid.{leaf-text}
 
 alone-eight : (r : List Coded) (p : Text) → isLeaf p ≡ true → refused8 r p ≡ largeAt r p 0
@@ -33,7 +32,7 @@ alone-eight r (weakUntil p q) h = absurd (false≢true h)
 
 module _ (table : List ℕ) (count : ℕ) (rec : List ℕ) (asking : Asking table count rec) (root : Row) (is-root : root ≡ rowAt table (count - 1)) (leaf : root .kind < NOT) where
   root-text : leafOf root ≡ textOf table count
-  root-text = let some = above (asking .laid) in leaf-text table (count - 1) root is-root (asking .laid) (omega arith) leaf
+  root-text = let some = laid-above (asking .laid) in leaf-text table (count - 1) root is-root (asking .laid) (omega arith) leaf
 
   pub alone-asked : Asked rec 0 root
   alone-asked = record {

@@ -1,11 +1,11 @@
 -- One node is evaluated: from the sets of its children, and the sets of the next record.
-use Prim.Native.Nat.{ℕ, suc, _+_, _*_, _-_, _/_, _<_, _≤_}
+use Prim.Native.Nat.{ℕ, suc, _+_, _-_, _/_, _<_, _≤_}
 use native.Mathlib.Omega.{arith}
 use native.Mathlib.Decide.{ℕ-discrete, decLt}
 use mathlib.Core.Path.{_≡_, refl, sym, ap, subst, _∙_}
-use mathlib.Core.Bool.{Bool, true, false, false≢true, _||_, not}
+use mathlib.Core.Bool.{Bool, true, false, _||_, not}
 use mathlib.Core.List.{List}
-use lib.ListN.{length, length-map}
+use lib.ListN.{length}
 use lib.Dec.{eqb, ltb}
 use borrow.Author.Tests.{eqb-true, eqb-false}
 use Rattle.number.specs.Axis.{axis}
@@ -14,29 +14,22 @@ use Rattle.runs.specs.Runs.{mostRuns, runCount}
 use Rattle.runs.specs.Set.{member, Valid, Holds}
 use Rattle.runs.specs.laws.Runs.{runCount-ext}
 use Rattle.runs.specs.laws.Set.{holds-ext}
-use Rattle.recording.specs.Recording.{records, reading, readings}
-use Rattle.recording.specs.laws.Record.{length-records}
 use Rattle.grammar.specs.Syntax.{Text}
-use Rattle.grammar.specs.Size.{temporal, mostNodes}
-use Rattle.grammar.specs.declared.Row.{Row}
+use Rattle.grammar.specs.Size.{temporal}
 use Rattle.grammar.specs.inner.Kinds.{AND, UNTIL}
 use Rattle.grammar.specs.inner.Table.{row, rowAt, unaryFrom, binaryFrom, kinds}
 use Rattle.grammar.specs.inner.Parse.{node}
-use Rattle.parser.specs.inner.Rows.{Laid, leaf, unary, binary}
-use Rattle.text.specs.laws.Table.{above}
-use Rattle.meaning.specs.inner.Coded.{Coded, code, coded}
-use Rattle.meaning.specs.inner.Truth.{val, largeAt, overAt, someNode, lastCoded, refused9, ofListed, asksTooMany}
-use Rattle.leaves.specs.inner.Leaf.{leafOf, Asked}
-use Rattle.evaluation.specs.inner.Slots.{slot, Sized, Puts}
+use Rattle.parser.specs.inner.Rows.{Laid, unary, binary}
+use Rattle.parser.specs.laws.Rows.{laid-above}
+use Rattle.meaning.specs.inner.Coded.{Coded, coded}
+use Rattle.meaning.specs.inner.Truth.{val, largeAt, overAt, lastCoded, refused9, ofListed, asksTooMany}
+use Rattle.leaves.specs.laws.Coding.{length-coded}
+use Rattle.evaluation.specs.inner.Slots.{slot, Puts}
 use Rattle.evaluation.specs.inner.Step.{unaryOf, binaryOf}
-use Rattle.evaluation.specs.inner.Evaluate.{Right, Stand, Fit, Node, Evaluated, Outcome, Leaves}
+use Rattle.evaluation.specs.inner.Evaluate.{Right, Stand, Fit, Evaluated, Outcome}
 use Rattle.evaluation.specs.laws.Step.{four, unary-last, unary-inner, binary-last, binary-inner}
-use Rattle.evaluation.specs.laws.Node.{some-leaf, some-one, some-two}
-use Rattle.evaluation.specs.laws.Laid.{line-is, laid-kind, leaf-kind, leaf-text}
+use Rattle.evaluation.specs.laws.Node.{some-one, some-two}
 use Rattle.evaluation.specs.laws.Stand.{stand-root, stand-same}
-
-pub coded-length : (rec : List ℕ) → length (coded rec) ≡ length rec / 16
-coded-length rec = length-map (readings rec) code ∙ length-map (records rec) reading ∙ length-records rec
 
 -- ---- a text that looks ahead
 
@@ -89,7 +82,7 @@ module _ (table : List ℕ) (rec : List ℕ) (i : ℕ) where
     pub fit-first : Fit rec i (binary k l h first second e) own other → Fit rec i first other own
     unfolding Stand
     fit-first fit =
-        let u = above second in
+        let u = laid-above second in
         record {
           rows = omega (arith, fit .rows);
           few = omega (arith, fit .few);
@@ -106,7 +99,7 @@ module _ (table : List ℕ) (rec : List ℕ) (i : ℕ) where
         → Evaluated r i first other own other₁ own₁ → Fit rec i second other₁ own₁
     unfolding Stand
     fit-second fit {own₁} {other₁} eo et done =
-        let u = above second in
+        let u = laid-above second in
         record {
           rows = omega (arith, fit .rows);
           few = omega (arith, fit .few);
@@ -129,10 +122,10 @@ module _ (table : List ℕ) (rec : List ℕ) (i : ℕ) where
   isLast = eqb (i + 1) (length rec / 16)
 
   last-is : isLast ≡ true → i ≡ lastCoded r
-  last-is e = let h = eqb-true (i + 1) (length rec / 16) e in omega (arith, coded-length rec)
+  last-is e = let h = eqb-true (i + 1) (length rec / 16) e in omega (arith, length-coded rec)
 
   inner-is : i < length r → isLast ≡ false → i < lastCoded r
-  inner-is j e = let h = eqb-false (i + 1) (length rec / 16) e in omega (arith, coded-length rec)
+  inner-is j e = let h = eqb-false (i + 1) (length rec / 16) e in omega (arith, length-coded rec)
 
   -- a node with one child: x is the child's value, own the node's and old the child's at the next record
   step-one : (k : ℕ) (p : Text) (v : ℕ) (x own old : Bool) → unaryFrom ≤ k → k < binaryFrom → i < length r → x ≡ val r v p i
@@ -178,7 +171,7 @@ module _ (table : List ℕ) (rec : List ℕ) (i : ℕ) where
     child-next : isLast ≡ false → unaryFrom < k → Right r (suc i) (node k p p) m other₁ × Right r (suc i) p (m - 1) own₁
     unfolding Stand
     child-next z g =
-        let o = above child in
+        let o = laid-above child in
         let s = fit .ready (inner-is (fit .index) z) (temporal-one k p g h) in (
           subst (Holds (λ v. val r v (node k p p) (suc i))) (sym (done .own-kept m (λ w. omega arith))) (s .0),
           subst (Holds (λ v. val r v p (suc i))) (sym (done .other-kept (m - 1) (λ w. omega arith))) (stand-root r (suc i) child own other (s .1)),
@@ -206,7 +199,7 @@ module _ (table : List ℕ) (rec : List ℕ) (i : ℕ) where
       pub one-done : Outcome r i (unary k l h child e) own other own₂ other₁ over
       unfolding Stand
       one-done =
-          let o = above child in
+          let o = laid-above child in
           record {
             good = λ z. record {
               stand = (right-is (node k p p) _ m own₂ one-step (puts .here z), stand-same r i child other₁ own₁ other₁ own₂ (λ d low high. refl) (λ d low high. puts .elsewhere z d (λ w. omega arith)) (done .stand));
@@ -224,15 +217,15 @@ module _ (table : List ℕ) (rec : List ℕ) (i : ℕ) where
     own-next : isLast ≡ false → AND < k → Right r (suc i) (node k p q) n other₂
     unfolding Stand
     own-next z g =
-        let o = above first in
-        let u = above second in
+        let o = laid-above first in
+        let u = laid-above second in
         subst (Holds (λ v. val r v (node k p q) (suc i))) (sym (done₂ .own-kept n (λ w. omega arith) ∙ done₁ .own-kept n (λ w. omega arith)))
         (fit .ready (inner-is (fit .index) z) (temporal-two k p q g h) .0)
 
     -- and the first child's sets at this record
     first-still : Stand r i first other₂ own₂
     first-still =
-        let u = above second in
+        let u = laid-above second in
         stand-same r i first other₁ own₁ other₂ own₂ (λ d low high. done₂ .own-kept d (λ w. omega arith)) (λ d low high. done₂ .other-kept d (λ w. omega arith)) (done₁ .stand)
 
     pub two-valid : isLast ≡ false → AND < k → Valid (slot other₂ n)
@@ -260,8 +253,8 @@ module _ (table : List ℕ) (rec : List ℕ) (i : ℕ) where
       pub two-done : Outcome r i (binary k l h first second e) own other own₃ other₂ over
       unfolding Stand
       two-done =
-          let o = above first in
-          let u = above second in
+          let o = laid-above first in
+          let u = laid-above second in
           record {
             good = λ z. record {
               stand = (

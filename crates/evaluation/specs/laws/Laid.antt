@@ -1,11 +1,11 @@
 -- The row of a text's root says where its children are laid.
-use Prim.Native.Nat.{ℕ, _+_, _-_, _≤_, _<_}
+use Prim.Native.Nat.{ℕ, _+_, _-_, _<_}
 use native.Mathlib.Omega.{arith}
 use mathlib.Core.Path.{_≡_, sym, ap, _∙_}
 use mathlib.Core.List.{List}
 use Rattle.grammar.specs.Syntax.{Text, listed, lag}
 use Rattle.grammar.specs.declared.Row.{Row}
-use Rattle.grammar.specs.inner.Table.{row, build, rowAt, unaryFrom, binaryFrom, kinds}
+use Rattle.grammar.specs.inner.Table.{row, build, rowAt, unaryFrom}
 use Rattle.parser.specs.inner.Rows.{Laid, leaf, unary, binary}
 use Rattle.leaves.specs.inner.Leaf.{leafOf}
 use Rattle.evaluation.specs.laws.Tree.{build-leaf}

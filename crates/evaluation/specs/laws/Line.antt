@@ -1,5 +1,5 @@
 -- One node is evaluated, for the row and the children as the code has read them.
-use Prim.Native.Nat.{ℕ, _+_, _*_, _-_, _/_, _<_, _≤_}
+use Prim.Native.Nat.{ℕ, _+_, _-_, _/_, _<_, _≤_}
 use native.Mathlib.Omega.{arith}
 use mathlib.Core.Path.{_≡_, refl, sym, ap, subst, _∙_}
 use mathlib.Core.Bool.{Bool, true, false, false≢true, _||_}
@@ -9,19 +9,18 @@ use lib.Dec.{eqb}
 use Rattle.number.specs.laws.Boolean.{or-left, or-right}
 use Rattle.runs.specs.Set.{member, Valid}
 use Rattle.grammar.specs.Syntax.{Text}
-use Rattle.grammar.specs.Size.{mostNodes}
 use Rattle.grammar.specs.declared.Row.{Row}
 use Rattle.grammar.specs.inner.Kinds.{AND}
 use Rattle.grammar.specs.inner.Table.{row, rowAt, unaryFrom, binaryFrom, kinds}
 use Rattle.grammar.specs.inner.Parse.{node}
 use Rattle.parser.specs.inner.Rows.{Laid, leaf, unary, binary}
-use Rattle.text.specs.laws.Table.{above}
+use Rattle.parser.specs.laws.Rows.{laid-above}
 use Rattle.meaning.specs.inner.Coded.{Coded, coded}
 use Rattle.meaning.specs.inner.Truth.{val, largeAt, overAt, refused9}
 use Rattle.leaves.specs.inner.Leaf.{leafOf, Asked}
-use Rattle.evaluation.specs.inner.Slots.{slot, Sized, Puts}
+use Rattle.evaluation.specs.inner.Slots.{slot, Puts}
 use Rattle.evaluation.specs.inner.Step.{unaryOf, binaryOf}
-use Rattle.evaluation.specs.inner.Evaluate.{Right, Stand, Fit, Node, Evaluated, Outcome, Leaves}
+use Rattle.evaluation.specs.inner.Evaluate.{Right, Stand, Fit, Node, Leaves}
 use Rattle.evaluation.specs.laws.Node.{some-leaf, some-one, some-two}
 use Rattle.evaluation.specs.laws.Laid.{line-is, laid-kind, leaf-kind, leaf-text}
 use Rattle.evaluation.specs.laws.Evaluate.{fit-child, fit-first, fit-second, one-valid, child-valid, one-done, two-valid, first-valid, second-valid, two-done}
@@ -69,18 +68,18 @@ module _ (table : List ℕ) (rec : List ℕ) (i n : ℕ) (line : Row) (is-line :
     pub first-node : {b m : ℕ} {t : Text} (laid : Laid table b m t) → m ≡ n + 1 → {own other : List ℕ} → Fit rec i laid own other → Node table rec i a other own
     first-node (leaf {b} u e) is fit = let x = leaf-kind table n line is-line b is u in absurd (omega arith)
     first-node (unary {b} {m} {p} k u h child e) is fit =
-        let o = above child in
+        let o = laid-above child in
         let x = at-first m k (m - 1) 0 is e in
         record { base = b; end = m; text = p; laid = child; root = omega arith; fit = fit-child table rec i k u h child e fit }
     first-node (binary {b} {m} {n = j} {p} k u h first second e) is fit =
-        let o = above first in
+        let o = laid-above first in
         let x = at-first j k (m - 1) (j - 1) is e in
         record { base = b; end = m; text = p; laid = first; root = omega arith; fit = fit-first table rec i k u h first second e fit }
 
     pub first-falls : {b m : ℕ} {t : Text} → Laid table b m t → m ≡ n + 1 → a < n
     first-falls (leaf {b} u e) is = let x = leaf-kind table n line is-line b is u in absurd (omega arith)
-    first-falls (unary {b} {m} k u h child e) is = let o = above child in let x = at-first m k (m - 1) 0 is e in omega arith
-    first-falls (binary {b} {m} {n = j} k u h first second e) is = let o = above first in let w = above second in let x = at-first j k (m - 1) (j - 1) is e in omega arith
+    first-falls (unary {b} {m} k u h child e) is = let o = laid-above child in let x = at-first m k (m - 1) 0 is e in omega arith
+    first-falls (binary {b} {m} {n = j} k u h first second e) is = let o = laid-above first in let w = laid-above second in let x = at-first j k (m - 1) (j - 1) is e in omega arith
 
     pub kind-fits : {b m : ℕ} {t : Text} → Laid table b m t → m ≡ n + 1 → line .kind < kinds
     kind-fits (leaf {b} u e) is = let x = leaf-kind table n line is-line b is u in omega arith
@@ -91,14 +90,14 @@ module _ (table : List ℕ) (rec : List ℕ) (i n : ℕ) (line : Row) (is-line :
       pub first-over : (own₂ other₂ : List ℕ) → over ≡ true → Leaves table rec i n own other own₂ other₂ true
       first-over own₂ other₂ z b m t (leaf u e) is fit = let x = leaf-kind table n line is-line b is u in absurd (omega arith)
       first-over own₂ other₂ z b m t (unary {m = j} {p} k u h child e) is fit =
-          let w = above child in
+          let w = laid-above child in
           let x = at-first j k (j - 1) 0 is e in
           record {
             good = λ y. absurd (false≢true (sym y));
             bad = λ y. some-one (λ s. largeAt r s i) k 0 0 0 p p u h ∙ or-right (largeAt r (node k p p) i) (overAt r p i) (o b j p child (omega arith) (fit-child table rec i k u h child e fit) .bad z);
           }
       first-over own₂ other₂ z b m t (binary {m = d} {n = j} {p} {q} k u h first second e) is fit =
-          let w = above first in
+          let w = laid-above first in
           let x = at-first j k (d - 1) (j - 1) is e in
           record {
             good = λ y. absurd (false≢true (sym y));
@@ -115,7 +114,7 @@ module _ (table : List ℕ) (rec : List ℕ) (i n : ℕ) (line : Row) (is-line :
           pub line-one-valid : {b m : ℕ} {t : Text} (laid : Laid table b m t) → m ≡ n + 1 → Fit rec i laid own other → Child
           line-one-valid (leaf {b} u e) is fit = let x = leaf-kind table n line is-line b is u in absurd (omega arith)
           line-one-valid (unary {b} {m} {p} k u h child e) is fit =
-              let w = above child in
+              let w = laid-above child in
               let x = at-first m k (m - 1) 0 is e in
               let y : m ≡ n = omega arith in
               let done = o b m p child (omega arith) (fit-child table rec i k u h child e fit) .good z in
@@ -133,7 +132,7 @@ module _ (table : List ℕ) (rec : List ℕ) (i n : ℕ) (line : Row) (is-line :
               → Leaves table rec i n own other own₂ other₁ out
           line-one own₂ out puts b m t (leaf u e) is fit = let x = leaf-kind table n line is-line b is u in absurd (omega arith)
           line-one own₂ out puts b m t (unary {m = j} {p} k u h child e) is fit =
-              let w = above child in
+              let w = laid-above child in
               let x = at-first j k (j - 1) 0 is e in
               let y : n ≡ j = omega arith in
               let same = laid-kind table n line is-line j k (j - 1) 0 is e in
@@ -155,8 +154,8 @@ module _ (table : List ℕ) (rec : List ℕ) (i n : ℕ) (line : Row) (is-line :
           second-node (leaf {b} u e) is fit = let x = leaf-kind table n line is-line b is u in absurd (omega arith)
           second-node (unary {b} {m} k u h child e) is fit = let x = laid-kind table n line is-line m k (m - 1) 0 is e in absurd (omega (arith, x, h, g))
           second-node (binary {b} {m} {n = j} {p} {q} k u h first second e) is fit =
-              let w = above first in
-              let v = above second in
+              let w = laid-above first in
+              let v = laid-above second in
               let x = at-first j k (m - 1) (j - 1) is e in
               let y = at-second j k (m - 1) (j - 1) is e in
               let done = o b m p first (omega arith) (fit-first table rec i k u h first second e fit) .good z in
@@ -165,15 +164,15 @@ module _ (table : List ℕ) (rec : List ℕ) (i n : ℕ) (line : Row) (is-line :
           pub second-falls : {b m : ℕ} {t : Text} → Laid table b m t → m ≡ n + 1 → c < n
           second-falls (leaf {b} u e) is = let x = leaf-kind table n line is-line b is u in absurd (omega arith)
           second-falls (unary {b} {m} k u h child e) is = let x = laid-kind table n line is-line m k (m - 1) 0 is e in absurd (omega (arith, x, h, g))
-          second-falls (binary {b} {m} {n = j} k u h first second e) is = let w = above first in let v = above second in let y = at-second j k (m - 1) (j - 1) is e in omega arith
+          second-falls (binary {b} {m} {n = j} k u h first second e) is = let w = laid-above first in let v = laid-above second in let y = at-second j k (m - 1) (j - 1) is e in omega arith
 
           module _ (own₂ other₂ : List ℕ) (over₂ : Bool) (o₂ : Leaves table rec i c other₁ own₁ other₂ own₂ over₂) where
             pub second-over : (own₃ other₃ : List ℕ) → over₂ ≡ true → Leaves table rec i n own other own₃ other₃ true
             second-over own₃ other₃ y b m t (leaf u e) is fit = let x = leaf-kind table n line is-line b is u in absurd (omega arith)
             second-over own₃ other₃ y b m t (unary {m = j} k u h child e) is fit = let x = laid-kind table n line is-line j k (j - 1) 0 is e in absurd (omega (arith, x, h, g))
             second-over own₃ other₃ y b m t (binary {m = d} {n = j} {p} {q} k u h first second e) is fit =
-                let w = above first in
-                let v = above second in
+                let w = laid-above first in
+                let v = laid-above second in
                 let x = at-first j k (d - 1) (j - 1) is e in
                 let s = at-second j k (d - 1) (j - 1) is e in
                 let done = o b d p first (omega arith) (fit-first table rec i k u h first second e fit) .good z in
@@ -191,8 +190,8 @@ module _ (table : List ℕ) (rec : List ℕ) (i n : ℕ) (line : Row) (is-line :
               line-two-valid (leaf {b} u e) is fit = let x = leaf-kind table n line is-line b is u in absurd (omega arith)
               line-two-valid (unary {b} {m} k u h child e) is fit = let x = laid-kind table n line is-line m k (m - 1) 0 is e in absurd (omega (arith, x, h, g))
               line-two-valid (binary {b} {m} {n = j} {p} {q} k u h first second e) is fit =
-                  let w = above first in
-                  let v = above second in
+                  let w = laid-above first in
+                  let v = laid-above second in
                   let x = at-first j k (m - 1) (j - 1) is e in
                   let s = at-second j k (m - 1) (j - 1) is e in
                   let y : j ≡ n = omega arith in
@@ -210,8 +209,8 @@ module _ (table : List ℕ) (rec : List ℕ) (i n : ℕ) (line : Row) (is-line :
               line-two own₃ out puts b m t (leaf u e) is fit = let x = leaf-kind table n line is-line b is u in absurd (omega arith)
               line-two own₃ out puts b m t (unary {m = j} k u h child e) is fit = let x = laid-kind table n line is-line j k (j - 1) 0 is e in absurd (omega (arith, x, h, g))
               line-two own₃ out puts b m t (binary {m = d} {n = j} {p} {q} k u h first second e) is fit =
-                  let w = above first in
-                  let v = above second in
+                  let w = laid-above first in
+                  let v = laid-above second in
                   let x = at-first j k (d - 1) (j - 1) is e in
                   let s = at-second j k (d - 1) (j - 1) is e in
                   let y : n ≡ j = omega arith in

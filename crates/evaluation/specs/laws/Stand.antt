@@ -9,7 +9,7 @@ use Rattle.grammar.specs.inner.Parse.{node}
 use Rattle.parser.specs.inner.Rows.{Laid, leaf, unary, binary}
 use Rattle.meaning.specs.inner.Coded.{Coded}
 use Rattle.meaning.specs.inner.Truth.{val}
-use Rattle.text.specs.laws.Table.{above}
+use Rattle.parser.specs.laws.Rows.{laid-above}
 use Rattle.evaluation.specs.inner.Slots.{slot}
 use Rattle.evaluation.specs.inner.Evaluate.{Right, Stand}
 
@@ -34,13 +34,13 @@ module _ (r : List Coded) (i : ℕ) where
   unfolding Stand
   stand-same (leaf {b} {t} l e) own other own′ other′ f g s = right-same t b own own′ (f b (omega arith) (omega arith)) s
   stand-same (unary {b} {m} {p} k l h child e) own other own′ other′ f g s =
-      let o = above child in (
+      let o = laid-above child in (
         right-same (node k p p) m own own′ (f m (omega arith) (omega arith)) (s .0),
         stand-same child other own other′ own′ (λ j d u. g j d (omega arith)) (λ j d u. f j d (omega arith)) (s .1),
       )
   stand-same (binary {b} {m} {n} {p} {q} k l h first second e) own other own′ other′ f g s =
-      let o = above first in
-      let u = above second in (
+      let o = laid-above first in
+      let u = laid-above second in (
         right-same (node k p q) n own own′ (f n (omega arith) (omega arith)) (s .0),
         stand-same first other own other′ own′ (λ j d w. g j d (omega arith)) (λ j d w. f j d (omega arith)) (s .1),
         stand-same second other own other′ own′ (λ j d w. g j (omega arith) (omega arith)) (λ j d w. f j (omega arith) (omega arith)) (s .2),

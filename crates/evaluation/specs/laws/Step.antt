@@ -2,14 +2,13 @@
 use Prim.Native.Nat.{ℕ, zero, suc, _+_, _-_, _<_, _≤_, min}
 use native.Mathlib.Omega.{arith}
 use native.Mathlib.Decide.{ℕ-discrete}
-use mathlib.Core.Path.{_≡_, refl, sym, ap, subst, _∙_}
+use mathlib.Core.Path.{_≡_, refl, sym, ap, subst}
 use mathlib.Core.Bool.{Bool, true, false, _||_, _&&_}
 use mathlib.Core.List.{List}
 use Rattle.grammar.specs.inner.Kinds.{AND}
 use Rattle.meaning.specs.inner.Coded.{Coded}
 use Rattle.meaning.specs.inner.Truth.{val, lastCoded, finallyFrom, globallyFrom, untilFrom, weakFrom}
 use Rattle.grammar.specs.Syntax.{Text}
-use Rattle.grammar.specs.declared.Row.{Row}
 use Rattle.grammar.specs.inner.Table.{row, build, binaryFrom, kinds, unaryFrom}
 use Rattle.evaluation.specs.inner.Step.{unaryOf, binaryOf}
 

@@ -12,7 +12,7 @@ use Rattle.runs.specs.laws.Set.{holds-ext}
 use Rattle.grammar.specs.Syntax.{Text}
 use Rattle.grammar.specs.Size.{temporal}
 use Rattle.parser.specs.inner.Rows.{Laid}
-use Rattle.text.specs.laws.Table.{above}
+use Rattle.parser.specs.laws.Rows.{laid-above}
 use Rattle.meaning.specs.inner.Coded.{Coded, coded}
 use Rattle.meaning.specs.inner.Truth.{val, overAt, someBelow, refused8, lastCoded}
 use Rattle.meaning.specs.laws.Overfull.{below-at, below-none}
@@ -46,7 +46,7 @@ module _ (table : List ℕ) (count : ℕ) (rec : List ℕ) (asking : Asking tabl
   text = textOf table count
 
   some : 0 < count
-  some = above (asking .laid)
+  some = laid-above (asking .laid)
 
   root-is : count ≡ count - 1 + 1
   root-is = omega (arith, some)

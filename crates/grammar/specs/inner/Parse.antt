@@ -43,8 +43,8 @@ joinKind bars = OR
 joinKind ampersands = AND
 
 -- the tree of a leaf, and that of an operator over its children
-abbrev pub leafOf : Row → Text
-leafOf r = build r (listed lag) (listed lag)
+abbrev pub rowText : Row → Text
+rowText r = build r (listed lag) (listed lag)
 
 abbrev pub node : ℕ → Text → Text → Text
 node k p q = build (row k 0 0 0) p q
@@ -73,7 +73,7 @@ opened k arg i =
 
 -- what was read of a leaf, or behind an opening
 abbrev pub begun : Leaf → (ℕ → ℕ → Out) → Out
-begun (Node r j) arg = got (leafOf r) j
+begun (Node r j) arg = got (rowText r) j
 begun (Open k j) arg = opened k arg j
 begun Nothing arg = unread
 

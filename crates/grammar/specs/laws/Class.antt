@@ -6,14 +6,14 @@ use Prim.Native.Nat.{ℕ, zero, suc, _<_}
 use native.Mathlib.Omega.{arith}
 use lib.Dec.{eqb}
 use borrow.Author.Tests.{eqb-true, eqb-false}
+use Rattle.number.specs.laws.Boolean.{and-left, and-right, and-make}
 use Rattle.recording.specs.Reading.{Curve, A, B}
 use Rattle.grammar.specs.declared.Class.{Class}
 use Rattle.grammar.specs.declared.Class.the-variants.{Digit, Letter, Sign, Foreign}
 use Rattle.grammar.specs.Bytes.{bytes}
 use Rattle.grammar.specs.Classes.{classOf, isDigit, among, listedClass}
 use Rattle.grammar.specs.Syntax.{Field, of, T, Relation, ge, le, gt, lt, eq, Operand, Atom, Listed, Text}
-use Rattle.grammar.specs.Grammar.{AllDigits, Numeral, zero-itself, plain, minus, PigmentNumber, curveWord, fieldWord, relationWord, OperandWord, the-v, a-number, AtomWord, compared, curves, falling, rising, pigment-is, ListedWord, a-high, a-low, a-lowafter, a-capafter, a-peaks, a-dips, a-cross, a-crossup, a-dose, an-ampl, a-gaps, a-steps, a-lag, Level, Reads, one-conjunction, bar, one-negation, ampersand, one-primary, bang, bracketed, an-F, a-G, an-X, a-U, a-W, an-atom, a-listed, ReadsWhole}
-use Rattle.grammar.specs.laws.Word.{and-left, and-right}
+use Rattle.grammar.specs.Grammar.{AllDigits, Numeral, zero-itself, plain, minus, curveWord, fieldWord, relationWord, OperandWord, the-v, a-number, AtomWord, compared, curves, falling, rising, pigment-is, ListedWord, a-high, a-low, a-lowafter, a-capafter, a-peaks, a-dips, a-cross, a-crossup, a-dose, an-ampl, a-gaps, a-steps, a-lag, Level, Reads, one-conjunction, bar, one-negation, ampersand, one-primary, bang, bracketed, an-F, a-G, an-X, a-U, a-W, an-atom, a-listed, ReadsWhole}
 
 abbrev pub number : Class → ℕ
 number Digit = 0
@@ -76,14 +76,11 @@ unfoldable clean : List ℕ → Bool
 clean [] = true
 clean (b ∷ w) = known (classOf b) && clean w
 
-both : (a b : Bool) → a ≡ true → b ≡ true → (a && b) ≡ true
-both a b e f = rw (e, f)
-
 join : (x y : List ℕ) → clean x ≡ true → clean y ≡ true → clean (x ++ y) ≡ true
 unfolding clean
 join [] y e f = f
 join (b ∷ x) y e f =
-    both (known (classOf b)) (clean (x ++ y)) (and-left (known (classOf b)) (clean x) e) (join x y (and-right (known (classOf b)) (clean x) e) f)
+    and-make (known (classOf b)) (clean (x ++ y)) (and-left (known (classOf b)) (clean x) e) (join x y (and-right (known (classOf b)) (clean x) e) f)
 
 known-digit : (d : ℕ) → isDigit d ≡ true → known (classOf d) ≡ true
 unfolding classOf
@@ -92,7 +89,7 @@ known-digit d e = rw e
 clean-digits : (w : List ℕ) → AllDigits w → clean w ≡ true
 unfolding clean
 clean-digits [] a = refl
-clean-digits (d ∷ w) a = both (known (classOf d)) (clean w) (known-digit d (a .0)) (clean-digits w (a .1))
+clean-digits (d ∷ w) a = and-make (known (classOf d)) (clean w) (known-digit d (a .0)) (clean-digits w (a .1))
 
 clean-numeral : {w : List ℕ} {k : ℕ} → Numeral w k → clean w ≡ true
 unfolding clean classOf

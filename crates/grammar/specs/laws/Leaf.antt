@@ -1,12 +1,12 @@
 -- The leaf or the opening that computing finds at a position is the one that the rules have there.
 use mathlib.Core.Path.{_≡_, refl, sym, ap, subst, _∙_}
-use mathlib.Core.Bool.{Bool, true, false, cond, not, _&&_, _||_}
+use mathlib.Core.Bool.{Bool, true, false, cond, _&&_}
 use mathlib.Core.List.{List, [], _∷_, _++_}
-use Prim.Native.Nat.{ℕ, zero, suc, _+_, _-_, _*_, _≤_, _<_}
+use Prim.Native.Nat.{ℕ, _+_, _≤_, _<_}
 use native.Mathlib.Omega.{arith}
-use lib.Dec.{eqb, ltb, leb, lit<}
-use lib.ListN.{length, getD, length-append}
-use borrow.Author.Tests.{eq-eqb, ne-eqb, eqb-true, eqb-false, lt-ltb, le-ltb, ltb-true}
+use lib.Dec.{eqb, ltb, lit<}
+use lib.ListN.{length, length-append}
+use borrow.Author.Tests.{eq-eqb, ne-eqb, eqb-true, lt-ltb, le-ltb, ltb-true}
 use Rattle.number.specs.laws.Boolean.{none-left}
 use Rattle.recording.specs.Reading.{Curve, A, B, curveOf}
 use Rattle.grammar.specs.declared.Row.{Row}
@@ -16,13 +16,13 @@ use Rattle.grammar.specs.declared.Leaf.{Leaf}
 use Rattle.grammar.specs.declared.Leaf.the-variants.{Node, Open, Nothing}
 use Rattle.grammar.specs.Bytes.{bytes}
 use Rattle.grammar.specs.Classes.{isDigit, isLetter}
-use Rattle.grammar.specs.Syntax.{Field, of, T, Relation, ge, le, gt, lt, eq, Operand, v, number, Atom, compare, A-to-B, fall, rise, pigment, Listed, high, low, lowafter, capafter, peaks, dips, cross, crossup, dose, ampl, gaps, steps, lag, Text, atom, listed, or, and, neg, finally, globally, next, until, weakUntil}
-use Rattle.grammar.specs.Grammar.{Numeral, curveWord, fieldWord, relationWord, OperandWord, the-v, a-number, AtomWord, compared, curves as A-with-B, falling, rising, pigment-is, ListedWord, a-high, a-low, a-lowafter, a-capafter, a-peaks, a-dips, a-cross, a-crossup, a-dose, an-ampl, a-gaps, a-steps, a-lag, Level, alternation, primary, Reads, bracketed, an-F, a-G, an-X, a-U, a-W, an-atom, a-listed}
+use Rattle.grammar.specs.Syntax.{Field, of, T, Relation, ge, le, gt, lt, eq, Operand, v, number, Atom, compare, A-to-B, fall, rise, Listed, high, low, lowafter, capafter, peaks, dips, ampl, gaps, steps, Text, atom, listed}
+use Rattle.grammar.specs.Grammar.{Numeral, curveWord, fieldWord, relationWord, OperandWord, the-v, a-number, AtomWord, compared, curves as A-with-B, falling, rising, pigment-is, ListedWord, a-high, a-low, a-lowafter, a-capafter, a-peaks, a-dips, a-cross, a-crossup, a-dose, an-ampl, a-gaps, a-steps, a-lag, Level, alternation, primary, Reads, an-F, a-G, an-X, a-U, a-W, an-atom, a-listed}
 use Rattle.grammar.specs.inner.Kinds.{COMPARE-V, COMPARE, A-TO-B, FALL, RISE, PIGMENT, HIGH, LOW, LOWAFTER, CAPAFTER, PEAKS, DIPS, CROSS, CROSSUP, DOSE, AMPL, GAPS, STEPS, LAG, NEXT, FINALLY, GLOBALLY, UNTIL, WEAK-UNTIL, BRACKET}
-use Rattle.grammar.specs.inner.Table.{row, fieldOf, relationOf, build, unaryFrom, binaryFrom, kinds}
+use Rattle.grammar.specs.inner.Table.{row, fieldOf, relationOf, unaryFrom, binaryFrom, kinds}
 use Rattle.grammar.specs.inner.Lexer.{byte, firstOf, curves, relations, fields, levelNames, topNames, differenceNames, pigmentNames, openings, heads, numberAt, pigmentAt, whenFound, closedBy, operandAt, comparisonAt, timedAt, isTimed, argumentsAt, takesPigment, pigmentLeafAt, isBare, namedAt, headedAt, leafAt}
-use Rattle.grammar.specs.inner.Parse.{leafOf, node}
-use Rattle.grammar.specs.laws.Word.{Stands, Spelt, Each, each-of-both, noByte, equalsSign, letterOrDigit, tellable, bound, before, behind, together, one-byte, found, found-is}
+use Rattle.grammar.specs.inner.Parse.{rowText, node}
+use Rattle.grammar.specs.laws.Word.{Stands, Spelt, Each, each-of-both, noByte, equalsSign, letterOrDigit, tellable, before, behind, together, one-byte, found, found-is}
 use Rattle.grammar.specs.laws.Number.{number-sound, number-complete, numeral-first, PigmentWord, labelled, pigment-sound, pigment-complete}
 
 -- the word w stands in s from i up to j
@@ -53,14 +53,14 @@ pub data Opening : ℕ → List ℕ → Type 0 where
 data Head : ℕ → List ℕ → Type 0 where
   field : {k : ℕ} → k < FALL → Head k (fieldWord (fieldOf k))
   with-curve : {k : ℕ} {w : List ℕ} → FALL ≤ k → k < unaryFrom → isBare k ≡ false → takesPigment k ≡ false → isTimed k ≡ false
-      → ((c : ℕ) → Reads primary (w ++ curveWord (curveOf c) ++ bytes ")") (leafOf (row k c 0 0))) → Head k w
+      → ((c : ℕ) → Reads primary (w ++ curveWord (curveOf c) ++ bytes ")") (rowText (row k c 0 0))) → Head k w
   with-time : {k : ℕ} {w : List ℕ} → FALL ≤ k → k < unaryFrom → isBare k ≡ false → takesPigment k ≡ false → isTimed k ≡ true
-      → ((c n : ℕ) (x : List ℕ) → Numeral x n → Reads primary (w ++ curveWord (curveOf c) ++ bytes "," ++ x ++ bytes ")") (leafOf (row k c 0 n))) → Head k w
+      → ((c n : ℕ) (x : List ℕ) → Numeral x n → Reads primary (w ++ curveWord (curveOf c) ++ bytes "," ++ x ++ bytes ")") (rowText (row k c 0 n))) → Head k w
   with-pigment : {k : ℕ} {w : List ℕ} → FALL ≤ k → k < unaryFrom → isBare k ≡ false → takesPigment k ≡ true → eqb k DOSE ≡ false
-      → ((n : ℕ) (x : List ℕ) → PigmentWord x n → Reads primary (w ++ x) (leafOf (row k 0 0 n))) → Head k w
+      → ((n : ℕ) (x : List ℕ) → PigmentWord x n → Reads primary (w ++ x) (rowText (row k 0 0 n))) → Head k w
   with-pigment-closed : {k : ℕ} {w : List ℕ} → FALL ≤ k → k < unaryFrom → isBare k ≡ false → takesPigment k ≡ true → eqb k DOSE ≡ true
-      → ((n : ℕ) (x : List ℕ) → PigmentWord x n → Reads primary (w ++ x ++ bytes ")") (leafOf (row k 0 0 n))) → Head k w
-  bare : {k : ℕ} {w : List ℕ} → FALL ≤ k → k < unaryFrom → isBare k ≡ true → Reads primary w (leafOf (row k 0 0 0)) → Head k w
+      → ((n : ℕ) (x : List ℕ) → PigmentWord x n → Reads primary (w ++ x ++ bytes ")") (rowText (row k 0 0 n))) → Head k w
+  bare : {k : ℕ} {w : List ℕ} → FALL ≤ k → k < unaryFrom → isBare k ≡ true → Reads primary w (rowText (row k 0 0 0)) → Head k w
   opening : {k : ℕ} {w : List ℕ} → unaryFrom ≤ k → Opening k w → Head k w
 
 fields-mean : Each Head fields
@@ -75,10 +75,10 @@ top-names-mean = (with-curve (lit< tt) (lit< tt) refl refl refl (λ c. a-listed 
 difference-names-mean : Each Head differenceNames
 difference-names-mean = (with-curve (lit< tt) (lit< tt) refl refl refl (λ c. a-listed (an-ampl (curveOf c))), refl, (with-curve (lit< tt) (lit< tt) refl refl refl (λ c. a-listed (a-gaps (curveOf c))), refl, (with-curve (lit< tt) (lit< tt) refl refl refl (λ c. a-listed (a-steps (curveOf c))), refl, (bare (lit< tt) (lit< tt) refl (a-listed a-lag), refl, tt))))
 
-pigment-reads : (n : ℕ) (x : List ℕ) → PigmentWord x n → Reads primary (bytes "P=" ++ x) (leafOf (row PIGMENT 0 0 n))
+pigment-reads : (n : ℕ) (x : List ℕ) → PigmentWord x n → Reads primary (bytes "P=" ++ x) (rowText (row PIGMENT 0 0 n))
 pigment-reads n x (labelled p) = an-atom (pigment-is p)
 
-dose-reads : (n : ℕ) (x : List ℕ) → PigmentWord x n → Reads primary (bytes "dose(" ++ x ++ bytes ")") (leafOf (row DOSE 0 0 n))
+dose-reads : (n : ℕ) (x : List ℕ) → PigmentWord x n → Reads primary (bytes "dose(" ++ x ++ bytes ")") (rowText (row DOSE 0 0 n))
 dose-reads n x (labelled p) = a-listed (a-dose p)
 
 pigment-names-mean : Each Head pigmentNames
@@ -122,25 +122,25 @@ module _ (s : List ℕ) where
       record { here = rw (f .holds) (f .here); upto = rw (f .holds) (f .upto) }
 
   -- a run that is taken for another end and another tree
-  held : {i : ℕ} {w : List ℕ} (j e : ℕ) (r q : Row) → Node r j ≡ Node q e → Run s i j w → Reads primary w (leafOf r) → Held s primary i e (leafOf q)
+  held : {i : ℕ} {w : List ℕ} (j e : ℕ) (r q : Row) → Node r j ≡ Node q e → Run s i j w → Reads primary w (rowText r) → Held s primary i e (rowText q)
   held {i} {w} j e r q h a b =
       let x : r ≡ q = cc in
       let y : j ≡ e = cc in
-      record { spelling = w; run = subst (λ (k : ℕ). Run s i k w) y a; reads = subst (λ (t : Row). Reads primary w (leafOf t)) x b }
+      record { spelling = w; run = subst (λ (k : ℕ). Run s i k w) y a; reads = subst (λ (t : Row). Reads primary w (rowText t)) x b }
 
-  closed-held : {i : ℕ} {w : List ℕ} (j e : ℕ) (r q : Row) → closedBy s 41 r j ≡ Node q e → Run s i j w → Reads primary (w ++ bytes ")") (leafOf r) → Held s primary i e (leafOf q)
+  closed-held : {i : ℕ} {w : List ℕ} (j e : ℕ) (r q : Row) → closedBy s 41 r j ≡ Node q e → Run s i j w → Reads primary (w ++ bytes ")") (rowText r) → Held s primary i e (rowText q)
   closed-held {i} {w} j e r q h a b = go (eqb (byte s j) 41) refl h
     where
-      go : (t : Bool) → eqb (byte s j) 41 ≡ t → cond t (Node r (j + 1)) Nothing ≡ Node q e → Held s primary i e (leafOf q)
+      go : (t : Bool) → eqb (byte s j) 41 ≡ t → cond t (Node r (j + 1)) Nothing ≡ Node q e → Held s primary i e (rowText q)
       go true p g = held (j + 1) e r q g (run-then s w (bytes ")") a (run-byte s j 41 (omega arith) (eqb-true (byte s j) 41 p))) b
       go false p g = absurd-leaf q e g
 
-  operand-held : {i : ℕ} (f n j e : ℕ) (q : Row) → operandAt s f n j ≡ Node q e → Run s i j (fieldWord (fieldOf f) ++ relationWord (relationOf n)) → Held s primary i e (leafOf q)
+  operand-held : {i : ℕ} (f n j e : ℕ) (q : Row) → operandAt s f n j ≡ Node q e → Run s i j (fieldWord (fieldOf f) ++ relationWord (relationOf n)) → Held s primary i e (rowText q)
   unfolding operandAt
   operand-held {i} f n j e q h a = go (eqb (byte s j) 118) (eqb (byte s j) 66) (eqb f 0) (numberAt s j) refl refl refl refl h
     where
       go : (x y z : Bool) (u : Found) → eqb (byte s j) 118 ≡ x → eqb (byte s j) 66 ≡ y → eqb f 0 ≡ z → numberAt s j ≡ u
-          → cond x (Node (row COMPARE-V f n 0) (j + 1)) (cond (y && z) (Node (row A-TO-B 0 n 0) (j + 1)) (whenFound u (λ m k. Node (row COMPARE f n m) k))) ≡ Node q e → Held s primary i e (leafOf q)
+          → cond x (Node (row COMPARE-V f n 0) (j + 1)) (cond (y && z) (Node (row A-TO-B 0 n 0) (j + 1)) (whenFound u (λ m k. Node (row COMPARE f n m) k))) ≡ Node q e → Held s primary i e (rowText q)
       go true y z u ex ey ez eu g =
           held (j + 1) e (row COMPARE-V f n 0) q g (run-then s (fieldWord (fieldOf f) ++ relationWord (relationOf n)) (bytes "v") a (run-byte s j 118 (omega arith) (eqb-true (byte s j) 118 ex)))
           (an-atom (compared (fieldOf f) (relationOf n) the-v))
@@ -159,21 +159,21 @@ module _ (s : List ℕ) where
       go false true false Missing ex ey ez eu g = absurd-leaf q e g
       go false false z Missing ex ey ez eu g = absurd-leaf q e g
 
-  comparison-held : {i : ℕ} (f j e : ℕ) (q : Row) → comparisonAt s f j ≡ Node q e → Run s i j (fieldWord (fieldOf f)) → Held s primary i e (leafOf q)
+  comparison-held : {i : ℕ} (f j e : ℕ) (q : Row) → comparisonAt s f j ≡ Node q e → Run s i j (fieldWord (fieldOf f)) → Held s primary i e (rowText q)
   unfolding comparisonAt
   comparison-held {i} f j e q h a = go (firstOf relations s j) refl h
     where
-      go : (u : Found) → firstOf relations s j ≡ u → whenFound u (operandAt s f) ≡ Node q e → Held s primary i e (leafOf q)
+      go : (u : Found) → firstOf relations s j ≡ u → whenFound u (operandAt s f) ≡ Node q e → Held s primary i e (rowText q)
       go (At n k) eu g = operand-held f n k e q g (run-then s (fieldWord (fieldOf f)) (relationWord (relationOf n)) a (relation-run j n k eu))
       go Missing eu g = absurd-leaf q e g
 
   timed-held : {i : ℕ} {w : List ℕ} (k c j e : ℕ) (q : Row) → timedAt s k c j ≡ Node q e → Run s i j w
-      → ((n : ℕ) (x : List ℕ) → Numeral x n → Reads primary (w ++ bytes "," ++ x ++ bytes ")") (leafOf (row k c 0 n))) → Held s primary i e (leafOf q)
+      → ((n : ℕ) (x : List ℕ) → Numeral x n → Reads primary (w ++ bytes "," ++ x ++ bytes ")") (rowText (row k c 0 n))) → Held s primary i e (rowText q)
   unfolding timedAt
   timed-held {i} {w} k c j e q h a b = go (eqb (byte s j) 44) (numberAt s (j + 1)) refl refl h
     where
       go : (x : Bool) (u : Found) → eqb (byte s j) 44 ≡ x → numberAt s (j + 1) ≡ u
-          → cond x (whenFound u (λ n m. closedBy s 41 (row k c 0 n) m)) Nothing ≡ Node q e → Held s primary i e (leafOf q)
+          → cond x (whenFound u (λ n m. closedBy s 41 (row k c 0 n) m)) Nothing ≡ Node q e → Held s primary i e (rowText q)
       go true (At n m) ex eu g =
           let d = number-sound s (j + 1) n m eu in
           closed-held m e (row k c 0 n) q g
@@ -183,46 +183,46 @@ module _ (s : List ℕ) where
       go false u ex eu g = absurd-leaf q e g
 
   curved-held : {i : ℕ} {w : List ℕ} (k j e : ℕ) (q : Row) → argumentsAt s k j ≡ Node q e → Run s i j w → isTimed k ≡ false
-      → ((c : ℕ) → Reads primary (w ++ curveWord (curveOf c) ++ bytes ")") (leafOf (row k c 0 0))) → Held s primary i e (leafOf q)
+      → ((c : ℕ) → Reads primary (w ++ curveWord (curveOf c) ++ bytes ")") (rowText (row k c 0 0))) → Held s primary i e (rowText q)
   unfolding argumentsAt
   curved-held {i} {w} k j e q h a t b = go (firstOf curves s j) refl (rw t at h)
     where
-      go : (u : Found) → firstOf curves s j ≡ u → whenFound u (λ c m. closedBy s 41 (row k c 0 0) m) ≡ Node q e → Held s primary i e (leafOf q)
+      go : (u : Found) → firstOf curves s j ≡ u → whenFound u (λ c m. closedBy s 41 (row k c 0 0) m) ≡ Node q e → Held s primary i e (rowText q)
       go (At c m) eu g = closed-held m e (row k c 0 0) q g (run-then s w (curveWord (curveOf c)) a (curve-run j c m eu)) (b c)
       go Missing eu g = absurd-leaf q e g
 
   aftertime-held : {i : ℕ} {w : List ℕ} (k j e : ℕ) (q : Row) → argumentsAt s k j ≡ Node q e → Run s i j w → isTimed k ≡ true
-      → ((c n : ℕ) (x : List ℕ) → Numeral x n → Reads primary (w ++ curveWord (curveOf c) ++ bytes "," ++ x ++ bytes ")") (leafOf (row k c 0 n))) → Held s primary i e (leafOf q)
+      → ((c n : ℕ) (x : List ℕ) → Numeral x n → Reads primary (w ++ curveWord (curveOf c) ++ bytes "," ++ x ++ bytes ")") (rowText (row k c 0 n))) → Held s primary i e (rowText q)
   unfolding argumentsAt
   aftertime-held {i} {w} k j e q h a t b = go (firstOf curves s j) refl (rw t at h)
     where
-      go : (u : Found) → firstOf curves s j ≡ u → whenFound u (λ c m. timedAt s k c m) ≡ Node q e → Held s primary i e (leafOf q)
+      go : (u : Found) → firstOf curves s j ≡ u → whenFound u (λ c m. timedAt s k c m) ≡ Node q e → Held s primary i e (rowText q)
       go (At c m) eu g = timed-held k c m e q g (run-then s w (curveWord (curveOf c)) a (curve-run j c m eu)) (b c)
       go Missing eu g = absurd-leaf q e g
 
   labelled-held : {i : ℕ} {w : List ℕ} (k j e : ℕ) (q : Row) → pigmentLeafAt s k j ≡ Node q e → Run s i j w → eqb k DOSE ≡ false
-      → ((n : ℕ) (x : List ℕ) → PigmentWord x n → Reads primary (w ++ x) (leafOf (row k 0 0 n))) → Held s primary i e (leafOf q)
+      → ((n : ℕ) (x : List ℕ) → PigmentWord x n → Reads primary (w ++ x) (rowText (row k 0 0 n))) → Held s primary i e (rowText q)
   unfolding pigmentLeafAt
   labelled-held {i} {w} k j e q h a t b = go (pigmentAt s j) refl (rw t at h)
     where
-      go : (u : Found) → pigmentAt s j ≡ u → whenFound u (λ n m. Node (row k 0 0 n) m) ≡ Node q e → Held s primary i e (leafOf q)
+      go : (u : Found) → pigmentAt s j ≡ u → whenFound u (λ n m. Node (row k 0 0 n) m) ≡ Node q e → Held s primary i e (rowText q)
       go (At n m) eu g =
           let d = pigment-sound s j n m eu in
           held m e (row k 0 0 n) q g (run-then s w (d .spelling) a (record { here = d .here; upto = d .upto })) (b n (d .spelling) (d .holds))
       go Missing eu g = absurd-leaf q e g
 
   labelled-closed-held : {i : ℕ} {w : List ℕ} (k j e : ℕ) (q : Row) → pigmentLeafAt s k j ≡ Node q e → Run s i j w → eqb k DOSE ≡ true
-      → ((n : ℕ) (x : List ℕ) → PigmentWord x n → Reads primary (w ++ x ++ bytes ")") (leafOf (row k 0 0 n))) → Held s primary i e (leafOf q)
+      → ((n : ℕ) (x : List ℕ) → PigmentWord x n → Reads primary (w ++ x ++ bytes ")") (rowText (row k 0 0 n))) → Held s primary i e (rowText q)
   unfolding pigmentLeafAt
   labelled-closed-held {i} {w} k j e q h a t b = go (pigmentAt s j) refl (rw t at h)
     where
-      go : (u : Found) → pigmentAt s j ≡ u → whenFound u (λ n m. closedBy s 41 (row k 0 0 n) m) ≡ Node q e → Held s primary i e (leafOf q)
+      go : (u : Found) → pigmentAt s j ≡ u → whenFound u (λ n m. closedBy s 41 (row k 0 0 n) m) ≡ Node q e → Held s primary i e (rowText q)
       go (At n m) eu g =
           let d = pigment-sound s j n m eu in
           closed-held m e (row k 0 0 n) q g (run-then s w (d .spelling) a (record { here = d .here; upto = d .upto })) (b n (d .spelling) (d .holds))
       go Missing eu g = absurd-leaf q e g
 
-  headed-held : {i : ℕ} {w : List ℕ} (k j e : ℕ) (q : Row) → Head k w → Run s i j w → headedAt s k j ≡ Node q e → Held s primary i e (leafOf q)
+  headed-held : {i : ℕ} {w : List ℕ} (k j e : ℕ) (q : Row) → Head k w → Run s i j w → headedAt s k j ≡ Node q e → Held s primary i e (rowText q)
   unfolding headedAt namedAt
   headed-held k j e q (field l) a h = comparison-held k j e q (rw (lt-ltb k FALL l) at h) a
   headed-held k j e q (with-curve l m x p y b) a h = curved-held k j e q (rw (le-ltb k FALL l, lt-ltb k unaryFrom m, x, p) at h) a y b
@@ -234,11 +234,11 @@ module _ (s : List ℕ) where
       let g = rw (le-ltb k FALL (omega arith), le-ltb k unaryFrom l) at h in
       let z : _≡_ {A = ℕ} 0 1 = cc in absurd (omega arith)
 
-  pub leaf-held : (i j : ℕ) (q : Row) → leafAt s i ≡ Node q j → Held s primary i j (leafOf q)
+  pub leaf-held : (i j : ℕ) (q : Row) → leafAt s i ≡ Node q j → Held s primary i j (rowText q)
   unfolding leafAt
   leaf-held i j q h = go (firstOf heads s i) refl h
     where
-      go : (u : Found) → firstOf heads s i ≡ u → whenFound u (headedAt s) ≡ Node q j → Held s primary i j (leafOf q)
+      go : (u : Found) → firstOf heads s i ≡ u → whenFound u (headedAt s) ≡ Node q j → Held s primary i j (rowText q)
       go (At k m) eu g = let f = found-is s Head heads i k m heads-mean eu in headed-held k m j q (f .holds) (record { here = f .here; upto = f .upto }) g
       go Missing eu g = absurd-leaf q j g
 
@@ -357,7 +357,7 @@ WordEnds s j = letterOrDigit (byte s j) ≡ false
 pub record Lexed (s : List ℕ) (i j : ℕ) (t : Text) : Type 0 where
   pub made : Row
   pub at-once : leafAt s i ≡ Node made j
-  pub stands-for : leafOf made ≡ t
+  pub stands-for : rowText made ≡ t
 
 module _ (s : List ℕ) where
   curve-found : (i : ℕ) (c : Curve) → Stands s i (curveWord c) → firstOf curves s i ≡ At (curveCode c) (i + 1)
@@ -416,11 +416,11 @@ module _ (s : List ℕ) where
       let l = numeral-first s j m st in
       rw (ne-eqb (byte s j) 118 (omega arith), ne-eqb (byte s j) 66 (omega arith), number-complete s j m st e)
 
-  operand-is : (f : Field) (r : Relation) (o : Operand) → leafOf (operandRow (fieldCode f) (relationCode r) o) ≡ atom (compare f r o)
+  operand-is : (f : Field) (r : Relation) (o : Operand) → rowText (operandRow (fieldCode f) (relationCode r) o) ≡ atom (compare f r o)
   operand-is f r v = let x = field-code f in let y = relation-code r in cc
   operand-is f r (number n) = let x = field-code f in let y = relation-code r in cc
 
-  lexed : {i : ℕ} {t : Text} (j k : ℕ) (q : Row) → leafAt s i ≡ Node q j → leafOf q ≡ t → j ≡ k → Lexed s i k t
+  lexed : {i : ℕ} {t : Text} (j k : ℕ) (q : Row) → leafAt s i ≡ Node q j → rowText q ≡ t → j ≡ k → Lexed s i k t
   lexed j k q e h l = record { made = q; at-once = e ∙ ap (λ (n : ℕ). Node q n) l; stands-for = h }
 
   compared-lexed : {w : List ℕ} {o : Operand} (i : ℕ) (f : Field) (r : Relation) → OperandWord w o → Stands s i (fieldWord f ++ relationWord r ++ w)
@@ -457,7 +457,7 @@ module _ (s : List ℕ) where
   closed-at r j e = rw (eq-eqb (byte s j) 41 e)
 
   curved-lexed : {t : Text} (k : ℕ) (w : List ℕ) (c : Curve) (i : ℕ) → tellable noByte heads k w ≡ true → FALL ≤ k → k < unaryFrom
-      → isBare k ≡ false → takesPigment k ≡ false → isTimed k ≡ false → leafOf (row k (curveCode c) 0 0) ≡ t
+      → isBare k ≡ false → takesPigment k ≡ false → isTimed k ≡ false → rowText (row k (curveCode c) 0 0) ≡ t
       → Stands s i (w ++ curveWord c ++ bytes ")") → Lexed s i (i + length (w ++ curveWord c ++ bytes ")")) t
   unfolding leafAt headedAt namedAt argumentsAt
   curved-lexed k w c i find l m x p y t st =
@@ -472,7 +472,7 @@ module _ (s : List ℕ) where
       t (omega arith)
 
   timed-lexed : {t : Text} {u : List ℕ} {n : ℕ} (k : ℕ) (w : List ℕ) (c : Curve) (i : ℕ) → tellable noByte heads k w ≡ true → FALL ≤ k → k < unaryFrom
-      → isBare k ≡ false → takesPigment k ≡ false → isTimed k ≡ true → leafOf (row k (curveCode c) 0 n) ≡ t → Numeral u n
+      → isBare k ≡ false → takesPigment k ≡ false → isTimed k ≡ true → rowText (row k (curveCode c) 0 n) ≡ t → Numeral u n
       → Stands s i (w ++ curveWord c ++ bytes "," ++ u ++ bytes ")") → Lexed s i (i + length (w ++ curveWord c ++ bytes "," ++ u ++ bytes ")")) t
   unfolding leafAt headedAt namedAt argumentsAt timedAt
   timed-lexed {t} {u} {n} k w c i find l m x p y t′ num st =
@@ -496,7 +496,7 @@ module _ (s : List ℕ) where
 
   -- `P=` and `dose(` with the number that is written
   labelled-lexed : {t : Text} {u : List ℕ} {n : ℕ} (k : ℕ) (w : List ℕ) (i : ℕ) → tellable noByte heads k w ≡ true → FALL ≤ k → k < unaryFrom
-      → isBare k ≡ false → takesPigment k ≡ true → eqb k DOSE ≡ false → leafOf (row k 0 0 n) ≡ t → PigmentWord u n
+      → isBare k ≡ false → takesPigment k ≡ true → eqb k DOSE ≡ false → rowText (row k 0 0 n) ≡ t → PigmentWord u n
       → Stands s i (w ++ u) → isDigit (byte s (i + length (w ++ u))) ≡ false → Lexed s i (i + length (w ++ u)) t
   unfolding leafAt headedAt namedAt pigmentLeafAt
   labelled-lexed {t} {u} {n} k w i find l m x p y t′ num st e =
@@ -509,7 +509,7 @@ module _ (s : List ℕ) where
       t′ end
 
   labelled-closed-lexed : {t : Text} {u : List ℕ} {n : ℕ} (k : ℕ) (w : List ℕ) (i : ℕ) → tellable noByte heads k w ≡ true → FALL ≤ k → k < unaryFrom
-      → isBare k ≡ false → takesPigment k ≡ true → eqb k DOSE ≡ true → leafOf (row k 0 0 n) ≡ t → PigmentWord u n
+      → isBare k ≡ false → takesPigment k ≡ true → eqb k DOSE ≡ true → rowText (row k 0 0 n) ≡ t → PigmentWord u n
       → Stands s i (w ++ u ++ bytes ")") → Lexed s i (i + length (w ++ u ++ bytes ")")) t
   unfolding leafAt headedAt namedAt pigmentLeafAt
   labelled-closed-lexed {t} {u} {n} k w i find l m x p y t′ num st =
@@ -525,7 +525,7 @@ module _ (s : List ℕ) where
       t′ (omega arith)
 
   bare-lexed : {t : Text} (k : ℕ) (w : List ℕ) (i : ℕ) → tellable letterOrDigit heads k w ≡ true → FALL ≤ k → k < unaryFrom
-      → isBare k ≡ true → leafOf (row k 0 0 0) ≡ t → Stands s i w → WordEnds s (i + length w) → Lexed s i (i + length w) t
+      → isBare k ≡ true → rowText (row k 0 0 0) ≡ t → Stands s i w → WordEnds s (i + length w) → Lexed s i (i + length w) t
   unfolding leafAt headedAt namedAt
   bare-lexed k w i find l m x t st e = lexed (i + length w) _ (row k 0 0 0) (rw (found s letterOrDigit heads k w i find st e, le-ltb k FALL l, lt-ltb k unaryFrom m, x)) t refl
 

@@ -1,7 +1,7 @@
 -- The number that computing finds at a position is the one numeral that stands there.
 use mathlib.Core.Path.{_≡_, refl, sym, ap, subst, _∙_}
-use mathlib.Core.Bool.{Bool, true, false, cond, not, _&&_, _||_}
-use mathlib.Core.List.{List, [], _∷_, _++_}
+use mathlib.Core.Bool.{Bool, true, false, cond}
+use mathlib.Core.List.{List, [], _∷_}
 use Prim.Native.Nat.{ℕ, zero, suc, _+_, _-_, _*_, _≤_, _<_}
 use native.Mathlib.Omega.{arith}
 use native.Mathlib.Numerals.{add-one}
@@ -10,6 +10,7 @@ use lib.ListN.{length, getD, drop, drop-of-length-le, length-drop}
 use lib.Seq.{drop-cons}
 use borrow.Author.Tests.{eq-eqb, ne-eqb, eqb-true, eqb-false, ltb-true, ltb-false, leb-true, le-leb}
 use Rattle.number.specs.Axis.{origin}
+use Rattle.number.specs.laws.Boolean.{and-left, and-right}
 use Rattle.recording.specs.Recording.{mostPigments}
 use Rattle.grammar.specs.declared.Found.{Found}
 use Rattle.grammar.specs.declared.Found.the-variants.{At, Missing}
@@ -17,7 +18,7 @@ use Rattle.grammar.specs.Bytes.{bytes}
 use Rattle.grammar.specs.Classes.{isDigit}
 use Rattle.grammar.specs.Grammar.{decimal, decimalFrom, AllDigits, Positive, Numeral, zero-itself, plain, minus, PigmentNumber}
 use Rattle.grammar.specs.inner.Lexer.{byte, digitRun, bounded, unsignedAt, negated, shifted, numberAt, ofPigment, pigmentAt}
-use Rattle.grammar.specs.laws.Word.{Stands, Spelt, inside, bound, and-left, and-right, one-byte}
+use Rattle.grammar.specs.laws.Word.{Stands, Spelt, inside, bound, one-byte}
 
 pub digit-low : (b : ℕ) → isDigit b ≡ true → 48 ≤ b
 digit-low b e = leb-true 48 b (and-left (leb 48 b) (leb b 57) e)

@@ -1,5 +1,5 @@
 -- In a text with a reading, the k of each `P=k` and of each `dose(k)` is 1 to 16.
-use mathlib.Core.List.{List, _∷_}
+use mathlib.Core.List.{List}
 use Prim.Native.Nat.{ℕ, _≤_}
 use Rattle.recording.specs.Recording.{mostPigments}
 use Rattle.grammar.specs.Syntax.{Atom, compare, A-to-B, fall, rise, pigment, Listed, high, low, lowafter, capafter, peaks, dips, cross, crossup, dose, ampl, gaps, steps, lag, Text, atom, listed, or, and, neg, finally, globally, next, until, weakUntil}

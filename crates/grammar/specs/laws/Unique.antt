@@ -5,11 +5,10 @@ use mathlib.Core.Bool.{Bool, true, false}
 use mathlib.Core.List.{List, [], _∷_, _++_}
 use Prim.Native.Nat.{ℕ, zero, suc, _+_, _*_, _-_, _≤_, _<_}
 use native.Mathlib.Omega.{arith}
-use lib.Dec.{eqb, ltb, lit<}
-use lib.ListN.{length, getD, List·getD-eq-default, length-append}
+use lib.Dec.{eqb, lit<}
+use lib.ListN.{length, List·getD-eq-default, length-append}
 use borrow.Author.Tests.{eq-eqb, ne-eqb, eqb-true, lt-ltb, le-ltb}
 use Rattle.recording.specs.Reading.{A, B}
-use Rattle.grammar.specs.declared.Row.{Row}
 use Rattle.grammar.specs.declared.Leaf.{Leaf}
 use Rattle.grammar.specs.declared.Leaf.the-variants.{Node, Open, Nothing}
 use Rattle.grammar.specs.Bytes.{bytes}
@@ -19,8 +18,8 @@ use Rattle.grammar.specs.Grammar.{AtomWord, compared, curves as A-with-B
 use Rattle.grammar.specs.inner.Kinds.{NOT, NEXT, FINALLY, GLOBALLY, UNTIL, WEAK-UNTIL, BRACKET}
 use Rattle.grammar.specs.inner.Table.{binaryFrom, kinds}
 use Rattle.grammar.specs.inner.Lexer.{byte, leafAt}
-use Rattle.grammar.specs.inner.Parse.{Joiner, bars, ampersands, sign, Task, chain, more, not-at, prim-at, argument, part, joinKind, leafOf, node, Out, got, unread, after, pick, opened, begun, closed, parse, rank, Parsed, one, none, unmixed, atEnd, parsed}
-use Rattle.grammar.specs.laws.Word.{Stands, Spelt, letterOrDigit, inside, bound, before, behind, together, same-word, stands-self}
+use Rattle.grammar.specs.inner.Parse.{Joiner, bars, ampersands, sign, Task, chain, more, not-at, prim-at, argument, part, joinKind, node, Out, got, unread, after, pick, opened, begun, closed, parse, rank, Parsed, one, none, unmixed, atEnd, parsed}
+use Rattle.grammar.specs.laws.Word.{Stands, letterOrDigit, bound, before, behind, same-word, stands-self}
 use Rattle.grammar.specs.laws.Leaf.{Run, run-then, run-byte, Held, Opening, round, single, double, leaf-held, open-held, WordEnds, Lexed, atom-lexed, listed-lexed, X-opens, F-opens, G-opens, U-opens, W-opens, round-opens}
 
 -- the level of a chain, and of its parts

@@ -2,16 +2,14 @@
 use mathlib.Core.Path.{_≡_, refl, sym, ap, subst, _∙_}
 use mathlib.Core.Bool.{Bool, true, false, true≢false, cond, not, _&&_, _||_}
 use mathlib.Core.List.{List, [], _∷_, _++_}
-use Prim.Native.Nat.{ℕ, zero, suc, _+_, _≤_, _<_}
+use Prim.Native.Nat.{ℕ, suc, _+_, _≤_, _<_}
 use native.Mathlib.Omega.{arith}
-use native.Mathlib.Nat.{add-assoc}
-use native.Mathlib.Numerals.{add-one}
 use lib.Dec.{eqb, ltb}
 use lib.ListN.{length, List·getD-eq-default, length-append}
 use lib.Seq.{getD-append-seam, append-snoc}
-use borrow.Author.Tests.{eq-eqb, ne-eqb, eqb-true, eqb-false, ltb-true, ltb-false}
-use Rattle.grammar.specs.declared.Found.{Found}
-use Rattle.grammar.specs.declared.Found.the-variants.{At, Missing}
+use borrow.Author.Tests.{eq-eqb, ne-eqb, eqb-true, ltb-true, ltb-false}
+use Rattle.number.specs.laws.Boolean.{and-left, and-right}
+use Rattle.grammar.specs.declared.Found.the-variants.{At}
 use Rattle.grammar.specs.Classes.{isDigit, isLetter}
 use Rattle.grammar.specs.inner.Lexer.{byte, spelledAt, Word, firstOf}
 
@@ -27,14 +25,6 @@ inside s i h = go (ltb i (length s)) refl
     go : (b : Bool) → ltb i (length s) ≡ b → i < length s
     go true e = ltb-true i (length s) e
     go false e = absurd (omega (arith, List·getD-eq-default s 0 (ltb-false i (length s) e)))
-
-pub and-left : (a b : Bool) → (a && b) ≡ true → a ≡ true
-and-left true b e = refl
-and-left false b e = e
-
-pub and-right : (a b : Bool) → (a && b) ≡ true → b ≡ true
-and-right true b e = e
-and-right false b e = let z : _≡_ {A = ℕ} 0 1 = cc in absurd (omega arith)
 
 module _ (s : List ℕ) where
   pub bound : (i : ℕ) (w : List ℕ) → Stands s i w → i + length w ≤ length s

@@ -1,11 +1,11 @@
 -- Run by run: what is stored, with what is left, is always the same.
-use Prim.Native.Nat.{_-_, _*_}
+use Prim.Native.Nat.{_-_}
 use mathlib.Core.Path.{_≡_, sym, subst}
 use native.Mathlib.Omega.{arith}
 use lib.ListN.{length}
 use Rattle.join.specs.inner.Join.{Appended}
 use Rattle.join.specs.laws.Join.{two-left}
-use Rattle.join.specs.laws.Remainder.{Appending, appending-start, appending-on, appended}
+use Rattle.join.specs.laws.Remainder.{Appending, appending-on, appended}
 use borrow.Author.Needs.{needs}
 use Rattle.join.proofs.append.Statement.{statement}
 use Rattle.join.proofs.append.Tie as tie

@@ -1,10 +1,9 @@
 -- The invariant: all runs passed meet the open one.
-use Prim.Native.Nat.{_-_, _*_}
-use mathlib.Core.Path.{_≡_, refl, sym, _∙_}
+use Prim.Native.Nat.{_-_}
 use native.Mathlib.Omega.{arith}
 use lib.ListN.{length}
 use Rattle.join.specs.laws.Join.{two-left}
-use Rattle.join.specs.laws.Remainder.{Reaching, reaching-start, reaching-on, reached-gap, reached-end}
+use Rattle.join.specs.laws.Remainder.{Reaching, reaching-on, reached-gap, reached-end}
 use borrow.Author.Needs.{needs}
 use Rattle.join.proofs.extend.Statement.{statement}
 use Rattle.join.proofs.extend.Tie as tie

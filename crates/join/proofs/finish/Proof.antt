@@ -1,8 +1,7 @@
 -- The open run with all that it meets, and the rest as it is: one list of cuts, and as many stores as runs.
-use Prim.Native.Nat.{_+_, _*_, _≤_}
-use mathlib.Core.Path.{_≡_, refl, sym, ap, _∙_}
+use mathlib.Core.Path.{refl, sym, _∙_}
 use native.Mathlib.Omega.{arith}
-use lib.ListN.{length, length-set}
+use lib.ListN.{length-set}
 use Rattle.join.specs.laws.Join.{rest-any}
 use Rattle.join.specs.laws.Remainder.{finish-over, finish-all, run-size}
 use borrow.Author.Needs.{needs}

@@ -3,7 +3,7 @@ use Prim.Native.Nat.{_+_, _-_}
 use mathlib.Core.Path.{_≡_, refl, sym, _∙_}
 use native.Mathlib.Omega.{arith}
 use lib.ListN.{length}
-use Rattle.join.specs.laws.Join.{Joining, whole-rest, joining-start, joins-none, place-left, place-right, left-any, right-any, open-left, open-right, joins-left, joins-right, joining-meet, joining-full, joining-room, joining-apart}
+use Rattle.join.specs.laws.Join.{Joining, whole-rest, joining-start, joins-none, place-right, left-any, right-any, open-left, open-right, joins-left, joins-right, joining-meet, joining-full, joining-room, joining-apart}
 use borrow.Author.Needs.{needs}
 use Rattle.join.proofs.join.Statement.{statement}
 use Rattle.join.proofs.join.Tie as tie

@@ -8,7 +8,7 @@ use borrow.Author.Tests.{eqb-true, eq-eqb}
 use Rattle.number.specs.laws.Boolean.{same, or-left, or-right, or-cases}
 use Rattle.recording.specs.Condition.{Condition, pick}
 use Rattle.recording.specs.Reading.{Reading}
-use Rattle.kept.specs.Kept.{anyOf, forSome, extremes, after, reasons, kept}
+use Rattle.kept.specs.Kept.{anyOf, forSome, extremes, laterThan, reasons, kept}
 
 -- k is one of the marks
 abbrev pub isMark : ℕ → List ℕ → Bool
@@ -38,4 +38,4 @@ module _ {X : Type 0} (ρ : ℕ → Condition X) (before : List X) (x : X) (rest
 
 -- the same marks, in any order, however often
 pub kept-marks : (marks others : List ℕ) → ((k : ℕ) → isMark k marks ≡ isMark k others) → (r : List Reading) → kept marks r ≡ kept others r
-kept-marks marks others h r = λ i. pick (λ b x a. anyOf reasons b x a || same-marks (λ k. extremes (after k)) b x a marks others h i) r
+kept-marks marks others h r = λ i. pick (λ b x a. anyOf reasons b x a || same-marks (λ k. extremes (laterThan k)) b x a marks others h i) r

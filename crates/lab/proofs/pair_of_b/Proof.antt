@@ -1,6 +1,4 @@
 -- `lab::pair_of_b` meets its contract: the lines one by one, the last of which always meets.
-use mathlib.Core.Path.{_≡_, sym, ap, _∙_}
-use mir.Syntax.{w64}
 use borrow.Author.Needs.{needs}
 use Rattle.targets.specs.laws.Target.{placed-handed}
 use Rattle.targets.specs.declared.OnAxis.the-variants.{Index, Off}

@@ -5,10 +5,6 @@ use Rattle.question.specs.laws.Call.{prepared-ready}
 use Rattle.lab.specs.laws.Call.{prepare-refused, prepare-asked}
 use Rattle.lab.proofs.prepare.Statement.{statement}
 use Rattle.lab.proofs.prepare.Tie as tie
-use Rattle.lab.proofs.prepare.Reads as reads
-use Rattle.lab.proofs.prepare.Lts as lts
-use Rattle.lab.proofs.allowed.Reads as allowed-reads
-use Rattle.question.proofs.prepare.prepare.Reads as prepare-reads
 
 prepare-requires : tie.Need-prepare-requires
 prepare-requires c κs = search needs

@@ -1,24 +1,23 @@
 -- The rows of the node table say which nodes are barred, and so whether 14 meets the text.
-use Prim.Native.Nat.{ℕ, zero, suc, _+_, _-_, _≤_, _<_}
+use Prim.Native.Nat.{ℕ, zero, suc, _-_, _≤_, _<_}
 use native.Mathlib.Omega.{arith}
 use mathlib.Core.Path.{_≡_, refl, sym, ap, _∙_}
-use mathlib.Core.Bool.{Bool, true, false, cond, not, _&&_, _||_, or-false, or-true}
+use mathlib.Core.Bool.{Bool, true, false, cond, not, _||_, or-false, or-true}
 use mathlib.Core.List.{List, [], _∷_}
-use lib.Dec.{eqb, ltb, leb}
+use lib.Dec.{eqb, ltb}
 use borrow.Author.Tests.{ne-eqb, eqb-true, eq-eqb, lt-ltb}
 use Rattle.number.specs.Axis.{origin}
 use Rattle.number.specs.laws.Boolean.{same, or-left}
 use Rattle.recording.specs.Condition.{someOf}
-use Rattle.grammar.specs.declared.Row.{Row}
 use Rattle.grammar.specs.Syntax.{Text}
 use Rattle.grammar.specs.Size.{nodes}
-use Rattle.grammar.specs.inner.Table.{row, rowAt, someRow, unaryFrom}
-use Rattle.grammar.specs.inner.Parse.{leafOf, node}
+use Rattle.grammar.specs.inner.Table.{row, someRow, unaryFrom}
+use Rattle.grammar.specs.inner.Parse.{rowText, node}
 use Rattle.parser.specs.inner.Rows.{Laid}
 use Rattle.text.specs.laws.Table.{Each, each, unary-kinds, binary-kinds, ByRow, held-nodes, held-some}
 use Rattle.meaning.specs.Alike.{markIndex}
 use Rattle.meaning.specs.inner.Truth.{someNode}
-use Rattle.lab.specs.inner.Barred.{isMarkIndex, isB, barred, notForLaboratory, rowNamesB, rowBarred}
+use Rattle.lab.specs.inner.Barred.{isMarkIndex, barred, notForLaboratory, rowNamesB, rowBarred}
 
 -- ---- tests one after the other
 
@@ -61,7 +60,7 @@ no-b a = sym (ap (λ (t : Bool). t || false) (ne-eqb (suc (suc (suc a))) 1 (λ e
 
 module _ (marks : List ℕ) (b n : ℕ) where
   abbrev Right : ℕ → ℕ → Type 0
-  Right k a = notForLaboratory marks (leafOf (row k a b n)) ≡ rowBarred marks (row k a b n)
+  Right k a = notForLaboratory marks (rowText (row k a b n)) ≡ rowBarred marks (row k a b n)
 
   -- a node about a curve, A or B; about a field, A, B or T
   of-curve : (k : ℕ) → Right k 0 → ((a : ℕ) → Right k (suc a)) → (a : ℕ) → Right k a

@@ -1,12 +1,10 @@
 -- The laboratory's calls from their parts.
-use Prim.Native.Nat.{ℕ, _≤_, _<_, _*_}
-use native.Mathlib.Omega.{arith}
-use mathlib.Core.Path.{_≡_, refl, sym, ap, subst, _∙_}
+use Prim.Native.Nat.{ℕ}
+use mathlib.Core.Path.{_≡_, sym, ap, subst, _∙_}
 use mathlib.Core.Bool.{Bool, true, false}
-use mathlib.Core.List.{List, [], _∷_, _++_, append-assoc}
+use mathlib.Core.List.{List, [], _∷_, _++_}
 use lib.IntN.{ℤ}
 use lib.ListN.{length}
-use lib.Dec.{eqb}
 use Rattle.refusal.specs.Outcome.{Outcome, result, refused, Line, judged, NoneMeets}
 use Rattle.refusal.specs.Numbers.{numberOf, placeOf}
 use Rattle.refusal.specs.declared.Refusal.{Refusal}
@@ -19,12 +17,13 @@ use Rattle.runs.specs.Runs.{setBytes}
 use Rattle.grammar.specs.Syntax.{Text}
 use Rattle.grammar.specs.inner.Parse.{parsed}
 use Rattle.parser.specs.inner.Rows.{Laid}
-use Rattle.text.specs.Told.{nodesOf, Tabled}
+use Rattle.text.specs.Told.{nodesOf}
 use Rattle.meaning.specs.inner.Coded.{coded, index}
 use Rattle.meaning.specs.inner.Truth.{val}
 use Rattle.evaluation.specs.inner.Evaluation.{textOf}
 use Rattle.question.specs.Question.{theText, read, answer, askingLines, setLines, answerOf}
 use Rattle.question.specs.inner.Prepare.{preparedOf, Prepares}
+use Rattle.question.specs.laws.Prepare.{refused-nodes, prepared-passes}
 use Rattle.question.specs.declared.prepare.Prepared.{Prepared}
 use Rattle.question.specs.declared.prepare.Prepared.the-variants as prepared
 use Rattle.degree.specs.Degree.{Value, valueOf, targetLine}
@@ -48,12 +47,6 @@ module _ (marks : List ℕ) (n : ℕ) where
 
 -- ---- a text that is read
 
-refused-nodes : {C : Type 0} (x : Refusal) (n : ℕ) → prepared.Refused x ≡ prepared.Nodes n → C
-refused-nodes x n e = let z : _≡_ {A = ℕ} 0 1 = cc in absurd (bad z)
-  where
-    bad : _≡_ {A = ℕ} 0 1 → ⊥
-    bad z = omega arith
-
 module _ (bytes marks text table : List ℕ) (q : Prepared) (h : Prepares bytes text table q) where
   pub prepare-refused : (x : Refusal) → q ≡ prepared.Refused x → LabPrepares bytes marks text table (prepared.Refused x)
   prepare-refused x e = record {
@@ -66,21 +59,18 @@ module _ (bytes marks text table : List ℕ) (q : Prepared) (h : Prepares bytes 
     is-read : textOf table n ≡ read text
     is-read = ap theText (sym (h .tabled n e .reads))
 
-    passed : NoneMeets (askingLines bytes text) × (nodesOf (parsed text) ≡ n)
-    passed = result-none (askingLines bytes text) (nodesOf (parsed text)) n (sym (h .outcome) ∙ ap preparedOf e)
-
     pub prepare-asked : (r : Prepared) → ((t : Text) → Laid table 0 n t → preparedOf r ≡ judged (askerLines marks t) n) → LabPrepares bytes marks text table r
     prepare-asked r a =
         let o : preparedOf r ≡ judged (labAskingLines bytes marks text) (nodesOf (parsed text)) =
         a (textOf table n) (h .tabled n e .rows)
         ∙ ap (λ (t : Text). judged (askerLines marks t) n) is-read
-        ∙ ap (judged (askerLines marks (read text))) (sym (passed .1))
-        ∙ sym (judged-pass (askingLines bytes text) (askerLines marks (read text)) (nodesOf (parsed text)) (passed .0)) in
+        ∙ ap (judged (askerLines marks (read text))) (sym (prepared-passes h n e .1))
+        ∙ sym (judged-pass (askingLines bytes text) (askerLines marks (read text)) (nodesOf (parsed text)) (prepared-passes h n e .0)) in
         record {
           outcome = o;
           tabled = λ m f.
               let k = result-none (labAskingLines bytes marks text) (nodesOf (parsed text)) m (sym o ∙ ap preparedOf f) in
-              h .tabled m (e ∙ ap prepared.Nodes (sym (passed .1) ∙ k .1));
+              h .tabled m (e ∙ ap prepared.Nodes (sym (prepared-passes h n e .1) ∙ k .1));
         }
 
 -- ---- the calls

@@ -5,19 +5,18 @@ use mathlib.Core.Bool.{Bool, true, false, not, _||_, So, false≢true, true≢fa
 use mathlib.Core.Logic.{⊎-elim, _↔_}
 use mathlib.Core.List.{List, [], _∷_, _++_, map, List·Memᴰ, List·Memᴰ·head, List·Memᴰ·tail, List·Memᴰ·not-nil, List·Memᴰ·cases-cons, List·Memᴰ·append-cases}
 use lib.Dec.{eqb}
-use borrow.Author.Tests.{eqb-true, eq-eqb, not-true, not-false}
+use borrow.Author.Tests.{eqb-true, eq-eqb, not-true}
 use Rattle.number.specs.laws.Boolean.{by-test, clash, or-left, or-right, or-cases, none-left, none-right}
 use Rattle.recording.specs.Condition.{someOf}
 use Rattle.recording.specs.Reading.{A, B}
 use Rattle.grammar.specs.Syntax.{Listed, Text, atom, listed, or, and, neg, finally, globally, next, until, weakUntil}
 use Rattle.grammar.specs.Size.{temporal, afterTime, afterTimes}
-use Rattle.meaning.specs.Overfull.{children, Node, itself, below}
+use Rattle.meaning.specs.Overfull.{Node}
 use Rattle.meaning.specs.Alike.{markIndex, Plain}
-use Rattle.meaning.specs.Named.{Channel, curve, additions, nodeNames, Names}
+use Rattle.meaning.specs.Named.{Channel, curve, additions, nodeNames}
 use Rattle.meaning.specs.inner.Truth.{someNode}
 use Rattle.meaning.specs.laws.Alike.{plain-node}
 use Rattle.meaning.specs.laws.Overfull.{some-node}
-use Rattle.marks.specs.Marks.{marksOf}
 use Rattle.lab.specs.Lab.{LaboratoryText}
 use Rattle.lab.specs.inner.Barred.{isMarkIndex, isB, barred, notForLaboratory}
 

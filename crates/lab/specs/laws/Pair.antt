@@ -1,14 +1,11 @@
 -- The laboratory's pair call, line by line.
 use Prim.Native.Nat.{ℕ, _/_}
-use native.Mathlib.Omega.{arith}
 use mathlib.Core.Path.{_≡_, refl, sym, ap, _∙_}
-use mathlib.Core.Bool.{Bool, true, false, _||_}
 use mathlib.Core.List.{List, [], _∷_, _++_}
-use lib.Dec.{eqb, ltb}
 use lib.IntN.{ℤ}
 use lib.ListN.{length}
 use borrow.Author.Tests.{eq-eqb, ne-eqb}
-use Rattle.refusal.specs.Outcome.{Outcome, refused, Line, judged, NoneMeets}
+use Rattle.refusal.specs.Outcome.{refused, judged, NoneMeets}
 use Rattle.refusal.specs.Numbers.{numberOf, placeOf}
 use Rattle.refusal.specs.declared.Refusal.{Refusal}
 use Rattle.recording.specs.Reading.{curveOf}
@@ -16,11 +13,12 @@ use Rattle.recording.specs.Recording.{records, readings, recordingLines, noReco
 use Rattle.recording.specs.Output.{checkOutcome}
 use Rattle.recording.specs.declared.Checked.{Checked}
 use Rattle.recording.specs.declared.Checked.the-variants as checked
-use Rattle.recording.specs.laws.Outcome.{judged-pass, judged-skip, judged-first, result-none, refusal-stands}
+use Rattle.recording.specs.laws.Outcome.{judged-pass, judged-skip, judged-first, refusal-stands}
+use Rattle.recording.specs.laws.Acceptance.{check-accepts}
 use Rattle.recording.specs.laws.Record.{length-records}
-use Rattle.targets.specs.Target.{offAxis, Placed}
+use Rattle.targets.specs.Target.{Placed, badTarget}
 use Rattle.targets.specs.declared.OnAxis.the-variants.{Index, Off}
-use Rattle.pair.specs.Pair.{Given, firstPair, badTarget, tooManyTops, pairOf}
+use Rattle.pair.specs.Pair.{firstPair, tooManyTops, pairOf}
 use Rattle.lab.specs.Lab.{curveLine, labPairOf}
 
 -- a curve that is not B: 14 does not meet, and the call is the plain one
@@ -37,15 +35,12 @@ module _ (bytes : List ℕ) (g : ℤ) (r : Checked) where
   recording-refused x e q = sym (refusal-stands (recordingLines bytes) _ (length bytes / 16) _ (numberOf x) (placeOf x) (sym e ∙ ap checkOutcome q))
 
   module _ (n : ℕ) (e : checkOutcome r ≡ judged (recordingLines bytes) (length bytes / 16)) (q : r ≡ checked.Records n) where
-    accepted : NoneMeets (recordingLines bytes) × (length bytes / 16 ≡ n)
-    accepted = result-none (recordingLines bytes) (length bytes / 16) n (sym e ∙ ap checkOutcome q)
-
     count : length (records bytes) ≡ n
-    count = length-records bytes ∙ accepted .1
+    count = length-records bytes ∙ sym (check-accepts bytes r n e q .1)
 
     pub none-there : n ≡ 0 → refused 4 0 ≡ labPairOf bytes 1 g
     unfolding labPairOf
-    none-there z = sym (judged-pass (recordingLines bytes) _ _ (accepted .0) ∙ judged-first (noRecord bytes) _ _ (eq-eqb (length (records bytes)) 0 (count ∙ z)))
+    none-there z = sym (judged-pass (recordingLines bytes) _ _ (check-accepts bytes r n e q .0) ∙ judged-first (noRecord bytes) _ _ (eq-eqb (length (records bytes)) 0 (count ∙ z)))
 
     module _ (some : n ≡ 0 → ⊥) where
       passed : NoneMeets (noRecord bytes ∷ [])
@@ -54,10 +49,10 @@ module _ (bytes : List ℕ) (g : ℤ) (r : Checked) where
       pub target-off : Placed g Off → refused 12 0 ≡ labPairOf bytes 1 g
       unfolding labPairOf
       target-off h =
-          sym (judged-pass (recordingLines bytes) _ _ (accepted .0) ∙ judged-pass (noRecord bytes ∷ []) _ _ passed ∙ judged-first (badTarget 1 g) _ _ h)
+          sym (judged-pass (recordingLines bytes) _ _ (check-accepts bytes r n e q .0) ∙ judged-pass (noRecord bytes ∷ []) _ _ passed ∙ judged-first (badTarget 1 g) _ _ h)
 
       pub always-b : (i : ℕ) → Placed g (Index i) → refused 14 0 ≡ labPairOf bytes 1 g
       unfolding labPairOf
       always-b i h =
-          sym (judged-pass (recordingLines bytes) _ _ (accepted .0) ∙ judged-pass (noRecord bytes ∷ []) _ _ passed ∙ judged-pass (badTarget 1 g ∷ []) _ _ (h .0, tt)
+          sym (judged-pass (recordingLines bytes) _ _ (check-accepts bytes r n e q .0) ∙ judged-pass (noRecord bytes ∷ []) _ _ passed ∙ judged-pass (badTarget 1 g ∷ []) _ _ (h .0, tt)
           ∙ judged-first (curveLine 1) _ _ refl)

@@ -1,10 +1,11 @@
 -- A laboratory's call answers as the plain call does, or 11 or 14 refuses it.
 use Prim.Native.Nat.{ℕ}
-use mathlib.Core.Path.{_≡_, refl, ap, _∙_}
+use mathlib.Core.Path.{_≡_, refl, _∙_}
 use mathlib.Core.Bool.{Bool, true, false, cond}
 use mathlib.Core.Logic.{_⊎_, inl, inr, ⊎-elim}
 use mathlib.Core.List.{List, [], _∷_, _++_}
 use lib.IntN.{ℤ}
+use Rattle.targets.specs.Target.{badTarget}
 use Rattle.refusal.specs.Outcome.{Outcome, refused, Line, judged, NoneMeets}
 use Rattle.recording.specs.laws.Outcome.{judged-pass, judged-skip, judged-first}
 use Rattle.recording.specs.Reading.{curveOf}
@@ -14,7 +15,7 @@ use Rattle.runs.specs.Runs.{setBytes}
 use Rattle.meaning.specs.inner.Coded.{index}
 use Rattle.question.specs.Question.{read, answer, askingLines, setLines, questionOf}
 use Rattle.degree.specs.Degree.{valueOf, targetLine, nearnessOf}
-use Rattle.pair.specs.Pair.{firstPair, badTarget, tooManyTops, pairOf}
+use Rattle.pair.specs.Pair.{firstPair, tooManyTops, pairOf}
 use Rattle.marks.specs.Marks.{marksLine}
 use Rattle.lab.specs.Lab.{textLine, curveLine, askerLines, labQuestionOf, labDegreeOf, labPairOf}
 

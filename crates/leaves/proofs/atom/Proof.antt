@@ -1,5 +1,4 @@
 -- By a field, or one test for all numbers.
-use Prim.Native.Nat.{ℕ}
 use mathlib.Core.Path.{sym, _∙_}
 use native.Mathlib.Omega.{arith}
 use Rattle.grammar.specs.Syntax.{Text}

@@ -1,8 +1,8 @@
 -- By the kind of the row.
-use mathlib.Core.Path.{_≡_, subst}
+use mathlib.Core.Path.{subst}
 use Prim.Native.Nat.{ℕ}
 use mathlib.Core.List.{List}
-use Rattle.recording.specs.Reading.{Curve, curveOf}
+use Rattle.recording.specs.Reading.{Curve}
 use Rattle.grammar.specs.Syntax as asks
 use Rattle.grammar.specs.Syntax.{Text}
 use Rattle.grammar.specs.inner.Kinds.{GAPS, STEPS, LAG}

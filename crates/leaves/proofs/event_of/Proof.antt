@@ -1,7 +1,7 @@
 -- By the kind of the row.
-use mathlib.Core.Path.{_≡_, refl, sym, ap, subst, _∙_}
+use mathlib.Core.Path.{sym, ap, _∙_}
 use Rattle.recording.specs.Reading.{Curve}
-use Rattle.grammar.specs.Syntax.{Text, listed, peaks, dips}
+use Rattle.grammar.specs.Syntax.{listed, peaks, dips}
 use Rattle.grammar.specs.inner.Kinds.{PEAKS, DIPS, CROSS, CROSSUP}
 use Rattle.leaves.specs.laws.Leaf.{leafAt, past, just, under}
 use borrow.Author.Needs.{needs}

@@ -1,7 +1,6 @@
 -- By the kind of the row.
 use Prim.Native.Nat.{ℕ}
 use mathlib.Core.Path.{_≡_}
-use native.Mathlib.Omega.{arith}
 use Rattle.grammar.specs.Syntax.{Text}
 use Rattle.grammar.specs.inner.Kinds.{COMPARE, A-TO-B, FALL, RISE, PIGMENT}
 use Rattle.meaning.specs.inner.Truth.{val}

@@ -6,14 +6,14 @@ use mathlib.Core.List.{List}
 use lib.ListN.{length}
 use Rattle.runs.specs.Set.{Makes}
 use Rattle.tops.specs.Tops.{mostTops}
-use Rattle.leaves.specs.inner.Stamps.{Stamped}
+use Rattle.leaves.specs.inner.Indices.{Indexed}
 use Rattle.leaves.specs.declared.Differing.{Differing}
 use Rattle.leaves.specs.declared.Differing.the-variants.{TooManyTops, TooManyRuns, Made}
 
 -- n is the number of the indices found; where they are few enough, the first n of the array are they
-pub record FewStamped (found : List ℕ) (n : ℕ) (new : List ℕ) : Type 0 where
+pub record FewIndexed (found : List ℕ) (n : ℕ) (new : List ℕ) : Type 0 where
   pub counted : n ≡ length found
-  pub stamped : n ≤ mostTops → Stamped found n new
+  pub indexed : n ≤ mostTops → Indexed found n new
 
 -- a set that is made has too many runs or not
 abbrev pub judgedRuns : Bool → Differing

@@ -16,7 +16,7 @@ use Rattle.number.specs.laws.Order.{less-or-not}
 use Rattle.number.specs.laws.Boolean.{and-left, and-right}
 use Rattle.recording.specs.Reading.{Reading, Curve, value, nothing, curveOf}
 use Rattle.recording.specs.Recording.{Raw, records, rawAt, reading, readings, inRange, latest, Accepted}
-use Rattle.recording.specs.laws.Record.{length-records, getD-chunks}
+use Rattle.recording.specs.laws.Record.{getD-chunks, length-readings}
 use Rattle.recording.specs.laws.Value.{inRange-offset-binary}
 use Rattle.meaning.specs.laws.Recorded.{accepted-recorded}
 use Rattle.meaning.specs.inner.Coded.{Coded, code, index, blank, codedValue, codedSlope}
@@ -25,9 +25,6 @@ use Rattle.meaning.specs.inner.Truth.{codedAt}
 use Rattle.meaning.specs.inner.Coded.{coded}
 
 -- ---- records by index
-
-pub length-readings : (rec : List ℕ) → length (readings rec) ≡ length rec / 16
-length-readings rec = length-map (records rec) reading ∙ length-records rec
 
 pub length-coded : (rec : List ℕ) → length (coded rec) ≡ length rec / 16
 length-coded rec = length-map (readings rec) code ∙ length-readings rec

@@ -1,7 +1,7 @@
 -- The set of differences between tops, made or refused.
 use Prim.Native.Nat.{ℕ, _≤_, _<_}
 use native.Mathlib.Omega.{arith}
-use mathlib.Core.Path.{_≡_, sym, ap, subst, _∙_}
+use mathlib.Core.Path.{_≡_, sym, subst, _∙_}
 use mathlib.Core.Bool.{Bool, true, false, false≢true}
 use mathlib.Core.List.{List}
 use lib.Dec.{ltb}
@@ -15,7 +15,7 @@ use Rattle.meaning.specs.inner.Coded.{Coded}
 use Rattle.meaning.specs.inner.Truth.{someNode, ofListed, asksTooMany, refused9}
 use Rattle.leaves.specs.inner.Differing.{judgedRuns, Differs}
 use Rattle.leaves.specs.declared.Differing.{Differing}
-use Rattle.leaves.specs.declared.Differing.the-variants.{TooManyTops, TooManyRuns, Made}
+use Rattle.leaves.specs.declared.Differing.the-variants.{TooManyTops}
 
 module _ (many : Bool) (f : ℕ → Bool) (words : List ℕ) where
   made : many ≡ false → (over : Bool) → Makes f words over → Differs many f words (judgedRuns over)

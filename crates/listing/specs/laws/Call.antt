@@ -19,12 +19,12 @@ use Rattle.recording.specs.Output.{Answers, outputLine}
 use Rattle.recording.specs.laws.Outcome.{judged-first, judged-pass, judged-none, answers-refused, answers-written}
 use Rattle.recording.specs.declared.Written.{Written}
 use Rattle.recording.specs.declared.Written.the-variants.{Bytes, Refused}
-use Rattle.targets.specs.Target.{offAxis, Placed}
+use Rattle.targets.specs.Target.{offAxis, Placed, badTarget}
 use Rattle.targets.specs.declared.OnAxis.the-variants.{Index, Off}
 use Rattle.entry.specs.Entry.{entryBytes}
 use Rattle.listing.specs.Listing.{mostEntries, entryCount, entryAt, reaches, numbersTo, listing}
 use Rattle.listing.specs.laws.Listing.{count-few}
-use Rattle.listing.specs.Call.{badSummary, badLevel, levelLines, findOf}
+use Rattle.listing.specs.Call.{badSummary, levelLines, findOf}
 
 module _ (summary : List ℕ) (curve : ℕ) (out : List ℕ) where
   -- the listing at a level, and what the output line makes of it
@@ -64,8 +64,8 @@ module _ (summary : List ℕ) (curve : ℕ) (out : List ℕ) where
     judgedLevel = judged (levelLines summary curve level (length out)) (listed level)
 
     -- 12
-    bad : badLevel curve level .meets ≡ true → Answers judgedLevel out (Refused BadTarget) out
-    bad m = answers-refused judgedLevel out BadTarget (judged-first (badLevel curve level) (outputLine (length out) (listed level) ∷ []) (listed level) m)
+    bad : badTarget curve level .meets ≡ true → Answers judgedLevel out (Refused BadTarget) out
+    bad m = answers-refused judgedLevel out BadTarget (judged-first (badTarget curve level) (outputLine (length out) (listed level) ∷ []) (listed level) m)
 
     pub of-no-curve : 1 < curve → Answers judgedLevel out (Refused BadTarget) out
     of-no-curve h = bad (or-left (ltb 1 curve) (offAxis level) (lt-ltb 1 curve h))
@@ -77,7 +77,7 @@ module _ (summary : List ℕ) (curve : ℕ) (out : List ℕ) where
     pub of-index : curve ≤ 1 → (index : ℕ) → Placed level (Index index) → (r : Written) (new : List ℕ) → Answers (written (whole index)) out r new → Answers judgedLevel out r new
     of-index h index p r new w =
         subst (λ (o : Outcome (List ℕ)). Answers o out r new)
-        (ap written (p .2) ∙ sym (judged-pass (badLevel curve level ∷ []) (outputLine (length out) (listed level) ∷ []) (listed level) (or-none (le-ltb 1 curve h) (p .0), tt))) w
+        (ap written (p .2) ∙ sym (judged-pass (badTarget curve level ∷ []) (outputLine (length out) (listed level) ∷ []) (listed level) (or-none (le-ltb 1 curve h) (p .0), tt))) w
 
     -- 20
     bad-summary : badSummary summary .meets ≡ true → Answers (findOf summary curve level (length out)) out (Refused BadSummary) out

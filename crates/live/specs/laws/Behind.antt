@@ -11,7 +11,7 @@ use Rattle.refusal.specs.Outcome.{Outcome, result, refused}
 use Rattle.recording.specs.laws.Outcome.{result-none}
 use Rattle.copying.specs.Put.{put}
 use Rattle.copying.specs.laws.Put.{length-part, length-put, part-behind}
-use Rattle.live_state.specs.State.{liveBytes, runAt, headOf, readCount, heldCount, runBytes, runStands}
+use Rattle.live_state.specs.State.{liveBytes, runAt, headOf, readCount, heldCount, runIn, runStands}
 use Rattle.live_state.specs.laws.State.{is-state, stands-few}
 use Rattle.live.specs.History.{Step, add, save, restore, badName}
 use Rattle.live.specs.Call.{keptWith, addLines, holding, addOf, saveOf, restoreOf, stepOf, stateAfter, Behind}
@@ -38,26 +38,26 @@ module _ (s : List ℕ) where
   saved-behind : (name : ℕ) (t : List ℕ) → saveOf s name ≡ result t → Behind s t
   unfolding saveOf
   saved-behind name t e =
-      let r = result-none _ (put (runAt name) (runBytes s 0) s) t e in
+      let r = result-none _ (put (runAt name) (runIn s 0) s) t e in
       let st = is-state s (r .0 .0) in
       let g = good-name name (r .0 .1 .0) in
       let f = st .few .held in
       let w = st .long in
       let l = length-part (runAt 0) (16 + 16 * heldCount s 0) s (omega arith) in
       let m = g .1 in
-      subst (Behind s) (r .1) (put-inside (runAt name) (runBytes s 0) s (st .long) (omega arith))
+      subst (Behind s) (r .1) (put-inside (runAt name) (runIn s 0) s (st .long) (omega arith))
 
   restored-behind : (name : ℕ) (t : List ℕ) → restoreOf s name ≡ result t → Behind s t
   unfolding restoreOf
   restored-behind name t e =
-      let r = result-none _ (put (runAt 0) (runBytes s name) s) t e in
+      let r = result-none _ (put (runAt 0) (runIn s name) s) t e in
       let st = is-state s (r .0 .0) in
       let g = good-name name (none-left (badName name) (not (runStands s name)) (r .0 .1 .0)) in
       let f = stands-few s name (not-false (runStands s name) (none-right (badName name) (not (runStands s name)) (r .0 .1 .0))) .held in
       let w = st .long in
       let m = g .1 in
       let l = length-part (runAt name) (16 + 16 * heldCount s name) s (omega arith) in
-      subst (Behind s) (r .1) (put-inside (runAt 0) (runBytes s name) s (st .long) (omega arith))
+      subst (Behind s) (r .1) (put-inside (runAt 0) (runIn s name) s (st .long) (omega arith))
 
   -- EVERY STEP, of any bytes
   pub step-behind : (t : Step) → Behind s (stateAfter (stepOf s t) s)

@@ -6,7 +6,7 @@ use Rattle.refusal.specs.Outcome.{result, refused, judged}
 use Rattle.recording.specs.R2.{r2}
 use Rattle.recording.specs.Recording.{reading, fieldsOf, fields, lawful}
 use Rattle.marks.specs.Marks.{marksOf}
-use Rattle.live.specs.History.{begun, Step, add, save, restore, outcome, answers, afterAll}
+use Rattle.live.specs.History.{begun, Step, add, save, restore, outcome, stepAnswers, afterAll}
 
 -- a moment on the empty run, three readings, a moment, one more; back to three, where the time of the discarded one may come again; back to none
 abbrev pub steps : List Step
@@ -34,7 +34,7 @@ steps =
 
 -- 3 at the index in the run, 3, behind three readings; 18 for a moment that is not set and for a name over 8; 1; and 3 at the index 4 behind the four of moment 3,
 -- which was set after moment 2 and stayed
-pub steps-answered : answers (begun []) steps
+pub steps-answered : stepAnswers (begun []) steps
     ≡ result 0 ∷ result 0 ∷ result 0 ∷ result 0 ∷ result 0 ∷ result 0 ∷ result 0 ∷ result 0
     ∷ refused 3 3 ∷ result 0 ∷ result 0 ∷ result 0 ∷ refused 18 0 ∷ refused 18 0 ∷ refused 1 0 ∷ result 0 ∷ result 0 ∷ refused 3 4 ∷ result 0 ∷ []
 unfolding outcome judged marksOf reading signed offsetBinary fieldsOf fields lawful

@@ -17,7 +17,7 @@ use Rattle.reply.specs.laws.Place.{plain-place}
 use Rattle.reply.specs.laws.Unpacked.{Numbered}
 use Rattle.copying.specs.Put.{put}
 use Rattle.live_state.specs.Limits.{mostHeld}
-use Rattle.live_state.specs.State.{liveBytes, runAt, readCount, heldCount, heldIn, runBytes, runStands, noState, started}
+use Rattle.live_state.specs.State.{liveBytes, runAt, readCount, heldCount, heldIn, runIn, runStands, noState, started}
 use Rattle.live_state.specs.laws.State.{is-state}
 use Rattle.live.specs.History.{Step, add, save, restore, badName, told}
 use Rattle.live.specs.Call.{keptWith, growLines, addLines, holding, addOf, saveOf, restoreOf, startOf, heldOf, stepOf}
@@ -58,7 +58,7 @@ save-in-half s name = go (saveOf s name) refl
   where
     go : (o : Outcome (List ℕ)) → saveOf s name ≡ o → InHalf (told o)
     go (result r) e = omega arith
-    go (refused n p) e = let z = plain-place _ (put (runAt name) (runBytes s 0) s) n p (refl, (refl, tt)) e in omega arith
+    go (refused n p) e = let z = plain-place _ (put (runAt name) (runIn s 0) s) n p (refl, (refl, tt)) e in omega arith
 
 pub restore-in-half : (s : List ℕ) (name : ℕ) → InHalf (told (restoreOf s name))
 unfolding restoreOf
@@ -66,7 +66,7 @@ restore-in-half s name = go (restoreOf s name) refl
   where
     go : (o : Outcome (List ℕ)) → restoreOf s name ≡ o → InHalf (told o)
     go (result r) e = omega arith
-    go (refused n p) e = let z = plain-place _ (put (runAt 0) (runBytes s name) s) n p (refl, (refl, tt)) e in omega arith
+    go (refused n p) e = let z = plain-place _ (put (runAt 0) (runIn s name) s) n p (refl, (refl, tt)) e in omega arith
 
 pub start-in-half : (marks s : List ℕ) → InHalf (told (startOf marks s))
 unfolding startOf
@@ -115,9 +115,9 @@ pub step-numbered : (s : List ℕ) (t : Step) → Numbered (told (stepOf s t))
 unfolding addOf saveOf restoreOf AllNumbered
 step-numbered s (add x) =
     judged-numbered (addLines s x) (holding s (keptWith s x)) (omega arith, (omega arith, (omega arith, (omega arith, (omega arith, (omega arith, tt))))))
-step-numbered s (save name) = judged-numbered (line 11 (noState s) ∷ line 18 (badName name) ∷ []) (put (runAt name) (runBytes s 0) s) (omega arith, (omega arith, tt))
+step-numbered s (save name) = judged-numbered (line 11 (noState s) ∷ line 18 (badName name) ∷ []) (put (runAt name) (runIn s 0) s) (omega arith, (omega arith, tt))
 step-numbered s (restore name) =
-    judged-numbered (line 11 (noState s) ∷ line 18 (badName name || not (runStands s name)) ∷ []) (put (runAt 0) (runBytes s name) s) (omega arith, (omega arith, tt))
+    judged-numbered (line 11 (noState s) ∷ line 18 (badName name || not (runStands s name)) ∷ []) (put (runAt 0) (runIn s name) s) (omega arith, (omega arith, tt))
 
 pub start-numbered : (marks s : List ℕ) → Numbered (told (startOf marks s))
 unfolding startOf AllNumbered

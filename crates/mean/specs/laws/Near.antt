@@ -6,10 +6,9 @@ use Prim.Native.Nat.{ℕ, suc, _+_, _*_, _≤_, _<_}
 use native.Mathlib.Nat.{zero-lt-suc, lt-irrefl, add-zero, mul-one, one-mul, mul-pos, mul-le-mul-left, mul-le-mul-right, le-of-mul-le-mul-right}
 use native.Mathlib.Omega.{arith}
 use native.Mathlib.Numerals.{add-one, one-add}
-use lib.Dec.{lit≤, lit<}
 use lib.ListN.{length}
-use lib.IntN.{pos, negsuc}
-use lib.Ieee.{Float, nan, inf, fin, binary64, up, down, round, add, div, ofInt}
+use lib.IntN.{pos}
+use lib.Ieee.{Float, nan, inf, fin, binary64, up, down, round, add, ofInt}
 use Rattle.ratio.specs.Apart.{apart}
 use Rattle.ratio.specs.Degree.{one, degreeOf}
 use Rattle.ratio.specs.laws.Degree.{int-exact}
@@ -79,7 +78,7 @@ step i s q d h I w =
         let l : n * (1 + d) ≤ e * i * (1 + d) = mul-le-mul-right (1 + d) h in
         omega arith
 
-shift : (i n : ℕ) → suc i + n ≡ i + suc n
+pub shift : (i n : ℕ) → suc i + n ≡ i + suc n
 shift i n = omega arith
 
 -- the sums of a list, after i others

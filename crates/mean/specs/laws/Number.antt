@@ -1,11 +1,11 @@
 -- The running sum and the last mean are numbers, so that their bits are fixed.
-use mathlib.Core.Path.{_≡_, refl, sym, ap, subst, _∙_}
-use mathlib.Core.Bool.{Bool, true, false, not, true≢false, cond, _&&_, Bool·beq}
+use mathlib.Core.Path.{_≡_, sym, subst}
+use mathlib.Core.Bool.{Bool, true, false, cond, _&&_, Bool·beq}
 use mathlib.Core.List.{List, [], _∷_}
-use Prim.Native.Nat.{ℕ, suc, _+_, _-_, _*_, _^_, _≤_, _<_}
+use Prim.Native.Nat.{ℕ, suc, _+_, _-_, _*_, _≤_, _<_}
 use native.Mathlib.Nat.{mul-pos}
 use native.Mathlib.Omega.{arith}
-use lib.Dec.{T, eqb, ltb}
+use lib.Dec.{eqb, ltb}
 use lib.ListN.{length}
 use lib.IntN.{pos}
 use lib.Ieee.{Float, nan, inf, fin, binary64, up, down, round, sum, add, div, ofInt, isNan, unlike, fits}
@@ -14,7 +14,7 @@ use lib.Ieee.Exact.{HasValue}
 use borrow.Author.Tests.{ne-eqb}
 use Rattle.ratio.specs.Degree.{degreeOf}
 use Rattle.ratio.specs.laws.Degree.{int-exact, round-number}
-use Rattle.mean.specs.Mean.{over, AtMost}
+use Rattle.mean.specs.Mean.{AtMost}
 use Rattle.mean.specs.inner.Running.{start, next, runFrom, running, Number, Numbers, Fitting}
 use Rattle.mean.specs.laws.Near.{degree-close}
 use Rattle.mean.specs.laws.Fractions.{first-some}

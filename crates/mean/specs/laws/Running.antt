@@ -3,7 +3,6 @@ use mathlib.Core.Path.{_≡_, refl, sym, ap, _∙_, subst}
 use mathlib.Core.List.{List, [], _∷_}
 use Prim.Native.Nat.{ℕ, suc, _+_, _≤_, _<_}
 use native.Mathlib.Nat.{lt-irrefl, add-zero}
-use native.Mathlib.Omega.{arith}
 use native.Mathlib.Numerals.{one-add}
 use mathlib.Core.Bool.{false}
 use lib.Dec.{lit≤, lit<}
@@ -13,11 +12,8 @@ use lib.Ieee.{Float, fin, add, div, ofInt, round}
 use Rattle.ratio.specs.Degree.{one, degreeOf}
 use Rattle.mean.specs.Mean.{sumFrom, sumOf, over, meanOf, exactMean, WithinBillionth, AtMost}
 use Rattle.mean.specs.inner.Running.{start, next, runFrom, running}
-use Rattle.mean.specs.laws.Near.{mean-near}
+use Rattle.mean.specs.laws.Near.{shift, mean-near}
 use Rattle.mean.specs.declared.Mean.{Mean}
-
-shift : (i n : ℕ) → suc i + n ≡ i + suc n
-shift i n = omega arith
 
 -- after some batches the report holds their sum and its mean
 run-is : (ds : List ℕ) (m : Mean) (n : ℕ) → m .mean ≡ over (m .sum) n

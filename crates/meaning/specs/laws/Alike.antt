@@ -16,9 +16,9 @@ use Rattle.recording.specs.Reading.{Reading, Curve, A, B, value, top, Event, a-
 use Rattle.grammar.specs.Syntax.{Listed, high, low, lowafter, capafter, peaks, dips, cross, crossup, dose, ampl, gaps, steps, lag, Text, atom, listed, or, and, neg, finally, globally, next, until, weakUntil}
 use Rattle.meaning.specs.Listed.{recordAt, SomeRecord, EachRecord, TimeOf, timeOf, After, between, Says}
 use Rattle.meaning.specs.Meaning.{readingAt, AtomSays, Holds}
-use Rattle.meaning.specs.Overfull.{children, Node, itself, below, Overfull, TooManyTops}
+use Rattle.meaning.specs.Overfull.{children, Node, itself, of-child, Overfull, TooManyTops}
 use Rattle.grammar.specs.Size.{temporal, afterTime, afterTimes}
-use Rattle.meaning.specs.Alike.{markIndex, Plain, times, Alike, Same}
+use Rattle.meaning.specs.Alike.{markIndex, Plain, pickedTimes, Alike, Same}
 use Rattle.meaning.specs.inner.Truth.{somePair, someStep}
 use Rattle.number.specs.laws.Boolean.{then, back, either, both, so-and, none-left, or-right, off}
 use Rattle.meaning.specs.laws.Whole.{le-test, lt-test, lt-index, stands-whole}
@@ -53,34 +53,34 @@ module _ (r : List Reading) (z : ℤ) where
   unfolding is-apart
   apart-at i j = so-decided (ℤ-discrete (between r i j) z)
 
-  pub of-times : (ρ : Condition Reading) → So (someOf (is-time z) (times ρ r)) ↔ TimeOf ρ r z
+  pub of-times : (ρ : Condition Reading) → So (someOf (is-time z) (pickedTimes ρ r)) ↔ TimeOf ρ r z
   of-times ρ = (
     λ h. let f = key-find nothing ρ (λ x. x .time) (is-time z) [] r h in (f .0, f .1, time-at (f .0) .0 (f .2)),
     λ f. key-at nothing ρ (λ x. x .time) (is-time z) [] r (f .0) (f .1) (time-at (f .0) .1 (f .2)),
   )
 
-  pub of-gaps : (c : Curve) → So (somePair (is-apart z) (times (top c) r)) ↔ Says (gaps c) r z
+  pub of-gaps : (c : Curve) → So (somePair (is-apart z) (pickedTimes (top c) r)) ↔ Says (gaps c) r z
   unfolding Says
   of-gaps c = (
     λ h. let f = pair-find nothing (top c) (λ x. x .time) (is-apart z) [] r h in (f .0, f .1, f .2, f .3, f .4, apart-at (f .0) (f .1) .0 (f .5)),
     λ f. pair-at nothing (top c) (λ x. x .time) (is-apart z) [] r (f .0) (f .1) (f .2) (f .3) (f .4) (apart-at (f .0) (f .1) .1 (f .5)),
   )
 
-  pub of-steps : (c : Curve) → So (someStep (is-apart z) (times (top c) r)) ↔ Says (steps c) r z
+  pub of-steps : (c : Curve) → So (someStep (is-apart z) (pickedTimes (top c) r)) ↔ Says (steps c) r z
   unfolding Says
   of-steps c = (
     λ h. let f = step-find nothing (top c) (λ x. x .time) (is-apart z) [] r h in (f .0, f .1, (f .2, f .5), f .3, f .4, apart-at (f .0) (f .1) .0 (f .6)),
     λ f. step-at nothing (top c) (λ x. x .time) (is-apart z) [] r (f .0) (f .1) (f .2 .0) (f .3) (f .4) (f .2 .1) (apart-at (f .0) (f .1) .1 (f .5)),
   )
 
-  pub of-lag : So (someOf (λ t. someOf (is-apart z t) (times (top B) r)) (times (top A) r)) ↔ Says lag r z
+  pub of-lag : So (someOf (λ t. someOf (is-apart z t) (pickedTimes (top B) r)) (pickedTimes (top A) r)) ↔ Says lag r z
   unfolding Says
   of-lag = (
     λ h.
-        let f = key-find nothing (top A) (λ x. x .time) (λ t. someOf (is-apart z t) (times (top B) r)) [] r h in
+        let f = key-find nothing (top A) (λ x. x .time) (λ t. someOf (is-apart z t) (pickedTimes (top B) r)) [] r h in
         let g = key-find nothing (top B) (λ x. x .time) (is-apart z (recordAt r (f .0) .time)) [] r (f .2) in
         (f .0, g .0, f .1, g .1, apart-at (f .0) (g .0) .0 (g .2)),
-    λ f. key-at nothing (top A) (λ x. x .time) (λ t. someOf (is-apart z t) (times (top B) r)) [] r (f .0) (f .2)
+    λ f. key-at nothing (top A) (λ x. x .time) (λ t. someOf (is-apart z t) (pickedTimes (top B) r)) [] r (f .0) (f .2)
         (key-at nothing (top B) (λ x. x .time) (is-apart z (recordAt r (f .0) .time)) [] r (f .1) (f .3) (apart-at (f .0) (f .1) .1 (f .4))),
   )
 
@@ -97,8 +97,8 @@ module _ {marks : List ℕ} {r s : List Reading} (l : Alike marks r s) where
   capped k c z r s found cap i h a = ltZ-no (not-T (ltZ z (value c (recordAt s i))) (λ t.
       let f = found (i, h, (a, record { lt = t })) in clashℤ (f .2 .1) (cap (f .0) (f .1) (f .2 .0))))
 
-  times-alike : (ρ : Condition Reading) → times ρ r ≡ times ρ s → (z : ℤ) → TimeOf ρ r z ↔ TimeOf ρ s z
-  times-alike ρ e z = through (someOf (is-time z) (times ρ r)) (someOf (is-time z) (times ρ s)) (ap (someOf (is-time z)) e) (of-times r z ρ) (of-times s z ρ)
+  times-alike : (ρ : Condition Reading) → pickedTimes ρ r ≡ pickedTimes ρ s → (z : ℤ) → TimeOf ρ r z ↔ TimeOf ρ s z
+  times-alike ρ e z = through (someOf (is-time z) (pickedTimes ρ r)) (someOf (is-time z) (pickedTimes ρ s)) (ap (someOf (is-time z)) e) (of-times r z ρ) (of-times s z ρ)
 
   event-alike : (e : Event) (z : ℤ) → TimeOf (event e) r z ↔ TimeOf (event e) s z
   event-alike e = times-alike (event e) (l .events e)
@@ -120,13 +120,13 @@ module _ {marks : List ℕ} {r s : List Reading} (l : Alike marks r s) where
     λ h. (h .0, l .down c (h .0) .0 (h .1), l .up c (h .0 +ℤ z) .0 (h .2)),
     λ h. (h .0, l .down c (h .0) .1 (h .1), l .up c (h .0 +ℤ z) .1 (h .2)),
   )
-  says-alike (gaps c) m z = through (somePair (is-apart z) (times (top c) r)) (somePair (is-apart z) (times (top c) s))
+  says-alike (gaps c) m z = through (somePair (is-apart z) (pickedTimes (top c) r)) (somePair (is-apart z) (pickedTimes (top c) s))
       (ap (somePair (is-apart z)) (l .events (a-top c))) (of-gaps r z c) (of-gaps s z c)
-  says-alike (steps c) m z = through (someStep (is-apart z) (times (top c) r)) (someStep (is-apart z) (times (top c) s))
+  says-alike (steps c) m z = through (someStep (is-apart z) (pickedTimes (top c) r)) (someStep (is-apart z) (pickedTimes (top c) s))
       (ap (someStep (is-apart z)) (l .events (a-top c))) (of-steps r z c) (of-steps s z c)
   says-alike lag m z =
       let a = l .events (a-top A) in let b = l .events (a-top B) in
-      through (someOf (λ t. someOf (is-apart z t) (times (top B) r)) (times (top A) r)) (someOf (λ t. someOf (is-apart z t) (times (top B) s)) (times (top A) s))
+      through (someOf (λ t. someOf (is-apart z t) (pickedTimes (top B) r)) (pickedTimes (top A) r)) (someOf (λ t. someOf (is-apart z t) (pickedTimes (top B) s)) (pickedTimes (top A) s))
       (λ i. someOf (λ t. someOf (is-apart z t) (b i)) (a i)) (of-lag r z) (of-lag s z)
 
 -- ---- the nodes of a plain text
@@ -174,7 +174,7 @@ plain-child {marks} {p} {c} m h = record {
 
 pub plain-node : {marks : List ℕ} {q p : Text} → Node q p → Plain marks p → Plain marks q
 plain-node itself h = h
-plain-node (below m n) h = plain-node n (plain-child m h)
+plain-node (of-child m n) h = plain-node n (plain-child m h)
 
 -- ---- texts
 

@@ -1,7 +1,7 @@
 -- What the greatest and the least of some numbers answer: whether one of them reaches n, and whether all stay below it.
 use Prim.Native.Nat.{ℕ, _+_}
 use native.Mathlib.Omega.{arith}
-use mathlib.Core.Path.{_≡_, refl, ap, _∙_}
+use mathlib.Core.Path.{_≡_, ap, _∙_}
 use mathlib.Core.Bool.{Bool, true, _&&_, _||_, not, false≢true}
 use mathlib.Core.List.{List, [], _∷_}
 use lib.Dec.{leb, eqb}
@@ -15,10 +15,6 @@ module _ {X : Type 0} where
   pub some-imp : (P Q : X → Bool) (r : List X) → ((x : X) → P x ≡ true → Q x ≡ true) → someOf P r ≡ true → someOf Q r ≡ true
   some-imp P Q [] h e = e
   some-imp P Q (x ∷ r) h e = or-cases (P x) (someOf P r) e (λ k. or-left (Q x) _ (h x k)) (λ k. or-right (Q x) _ (some-imp P Q r h k))
-
-  pub all-imp : (P Q : X → Bool) (r : List X) → ((x : X) → P x ≡ true → Q x ≡ true) → allOf P r ≡ true → allOf Q r ≡ true
-  all-imp P Q [] h e = refl
-  all-imp P Q (x ∷ r) h e = and-make (Q x) _ (h x (and-left (P x) _ e)) (all-imp P Q r h (and-right (P x) _ e))
 
   -- one has P, and all have Q: what follows
   pub some-all : {C : Type 0} (P Q : X → Bool) (r : List X) → someOf P r ≡ true → allOf Q r ≡ true → ((x : X) → P x ≡ true → Q x ≡ true → C) → C

@@ -19,12 +19,11 @@ use Rattle.recording.specs.laws.Turn.{Exclusive, exclusive-swap, oneOf, turn-is
 use Rattle.grammar.specs.Syntax.{of, T, ge, le, gt, eq, v, number, Atom, compare, A-to-B, fall, rise, pigment, Listed, dose, Text, atom, listed, or, and, neg, finally, globally, next, until}
 use Rattle.meaning.specs.Meaning.{Holds}
 use Rattle.meaning.specs.Overfull.{Overfull}
-use Rattle.grammar.specs.Size.{temporal}
 use Rattle.meaning.specs.inner.Recorded.{Increasing, Recorded}
 use Rattle.meaning.specs.Formulas.{Formula, of-high, of-low, of-lowafter, of-capafter, of-peaks, of-cross, of-dips, of-crossup, of-dose}
 use Rattle.meaning.specs.inner.Coded.{Coded, code, blank, codedValue, codedSlope, codedFalls, codedRises, codedCrossed, codedAdds, codedAfter, codedAdditions}
 use Rattle.meaning.specs.inner.Truth.{allOf, among, truth, lastCoded, codedAt, atomVal, finallyFrom, globallyFrom, untilFrom, val, runsAt, largeAt, someNode, overAt, someBelow, refused8}
-use Rattle.number.specs.laws.Boolean.{same, then, back, or-left, or-cases, or-none, none-left, and-right}
+use Rattle.number.specs.laws.Boolean.{same, then, back, or-left, or-cases, or-none, none-left, and-right, and-true}
 use Rattle.meaning.specs.laws.Run.{starts, run-count, starts-ext, runs-ext, Convex, Up, Down, up-convex, down-convex, const-convex, const-up, and-convex, point-convex, or-up, and-up, or-down, ray-up, ray-down, convex-few, more-starts}
 use Rattle.meaning.specs.laws.Truth.{val-holds}
 use Rattle.meaning.specs.laws.Overfull.{eight-overfull, below-find, below-at, below-none}
@@ -68,10 +67,6 @@ until-same f g f′ g′ h k (suc d) i = let a = h i in let b = k i in let c = u
 or-off : (e f : Bool) → f ≡ false → (e || f) ≡ e
 or-off true f h = refl
 or-off false f h = h
-
-and-true : (e : Bool) → e ≡ (e && true)
-and-true true = refl
-and-true false = refl
 
 module _ (P : Coded → Bool) where
   some-list : (x : Coded) (r : List Coded) → finallyFrom (λ i. P (codedAt (x ∷ r) i)) (length r) 0 ≡ someOf P (x ∷ r)

@@ -16,7 +16,7 @@ use Rattle.meaning.specs.Ranges.{Run, just, InRuns, Maximal}
 use Rattle.meaning.specs.inner.Recorded.{InRange}
 use Rattle.meaning.specs.inner.Coded.{code, index}
 use Rattle.meaning.specs.inner.Truth.{among, val}
-use Rattle.number.specs.laws.Boolean.{same, then, back, either, both, so-or, so-and, and-left, and-right, and-make}
+use Rattle.number.specs.laws.Boolean.{same, then, back, either, both, so-or, so-and, and-left, and-right, and-make, and-true}
 use Rattle.meaning.specs.laws.Whole.{Stands, stands-whole, le-index}
 use Rattle.meaning.specs.laws.Truth.{val-holds}
 use Rattle.meaning.specs.laws.Pick.{Each}
@@ -65,10 +65,6 @@ up-to n m = ap (λ (e : Bool). e && leb n m) (sym (le-leb 0 n (omega arith))) �
 
 pub from-on : (n m : ℕ) → n < axis → leb m n ≡ ((leb m n && leb n 4000000000) || false)
 from-on n m h = and-true (leb m n) ∙ ap (λ (e : Bool). leb m n && e) (sym (le-leb n 4000000000 (omega arith))) ∙ alone (leb m n && leb n 4000000000)
-  where
-    and-true : (e : Bool) → e ≡ (e && true)
-    and-true true = refl
-    and-true false = refl
 
 one : (n t : ℕ) → eqb n t ≡ (leb t n && leb n t)
 one n t = same _ _

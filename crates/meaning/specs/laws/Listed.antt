@@ -68,12 +68,12 @@ crossed-code x s = same _ _
     (λ h. le-index (x .a) (x .b) (code x .a) (code x .b) (s A) (s B) .1 (le-test (x .a) (x .b) .0 h))
 
 -- the index of the time
-abbrev pub stamp : Reading → ℕ
-stamp x = x .time + origin
+abbrev pub timeIndex : Reading → ℕ
+timeIndex x = x .time + origin
 
 times-code : (ρ : Condition Reading) (σ : Condition Coded) (r : List Reading) → AllSettled r
     → ((b : List Reading) (x : Reading) (a : List Reading) → AllSettled b → Settled x → σ (map code b) (code x) (map code a) ≡ ρ b x a)
-    → timesOf σ (map code r) ≡ keysOf stamp ρ [] r
+    → timesOf σ (map code r) ≡ keysOf timeIndex ρ [] r
 times-code ρ σ r s turned =
     ap (map (λ (x : Coded). x .time)) (pick-map Settled code ρ σ turned [] r tt s) ∙ map-map code (λ x. x .time) (pickFrom ρ [] r)
 
@@ -89,16 +89,16 @@ to-code (a-dip c) x s = rises-code c x
 to-code a-crossing x s = crossed-code x s
 to-code an-upcrossing x s = ap not (crossed-code x s)
 
-pub event-code : (e : Event) (r : List Reading) → AllSettled r → codedTimes e (map code r) ≡ keysOf stamp (event e) [] r
+pub event-code : (e : Event) (r : List Reading) → AllSettled r → codedTimes e (map code r) ≡ keysOf timeIndex (event e) [] r
 event-code e r s =
     times-code (turn (turnsFrom e) (turnsTo e)) (turn (codedFrom e) (codedTo e)) r s (turn-map Settled code (turnsFrom e) (turnsTo e) (codedFrom e) (codedTo e) (from-code e) (to-code e))
-    ∙ ap (λ (ρ : Condition Reading). keysOf stamp ρ [] r) (sym (event-turn e))
+    ∙ ap (λ (ρ : Condition Reading). keysOf timeIndex ρ [] r) (sym (event-turn e))
 
 pub adds-code : (k : ℕ) (x : Reading) → codedAdds k (code x) ≡ adds k x
 adds-code zero x = refl
 adds-code (suc k) x = refl
 
-pub additions-code : (k : ℕ) (r : List Reading) → AllSettled r → codedAdditions k (map code r) ≡ keysOf stamp (added k) [] r
+pub additions-code : (k : ℕ) (r : List Reading) → AllSettled r → codedAdditions k (map code r) ≡ keysOf timeIndex (added k) [] r
 additions-code k r s = times-code (added k) (λ b x a. codedAdds k x) r s (λ b x a u h. adds-code k x)
 
 -- ---- some record, each record
@@ -126,7 +126,7 @@ module _ (P : Coded → Bool) (Q : Reading → Type 0) where
 
 -- T > k
 after-code : (k : ℕ) (x : Reading) → So (codedAfter k (code x)) ↔ After k x
-after-code k x = lt-index (whole k) (timeOf x) k (stamp x) (stands-whole k) (stands-time x)
+after-code k x = lt-index (whole k) (timeOf x) k (timeIndex x) (stands-whole k) (stands-time x)
 
 rewritten : {B : Type 0} (e f : Bool) → e ≡ f → So f ↔ B → So e ↔ B
 rewritten e f h k = (λ p. k .0 (sym h ∙ p), λ b. h ∙ k .1 b)
@@ -170,46 +170,46 @@ module _ (r : List Reading) (s : AllSettled r) (z : ℤ) (n : ℕ) (is : Stands 
       )
 
   -- v is the time of a record of which the condition holds
-  of-times : (ρ : Condition Reading) (l : List ℕ) → l ≡ keysOf stamp ρ [] r → So (among n l) ↔ TimeOf ρ r z
-  of-times ρ l e = rewritten (among n l) (among n (keysOf stamp ρ [] r)) (ap (among n) e) (
-    λ h. let f = key-find nothing ρ stamp (eqb n) [] r h in (f .0, f .1, sym (at (f .0) .0 (f .2))),
-    λ f. key-at nothing ρ stamp (eqb n) [] r (f .0) (f .1) (at (f .0) .1 (sym (f .2))),
+  of-times : (ρ : Condition Reading) (l : List ℕ) → l ≡ keysOf timeIndex ρ [] r → So (among n l) ↔ TimeOf ρ r z
+  of-times ρ l e = rewritten (among n l) (among n (keysOf timeIndex ρ [] r)) (ap (among n) e) (
+    λ h. let f = key-find nothing ρ timeIndex (eqb n) [] r h in (f .0, f .1, sym (at (f .0) .0 (f .2))),
+    λ f. key-at nothing ρ timeIndex (eqb n) [] r (f .0) (f .1) (at (f .0) .1 (sym (f .2))),
   )
     where
-      at : (i : ℕ) → So (eqb n (stamp (recordAt r i))) ↔ (z ≡ timeOf (recordAt r i))
-      at i = eq-index z (timeOf (recordAt r i)) n (stamp (recordAt r i)) is (stands-time (recordAt r i))
+      at : (i : ℕ) → So (eqb n (timeIndex (recordAt r i))) ↔ (z ≡ timeOf (recordAt r i))
+      at i = eq-index z (timeOf (recordAt r i)) n (timeIndex (recordAt r i)) is (stands-time (recordAt r i))
 
   of-event : (e : Event) → So (among n (codedTimes e (map code r))) ↔ TimeOf (event e) r z
   of-event e = of-times (event e) (codedTimes e (map code r)) (event-code e r s)
 
-  between-index : (i j : ℕ) → So (apart n (stamp (recordAt r i)) (stamp (recordAt r j))) ↔ (between r i j ≡ z)
-  between-index i j = apart-index (timeOf (recordAt r i)) (timeOf (recordAt r j)) z (stamp (recordAt r i)) (stamp (recordAt r j)) n
+  between-index : (i j : ℕ) → So (apart n (timeIndex (recordAt r i)) (timeIndex (recordAt r j))) ↔ (between r i j ≡ z)
+  between-index i j = apart-index (timeOf (recordAt r i)) (timeOf (recordAt r j)) z (timeIndex (recordAt r i)) (timeIndex (recordAt r j)) n
       (stands-time (recordAt r i)) (stands-time (recordAt r j)) is
 
   of-gaps : (c : Curve) → So (truth (gaps c) (map code r) n) ↔ Says (gaps c) r z
   unfolding truth Says
-  of-gaps c = rewritten _ (somePair (apart n) (keysOf stamp (top c) [] r)) (ap (somePair (apart n)) (event-code (a-top c) r s)) (
-    λ h. let f = pair-find nothing (top c) stamp (apart n) [] r h in (f .0, f .1, f .2, f .3, f .4, between-index (f .0) (f .1) .0 (f .5)),
-    λ f. pair-at nothing (top c) stamp (apart n) [] r (f .0) (f .1) (f .2) (f .3) (f .4) (between-index (f .0) (f .1) .1 (f .5)),
+  of-gaps c = rewritten _ (somePair (apart n) (keysOf timeIndex (top c) [] r)) (ap (somePair (apart n)) (event-code (a-top c) r s)) (
+    λ h. let f = pair-find nothing (top c) timeIndex (apart n) [] r h in (f .0, f .1, f .2, f .3, f .4, between-index (f .0) (f .1) .0 (f .5)),
+    λ f. pair-at nothing (top c) timeIndex (apart n) [] r (f .0) (f .1) (f .2) (f .3) (f .4) (between-index (f .0) (f .1) .1 (f .5)),
   )
 
   of-steps : (c : Curve) → So (truth (steps c) (map code r) n) ↔ Says (steps c) r z
   unfolding truth Says
-  of-steps c = rewritten _ (someStep (apart n) (keysOf stamp (top c) [] r)) (ap (someStep (apart n)) (event-code (a-top c) r s)) (
-    λ h. let f = step-find nothing (top c) stamp (apart n) [] r h in (f .0, f .1, (f .2, f .5), f .3, f .4, between-index (f .0) (f .1) .0 (f .6)),
-    λ f. step-at nothing (top c) stamp (apart n) [] r (f .0) (f .1) (f .2 .0) (f .3) (f .4) (f .2 .1) (between-index (f .0) (f .1) .1 (f .5)),
+  of-steps c = rewritten _ (someStep (apart n) (keysOf timeIndex (top c) [] r)) (ap (someStep (apart n)) (event-code (a-top c) r s)) (
+    λ h. let f = step-find nothing (top c) timeIndex (apart n) [] r h in (f .0, f .1, (f .2, f .5), f .3, f .4, between-index (f .0) (f .1) .0 (f .6)),
+    λ f. step-at nothing (top c) timeIndex (apart n) [] r (f .0) (f .1) (f .2 .0) (f .3) (f .4) (f .2 .1) (between-index (f .0) (f .1) .1 (f .5)),
   )
 
   of-lag : So (truth lag (map code r) n) ↔ Says lag r z
   unfolding truth Says
-  of-lag = rewritten _ (someOf (λ t. someOf (apart n t) (keysOf stamp (top B) [] r)) (keysOf stamp (top A) [] r))
+  of-lag = rewritten _ (someOf (λ t. someOf (apart n t) (keysOf timeIndex (top B) [] r)) (keysOf timeIndex (top A) [] r))
       (λ i. someOf (λ t. someOf (apart n t) (event-code (a-top B) r s i)) (event-code (a-top A) r s i)) (
         λ h.
-            let f = key-find nothing (top A) stamp (λ t. someOf (apart n t) (keysOf stamp (top B) [] r)) [] r h in
-            let g = key-find nothing (top B) stamp (apart n (stamp (recordAt r (f .0)))) [] r (f .2) in
+            let f = key-find nothing (top A) timeIndex (λ t. someOf (apart n t) (keysOf timeIndex (top B) [] r)) [] r h in
+            let g = key-find nothing (top B) timeIndex (apart n (timeIndex (recordAt r (f .0)))) [] r (f .2) in
             (f .0, g .0, f .1, g .1, between-index (f .0) (g .0) .0 (g .2)),
-        λ f. key-at nothing (top A) stamp (λ t. someOf (apart n t) (keysOf stamp (top B) [] r)) [] r (f .0) (f .2)
-            (key-at nothing (top B) stamp (apart n (stamp (recordAt r (f .0)))) [] r (f .1) (f .3) (between-index (f .0) (f .1) .1 (f .4))),
+        λ f. key-at nothing (top A) timeIndex (λ t. someOf (apart n t) (keysOf timeIndex (top B) [] r)) [] r (f .0) (f .2)
+            (key-at nothing (top B) timeIndex (apart n (timeIndex (recordAt r (f .0)))) [] r (f .1) (f .3) (between-index (f .0) (f .1) .1 (f .4))),
       )
 
   -- THE BOOL IS TRUE EXACTLY WHERE THE WORDING HOLDS

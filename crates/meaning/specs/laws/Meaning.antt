@@ -1,21 +1,15 @@
--- Document 01: the value of a node from its children at this and the next record, and at the last record; of the meaning, and of `val`.
-use Prim.Native.Nat.{ℕ, suc, _-_, _<_, min}
+-- Document 01: the meaning of a node from its children at this and the next record, and at the last record.
+use Prim.Native.Nat.{ℕ, suc}
 use native.Mathlib.Omega.{arith}
 use native.Mathlib.Nat.{le-refl}
-use mathlib.Core.Path.{_≡_, ap}
-use mathlib.Core.Bool.{_&&_, _||_}
 use mathlib.Core.Logic.{_⊎_, _↔_}
 use mathlib.Core.List.{List}
 use lib.IntN.{ℤ}
 use Rattle.recording.specs.Reading.{Reading}
 use Rattle.grammar.specs.Syntax.{Text, or, finally, globally, next, until, weakUntil}
 use Rattle.meaning.specs.Meaning.{lastOf, Holds}
-use Rattle.meaning.specs.inner.Coded.{Coded}
-use Rattle.meaning.specs.inner.Truth.{lastCoded, finallyFrom, globallyFrom, untilFrom, weakFrom, val}
 use Rattle.meaning.specs.laws.Step.{finally-step, globally-step, until-step, weakUntil-step, finally-last, globally-last, until-last, weakUntil-last}
 use Rattle.meaning.specs.laws.Truth.{still}
-
--- ---- the meaning
 
 module _ (r : List Reading) (z : ℤ) (p q : Text) where
   -- X at the last record is the last again
@@ -64,54 +58,3 @@ module _ (r : List Reading) (z : ℤ) (p q : Text) where
   pub W-is : (i : ℕ) → Holds r z (weakUntil p q) i ↔ Holds r z (or (globally p) (until p q)) i
   unfolding Holds
   W-is i = (λ h. h, λ h. h)
-
--- ---- the value
-
-module _ (r : List Coded) (n : ℕ) (p q : Text) where
-  module _ (i : ℕ) (last : i ≡ lastCoded r) where
-    none : lastCoded r - i ≡ 0
-    none = omega arith
-
-    pub val-finally-last : val r n (finally p) i ≡ val r n p i
-    unfolding val
-    val-finally-last = ap (λ (d : ℕ). finallyFrom (val r n p) d i) none
-
-    pub val-globally-last : val r n (globally p) i ≡ val r n p i
-    unfolding val
-    val-globally-last = ap (λ (d : ℕ). globallyFrom (val r n p) d i) none
-
-    pub val-next-last : val r n (next p) i ≡ val r n p i
-    unfolding val
-    val-next-last = let e : min (suc i) (lastCoded r) ≡ i = omega arith in ap (val r n p) e
-
-    pub val-until-last : val r n (until p q) i ≡ val r n q i
-    unfolding val
-    val-until-last = ap (λ (d : ℕ). untilFrom (val r n p) (val r n q) d i) none
-
-    pub val-weakUntil-last : val r n (weakUntil p q) i ≡ (val r n p i || val r n q i)
-    unfolding val
-    val-weakUntil-last = ap (λ (d : ℕ). weakFrom (val r n p) (val r n q) d i) none
-
-  module _ (i : ℕ) (sooner : i < lastCoded r) where
-    more : lastCoded r - i ≡ suc (lastCoded r - suc i)
-    more = omega arith
-
-    pub val-finally-step : val r n (finally p) i ≡ (val r n p i || val r n (finally p) (suc i))
-    unfolding val
-    val-finally-step = ap (λ (d : ℕ). finallyFrom (val r n p) d i) more
-
-    pub val-globally-step : val r n (globally p) i ≡ (val r n p i && val r n (globally p) (suc i))
-    unfolding val
-    val-globally-step = ap (λ (d : ℕ). globallyFrom (val r n p) d i) more
-
-    pub val-next-step : val r n (next p) i ≡ val r n p (suc i)
-    unfolding val
-    val-next-step = let e : min (suc i) (lastCoded r) ≡ suc i = omega arith in ap (val r n p) e
-
-    pub val-until-step : val r n (until p q) i ≡ (val r n q i || (val r n p i && val r n (until p q) (suc i)))
-    unfolding val
-    val-until-step = ap (λ (d : ℕ). untilFrom (val r n p) (val r n q) d i) more
-
-    pub val-weakUntil-step : val r n (weakUntil p q) i ≡ (val r n q i || (val r n p i && val r n (weakUntil p q) (suc i)))
-    unfolding val
-    val-weakUntil-step = ap (λ (d : ℕ). weakFrom (val r n p) (val r n q) d i) more

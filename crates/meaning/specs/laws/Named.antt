@@ -1,5 +1,5 @@
 -- A text looks at the times and at what it names: it means the same of two recordings that agree in these.
-use Prim.Native.Nat.{ℕ, zero, suc, _-_, _<_, min}
+use Prim.Native.Nat.{ℕ, zero, suc, _-_, min}
 use native.Mathlib.Omega.{arith}
 use mathlib.Core.Path.{_≡_, refl, sym, ap, ap₂, _∙_, subst}
 use mathlib.Core.Bool.{Bool, true, false, _&&_, _||_, not, cond, So}
@@ -11,27 +11,27 @@ use lib.IntN.{ℤ, pos, _+ℤ_}
 use lib.Signed.{leZ, _≤ℤ_, _<ℤ_}
 use Rattle.number.specs.Axis.{whole}
 use Rattle.recording.specs.Condition.{Condition, when, pickFrom, pick, someOf}
-use Rattle.recording.specs.Reading.{Reading, Curve, A, B, value, slope, falls, rises, adds, crossed, edge, lastOfThose, turn, top, Event, a-top, a-dip, a-crossing, an-upcrossing, event, added, nothing}
+use Rattle.recording.specs.Reading.{Reading, Curve, A, B, value, falls, rises, adds, crossed, edge, lastOfThose, turn, top, a-top, a-dip, a-crossing, an-upcrossing, event, added, nothing}
 use Rattle.grammar.specs.Syntax.{of, T, Atom, compare, A-to-B, fall, rise, pigment, Listed, high, low, lowafter, capafter, peaks, dips, cross, crossup, dose, ampl, gaps, steps, lag, Text, atom, listed, or, and, neg, finally, globally, next, until, weakUntil}
 use Rattle.meaning.specs.Listed.{recordAt, SomeRecord, EachRecord, TimeOf, After, Says}
 use Rattle.meaning.specs.Meaning.{lastOf, readingAt, operand, Relates, AtomSays, Finally, Globally, Until, WeakUntil, Holds}
-use Rattle.meaning.specs.Overfull.{children, Node, itself, below, IsSet, Overfull, TooManyTops, Differences, of-gaps, of-steps, of-lag}
-use Rattle.meaning.specs.Alike.{times}
-use Rattle.meaning.specs.Named.{Channel, curve, additions, atomNames, listedNames, nodeNames, Names, SameChannel, Agree, Agreeing, none, more, SameMeaning}
+use Rattle.meaning.specs.Overfull.{children, Node, itself, of-child, IsSet, Overfull, TooManyTops, Differences, of-gaps, of-steps, of-lag}
+use Rattle.meaning.specs.Alike.{pickedTimes}
+use Rattle.meaning.specs.Named.{Channel, curve, additions, atomNames, listedNames, Names, SameChannel, Agree, Agreeing, agree-none, agree-more, SameMeaning}
 use Rattle.meaning.specs.inner.Truth.{somePair, someStep}
 use Rattle.number.specs.laws.Boolean.{then, back, either, both}
 use Rattle.meaning.specs.laws.Alike as alike
 
 -- a map of readings that changes none of these channels
 pub map-agreeing : (N : Channel → Type 0) (f : Reading → Reading) → ((x : Reading) → Agree N x (f x)) → (r : List Reading) → Agreeing N r (map f r)
-map-agreeing N f h [] = none
-map-agreeing N f h (x ∷ r) = more (h x) (map-agreeing N f h r)
+map-agreeing N f h [] = agree-none
+map-agreeing N f h (x ∷ r) = agree-more (h x) (map-agreeing N f h r)
 
 -- ---- the nodes of a text name what it names
 
 pub node-of : {x q p : Text} → Node x q → Node q p → Node x p
 node-of n itself = n
-node-of n (below m k) = below m (node-of n k)
+node-of n (of-child m k) = of-child m (node-of n k)
 
 -- the channels N are among them what the text names
 abbrev pub Covers : (Channel → Type 0) → Text → Type 0
@@ -42,10 +42,10 @@ covers-node m h n k = h n (k .0, node-of (k .1) m, k .2)
 
 -- the first child, and the second
 covers-first : {N : Channel → Type 0} {p c : Text} {cs : List Text} → children p ≡ c ∷ cs → Covers N p → Covers N c
-covers-first {c = c} e h = covers-node (below (subst (List·Memᴰ c) (sym e) (List·Memᴰ·head refl)) itself) h
+covers-first {c = c} e h = covers-node (of-child (subst (List·Memᴰ c) (sym e) (List·Memᴰ·head refl)) itself) h
 
 covers-second : {N : Channel → Type 0} {p c d : Text} {cs : List Text} → children p ≡ d ∷ (c ∷ cs) → Covers N p → Covers N c
-covers-second {c = c} e h = covers-node (below (subst (List·Memᴰ c) (sym e) (List·Memᴰ·tail (List·Memᴰ·head refl))) itself) h
+covers-second {c = c} e h = covers-node (of-child (subst (List·Memᴰ c) (sym e) (List·Memᴰ·tail (List·Memᴰ·head refl))) itself) h
 
 -- the condition takes place alike where these channels agree
 abbrev pub Blind : (Channel → Type 0) → Condition Reading → Type 0
@@ -102,17 +102,17 @@ module _ {N : Channel → Type 0} where
 
   module _ (P : Reading → Bool) (p : (x y : Reading) → Agree N x y → P x ≡ P y) where
     edge-blind : Blind N (edge P)
-    edge-blind b b′ x x′ a a′ none h k = refl
-    edge-blind b b′ x x′ a a′ (more {x = y} {y = y′} g bs) h k = ap₂ (λ (e f : Bool). e && not f) (p x x′ h) (p y y′ g)
+    edge-blind b b′ x x′ a a′ agree-none h k = refl
+    edge-blind b b′ x x′ a a′ (agree-more {x = y} {y = y′} g bs) h k = ap₂ (λ (e f : Bool). e && not f) (p x x′ h) (p y y′ g)
 
     module _ (Q : Reading → Bool) (q : (x y : Reading) → Agree N x y → Q x ≡ Q y) where
       last-blind : {b b′ : List Reading} → Agreeing N b b′ → lastOfThose (λ y. P y || Q y) P b ≡ lastOfThose (λ y. P y || Q y) P b′
-      last-blind none = refl
-      last-blind (more {x = y} {y = y′} g bs) = λ i. cond (p y y′ g i || q y y′ g i) (p y y′ g i) (last-blind bs i)
+      last-blind agree-none = refl
+      last-blind (agree-more {x = y} {y = y′} g bs) = λ i. cond (p y y′ g i || q y y′ g i) (p y y′ g i) (last-blind bs i)
 
       turn-blind : Blind N (turn P Q)
-      turn-blind b b′ x x′ a a′ none h k = refl
-      turn-blind b b′ x x′ a a′ (more {x = y} {y = y′} g bs) h k = λ i. q x x′ h i && (not (q y y′ g i) && last-blind (more g bs) i)
+      turn-blind b b′ x x′ a a′ agree-none h k = refl
+      turn-blind b b′ x x′ a a′ (agree-more {x = y} {y = y′} g bs) h k = λ i. q x x′ h i && (not (q y y′ g i) && last-blind (agree-more g bs) i)
 
   pub top-blind : (c : Curve) → N (curve c) → Blind N (top c)
   top-blind c n = turn-blind (rises c) (λ x y h. same-rises h c n) (falls c) (λ x y h. same-falls h c n)
@@ -132,10 +132,10 @@ module _ {N : Channel → Type 0} where
   -- they pick records at the same times
   times-from : (ρ : Condition Reading) → Blind N ρ → {b b′ r s : List Reading} → Agreeing N b b′ → Agreeing N r s
       → map (λ (x : Reading). x .time) (pickFrom ρ b r) ≡ map (λ (x : Reading). x .time) (pickFrom ρ b′ s)
-  times-from ρ h b none = refl
-  times-from ρ h {b} {b′} ab (more {x} {y} {r} {s} e rs) =
+  times-from ρ h b agree-none = refl
+  times-from ρ h {b} {b′} ab (agree-more {x} {y} {r} {s} e rs) =
       ap (λ (k : Bool). map (λ (y : Reading). y .time) (when k x (pickFrom ρ (x ∷ b) r))) (h b b′ x y r s ab e rs)
-      ∙ go (ρ b′ y s) (times-from ρ h (more e ab) rs)
+      ∙ go (ρ b′ y s) (times-from ρ h (agree-more e ab) rs)
     where
       go : (k : Bool) → map (λ (y : Reading). y .time) (pickFrom ρ (x ∷ b) r) ≡ map (λ (y : Reading). y .time) (pickFrom ρ (y ∷ b′) s)
           → map (λ (y : Reading). y .time) (when k x (pickFrom ρ (x ∷ b) r)) ≡ map (λ (y : Reading). y .time) (when k y (pickFrom ρ (y ∷ b′) s))
@@ -145,13 +145,13 @@ module _ {N : Channel → Type 0} where
   -- ---- recordings that agree
 
   pub length-agreeing : {r s : List Reading} → Agreeing N r s → length r ≡ length s
-  length-agreeing none = refl
-  length-agreeing (more e rs) = ap suc (length-agreeing rs)
+  length-agreeing agree-none = refl
+  length-agreeing (agree-more e rs) = ap suc (length-agreeing rs)
 
   record-agreeing : {r s : List Reading} → Agreeing N r s → (i : ℕ) → Agree N (recordAt r i) (recordAt s i)
-  record-agreeing none i = agree-itself nothing
-  record-agreeing (more e rs) zero = e
-  record-agreeing (more e rs) (suc i) = record-agreeing rs i
+  record-agreeing agree-none i = agree-itself nothing
+  record-agreeing (agree-more e rs) zero = e
+  record-agreeing (agree-more e rs) (suc i) = record-agreeing rs i
 
   module _ {r s : List Reading} (rs : Agreeing N r s) where
     reading-agreeing : (i : ℕ) → Agree N (readingAt r i) (readingAt s i)
@@ -171,8 +171,8 @@ module _ {N : Channel → Type 0} where
           let l = length-agreeing rs in
           (λ f i h. is _ _ (record-agreeing rs i) .0 (f i (omega arith)), λ f i h. is _ _ (record-agreeing rs i) .1 (f i (omega arith)))
 
-    pub same-times : (ρ : Condition Reading) → Blind N ρ → times ρ r ≡ times ρ s
-    same-times ρ h = times-from ρ h none rs
+    pub same-times : (ρ : Condition Reading) → Blind N ρ → pickedTimes ρ r ≡ pickedTimes ρ s
+    same-times ρ h = times-from ρ h agree-none rs
 
     -- ---- listed questions
 

@@ -12,14 +12,14 @@ use Rattle.runs.specs.Runs.{runCount, mostRuns}
 use Rattle.recording.specs.Condition.{pick}
 use Rattle.recording.specs.Reading.{Reading, Curve, A, B, top, a-top}
 use Rattle.grammar.specs.Syntax.{Listed, high, low, lowafter, capafter, peaks, dips, cross, crossup, dose, ampl, gaps, steps, lag, Text, atom, listed, or, and, neg, finally, globally, next, until, weakUntil}
-use Rattle.meaning.specs.Overfull.{children, Node, itself, below, IsSet, Overfull, Differences, of-gaps, of-steps, of-lag, TooManyTops}
+use Rattle.meaning.specs.Overfull.{children, Node, itself, of-child, IsSet, Overfull, Differences, of-gaps, of-steps, of-lag, TooManyTops}
 use Rattle.grammar.specs.Size.{temporal}
 use Rattle.tops.specs.Tops.{mostTops}
 use Rattle.meaning.specs.inner.Recorded.{InRange}
 use Rattle.meaning.specs.inner.Coded.{code, codedTimes}
 use Rattle.meaning.specs.inner.Truth.{val, someNode, runsAt, largeAt, overAt, someBelow, refused8, manyTops, asksTooMany, ofListed, refused9}
 use Rattle.number.specs.laws.Boolean.{same, or-left, or-right, or-cases, or-none}
-use Rattle.meaning.specs.laws.Listed.{all-settled, stamp, event-code}
+use Rattle.meaning.specs.laws.Listed.{all-settled, timeIndex, event-code}
 use Rattle.meaning.specs.laws.Truth.{val-holds}
 use Rattle.meaning.specs.laws.Run.{runs-ext}
 
@@ -62,14 +62,14 @@ module _ (G : Text → Bool) where
 
   node-some : (q p : Text) → Node q p → So (G q) → So (someNode G p)
   node-some q p (itself {p = t}) h = from-itself t h
-  node-some q p (below {p = t} {c = c} m n) h = from-child t c m (node-some q c n h)
+  node-some q p (of-child {p = t} {c = c} m n) h = from-child t c m (node-some q c n h)
 
   Found : Text → Type 0
   Found p = (q : Text) × Node q p × So (G q)
 
   lower : (p c : Text) → List·Memᴰ c (children p) → Found c → Found p
   unfolding Found
-  lower p c m f = (f .0, below m (f .1), f .2)
+  lower p c m f = (f .0, of-child m (f .1), f .2)
 
   some-find : (p : Text) → So (someNode G p) → Found p
   unfolding someNode Found
@@ -157,7 +157,7 @@ module _ (r : List Reading) (h : InRange r) where
 
 module _ (r : List Reading) (h : InRange r) where
   tops-count : (c : Curve) → length (codedTimes (a-top c) (map code r)) ≡ length (pick (top c) r)
-  tops-count c = ap length (event-code (a-top c) r (all-settled r h)) ∙ length-map (pick (top c) r) stamp
+  tops-count c = ap length (event-code (a-top c) r (all-settled r h)) ∙ length-map (pick (top c) r) timeIndex
 
   many-tops : (c : Curve) → So (manyTops c (map code r)) ↔ (mostTops < length (pick (top c) r))
   many-tops c = (

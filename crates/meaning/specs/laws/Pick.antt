@@ -4,11 +4,12 @@ use native.Mathlib.Omega.{arith}
 use native.Mathlib.Nat.{le-of-suc-le-suc, not-suc-le-zero}
 use mathlib.Core.Path.{_≡_, refl, ap, _∙_}
 use mathlib.Core.Bool.{Bool, true, false, _&&_, _||_, not, cond, false≢true}
-use mathlib.Core.List.{List, [], _∷_, map, reverseAux}
-use lib.ListN.{length, getD, take, drop}
+use mathlib.Core.List.{List, [], _∷_, map}
+use lib.ListN.{length, getD}
 use Rattle.recording.specs.Condition.{Condition, when, pickFrom, someOf}
 use Rattle.recording.specs.Reading.{lastOfThose, turn}
 use Rattle.recording.specs.laws.Turn.{oneOf}
+use Rattle.tops.specs.laws.Pick.{holdsFrom}
 use Rattle.meaning.specs.inner.Truth.{allOf, somePair, someStep}
 use Rattle.number.specs.laws.Boolean.{or-left, or-right, or-cases, and-left, and-right, and-make, clash}
 
@@ -36,12 +37,9 @@ module _ {X : Type 0} where
 
   -- ---- picked records
 
-  -- the condition at place i of r, before which stand the records b
-  abbrev pub placed : X → Condition X → List X → List X → ℕ → Bool
-  placed d ρ b r i = ρ (reverseAux (take i r) b) (getD r i d) (drop (suc i) r)
-
+  -- record i of r, before which stand the records b, is picked
   abbrev pub Picked : X → Condition X → List X → List X → ℕ → Type 0
-  Picked d ρ b r i = (i < length r) × (placed d ρ b r i ≡ true)
+  Picked d ρ b r i = (i < length r) × (holdsFrom d ρ b r i ≡ true)
 
   -- the numbers that f gives of the picked records
   abbrev pub keysOf : (X → ℕ) → Condition X → List X → List X → List ℕ

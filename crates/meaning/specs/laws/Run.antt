@@ -11,7 +11,8 @@ use lib.ListN.{length, length-append}
 use borrow.Author.Tests.{eqb-true, eq-eqb, ne-eqb, le-ltb, leb-true, le-leb}
 use Rattle.number.specs.Axis.{axis}
 use Rattle.runs.specs.Runs.{startsAt, below, runCount, mostRuns}
-use Rattle.number.specs.laws.Boolean.{and-left, and-right, and-make, or-left, or-right, or-cases}
+use Rattle.number.specs.laws.Boolean.{and-left, and-right, and-make, or-left, or-right, or-cases, and-true}
+use Rattle.number.specs.laws.Order.{one-at-most}
 
 -- how many runs of f start below n
 unfoldable pub starts : (ℕ → Bool) → ℕ → ℕ
@@ -100,11 +101,7 @@ Counted f n = ((starts f n ≡ 0) × ((a : ℕ) → a < n → f a ≡ false)) �
 -- a run starts at n where nothing below is in
 start-first : (f : ℕ → Bool) (n : ℕ) → ((a : ℕ) → a < n → f a ≡ false) → startsAt f n ≡ f n
 start-first f zero h = refl
-start-first f (suc n) h = ap (λ (e : Bool). f (suc n) && not e) (h n (omega arith)) ∙ and-true (f (suc n))
-  where
-    and-true : (e : Bool) → (e && true) ≡ e
-    and-true true = refl
-    and-true false = refl
+start-first f (suc n) h = ap (λ (e : Bool). f (suc n) && not e) (h n (omega arith)) ∙ sym (and-true (f (suc n)))
 
 module _ (f : ℕ → Bool) (convex : Convex f) where
   counted : (n : ℕ) → Counted f n
@@ -145,10 +142,6 @@ with t f n = eqb n t || f n
 
 one-at : ℕ → ℕ → ℕ
 one-at n t = cond (eqb n (suc t)) 1 0
-
-at-most : (e : Bool) → cond e 1 0 ≤ 1
-at-most true = omega arith
-at-most false = omega arith
 
 module _ (f : ℕ → Bool) (t : ℕ) (low : (n : ℕ) → f n ≡ true → t < n) where
   none-low : (n : ℕ) → n ≤ t → f n ≡ false
@@ -206,7 +199,7 @@ module _ (f : ℕ → Bool) (t : ℕ) (low : (n : ℕ) → f n ≡ true → t < 
           rw (start-low n (omega arith), start-on n e) (omega (arith, i, o))
       by i (no l) (no d) (yes e) =
           let o : one-at n t ≡ 1 = ap (λ (k : ℕ). one-at k t) e ∙ one-on in
-          omega (arith, i, o, one-off (suc n) (λ q. omega arith), at-most (startsAt f n))
+          omega (arith, i, o, one-off (suc n) (λ q. omega arith), one-at-most (startsAt f n))
       by i (no l) (no d) (no e) =
           rw (start-off n (omega arith)) (omega (arith, i, one-off (suc n) (λ q. omega arith)))
 

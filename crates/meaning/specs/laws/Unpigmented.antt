@@ -1,5 +1,5 @@
 -- A text that writes neither `P` nor `dose` means the same of a recording whose pigments are taken away.
-use mathlib.Core.Path.{_≡_, refl}
+use mathlib.Core.Path.{refl}
 use mathlib.Core.List.{List, map}
 use Rattle.recording.specs.Reading.{Reading, A, B}
 use Rattle.grammar.specs.Syntax.{Text}

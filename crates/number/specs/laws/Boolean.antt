@@ -58,6 +58,14 @@ pub and-make : (e f : Bool) → e ≡ true → f ≡ true → (e && f) ≡ true
 and-make true f h k = k
 and-make false f h k = h
 
+pub or-pass : (e f : Bool) → e ≡ false → (e || f) ≡ f
+or-pass true f h = absurd (true≢false h)
+or-pass false f h = refl
+
+pub and-true : (e : Bool) → e ≡ (e && true)
+and-true true = refl
+and-true false = refl
+
 -- an implication as a test
 pub imp-or : (e f : Bool) → (e ≡ true → f ≡ true) → (not e || f) ≡ true
 imp-or true f h = h refl
@@ -70,6 +78,20 @@ or-imp false f h k = absurd (true≢false (sym k))
 pub not-make : (e : Bool) → (e ≡ true → ⊥) → not e ≡ true
 not-make true h = absurd (h refl)
 not-make false h = refl
+
+-- ---- as types
+
+pub T-of : (e : Bool) → e ≡ true → T e
+T-of true h = tt
+T-of false h = absurd (true≢false (sym h))
+
+pub T-is : (e : Bool) → T e → e ≡ true
+T-is true t = refl
+T-is false t = absurd t
+
+pub T-not : (e : Bool) → e ≡ false → T (not e)
+T-not true h = absurd (true≢false h)
+T-not false h = tt
 
 -- ---- as equivalences
 

@@ -1,11 +1,18 @@
 -- Which of two numbers is less, and tests that pass together.
 use Prim.Native.Nat.{ℕ, _≤_, _<_}
 use mathlib.Core.Path.{_≡_, refl, sym, ap, _∙_}
-use mathlib.Core.Bool.{Bool, true, false, not}
+use mathlib.Core.Bool.{Bool, true, false, not, cond}
 use mathlib.Core.Logic.{_⊎_, inl, inr, ⊎-elim}
 use native.Mathlib.Omega.{arith}
 use lib.Dec.{leb, ltb}
 use borrow.Author.Tests.{lt-ltb, le-ltb, le-leb, lt-leb, ltb-true, ltb-false}
+
+pub positive : (n : ℕ) → (n ≡ 0 → ⊥) → 0 < n
+positive n h = omega arith
+
+pub one-at-most : (e : Bool) → cond e 1 0 ≤ 1
+one-at-most true = omega arith
+one-at-most false = omega arith
 
 pub less-or-not : (x y : ℕ) → (x < y) ⊎ (y ≤ x)
 less-or-not x y = by (ltb x y) refl

@@ -1,5 +1,5 @@
 -- The digits of a number: how many there are.
-use Prim.Native.Nat.{ℕ, zero, suc, _+_, _-_, _/_, _^_, _≤_, _<_}
+use Prim.Native.Nat.{ℕ, zero, suc, _-_, _/_, _^_, _≤_, _<_}
 use mathlib.Core.Path.{_≡_, refl, sym, ap, _∙_}
 use mathlib.Core.Bool.{false≢true}
 use mathlib.Core.List.{[], _∷_, _++_}
@@ -14,7 +14,7 @@ use Rattle.number.specs.Least.{least}
 use Rattle.number.specs.laws.Least.{least-is, least-first}
 use Rattle.number.specs.laws.Order.{less-or-not}
 use Rattle.number.specs.Words.{offsetBinary, signed}
-use Rattle.page.specs.Decimal.{places, decimal, signedDecimal}
+use Rattle.page.specs.Decimal.{places, inDecimal, signedDecimal}
 
 pub digits-length : (k n : ℕ) → length (digits 10 k n) ≡ k
 digits-length zero n = refl
@@ -52,13 +52,13 @@ fewest-places n (suc j) f = ap suc (by n (f .1) (λ h. f .2 (omega arith)))
         small zero z g = ⊎-elim (λ q. omega arith) (λ q. absurd (omega (arith, low zero g q, below-power j))) (less-or-not j 1)
         small (suc n) z g = absurd (omega arith)
 
-pub decimal-is : (n k : ℕ) → Fewest 10 1 n k → digits 10 k n ≡ decimal n
-unfolding decimal
+pub decimal-is : (n k : ℕ) → Fewest 10 1 n k → digits 10 k n ≡ inDecimal n
+unfolding inDecimal
 decimal-is n k f = ap (λ (j : ℕ). digits 10 j n) (fewest-places n k f)
 
 -- a number below a power of ten
-pub decimal-fits : (n k : ℕ) → n < 10 ^ suc k → length (decimal n) ≤ suc k
-unfolding decimal places
+pub decimal-fits : (n k : ℕ) → n < 10 ^ suc k → length (inDecimal n) ≤ suc k
+unfolding inDecimal places
 decimal-fits n k h =
     ⊎-elim (λ g. absurd (false≢true (sym (least-first (λ i. ltb n (10 ^ suc i)) n k g) ∙ lt-ltb n (10 ^ suc k) h)))
     (λ g. omega (arith, digits-length (suc (least (λ i. ltb n (10 ^ suc i)) n)) n))
@@ -71,15 +71,15 @@ abbrev pub middle : ℕ
 middle = 2147483648
 
 module _ (w t : ℕ) (is : t ≡ offsetBinary w) where
-  pub signed-below : t < middle → signedDecimal (signed w) ≡ (45 ∷ []) ++ decimal (middle - t)
+  pub signed-below : t < middle → signedDecimal (signed w) ≡ (45 ∷ []) ++ inDecimal (middle - t)
   unfolding signedDecimal signed
   signed-below h =
       let e : suc (middle - suc (offsetBinary w)) ≡ middle - t = omega arith in
-      rw (lt-ltb (offsetBinary w) middle (omega arith)) (ap (λ (n : ℕ). 45 ∷ decimal n) e)
+      rw (lt-ltb (offsetBinary w) middle (omega arith)) (ap (λ (n : ℕ). 45 ∷ inDecimal n) e)
 
-  pub signed-above : middle ≤ t → signedDecimal (signed w) ≡ decimal (t - middle)
+  pub signed-above : middle ≤ t → signedDecimal (signed w) ≡ inDecimal (t - middle)
   unfolding signedDecimal signed
-  signed-above h = rw (le-ltb (offsetBinary w) middle (omega arith)) (ap (λ (k : ℕ). decimal (k - middle)) (sym is))
+  signed-above h = rw (le-ltb (offsetBinary w) middle (omega arith)) (ap (λ (k : ℕ). inDecimal (k - middle)) (sym is))
 
 offset-binary-small : (w : ℕ) → offsetBinary w < 4294967296
 unfolding offsetBinary

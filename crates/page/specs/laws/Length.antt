@@ -1,7 +1,7 @@
 -- Inputs past their limits: the refusal that their true length fixes.
 use Prim.Native.Nat.{ℕ, _+_, _*_, _/_, _%_, _<_}
-use mathlib.Core.Path.{_≡_, refl, sym, ap, _∙_}
-use mathlib.Core.Bool.{Bool, true, false, cond, not, _||_}
+use mathlib.Core.Path.{_≡_, sym, ap, _∙_}
+use mathlib.Core.Bool.{Bool, true, cond, not}
 use mathlib.Core.List.{List, [], _∷_, _++_}
 use mathlib.Core.Logic.{⊎-elim}
 use native.Mathlib.Omega.{arith}
@@ -15,6 +15,7 @@ use Rattle.recording.specs.Recording.{mostRecords, recordingLines, noRecord}
 use Rattle.recording.specs.Output.{outputLine}
 use Rattle.recording.specs.laws.Outcome.{judged-first, judged-skip}
 use Rattle.number.specs.laws.Order.{less-or-not}
+use Rattle.number.specs.laws.Boolean.{or-right}
 use Rattle.runs.specs.Runs.{setBytes}
 use Rattle.grammar.specs.inner.Parse.{parsed}
 use Rattle.grammar.specs.Size.{mostBytes}
@@ -57,10 +58,6 @@ long-alike a b text room h g e = by (ℕ-discrete (length a % 16) 0)
     by (no n) = partial-refused a text room n ∙ sym (partial-refused b text room (λ z. n (e ∙ z)))
 
 -- ---- texts
-
-or-right : (a b : Bool) → b ≡ true → (a || b) ≡ true
-or-right true b e = refl
-or-right false b e = e
 
 too-long : (s : List ℕ) → mostBytes < length s → badLength s ≡ true
 too-long s h = or-right (eqb (length s) 0) (ltb mostBytes (length s)) (lt-ltb mostBytes (length s) h)

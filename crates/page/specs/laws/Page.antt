@@ -10,7 +10,7 @@ use lib.ListN.{length, length-append}
 use Rattle.number.specs.laws.Order.{less-or-not}
 use Rattle.number.specs.Words.{word, signed}
 use Rattle.refusal.specs.Outcome.{result, refused}
-use Rattle.page.specs.Decimal.{decimal, signedDecimal}
+use Rattle.page.specs.Decimal.{inDecimal, signedDecimal}
 use Rattle.page.specs.laws.Decimal.{decimal-fits, signed-fits}
 use Rattle.page.specs.Page.{runLine, runLines, page}
 use Rattle.page.specs.inner.Puts.{Puts}
@@ -23,11 +23,11 @@ pub runLine-length : (l h : ℤ) → length (runLine l h) ≡ length (signedDeci
 unfolding runLine
 runLine-length l h = simp length-append
 
-pub set-length : (set : List ℕ) → length (page (result set)) ≡ 5 + length (decimal (length set / 8)) + 1 + length (runLines (length set / 8) set)
+pub set-length : (set : List ℕ) → length (page (result set)) ≡ 5 + length (inDecimal (length set / 8)) + 1 + length (runLines (length set / 8) set)
 unfolding page
 set-length set = simp length-append (omega arith)
 
-pub refusal-length : (n p : ℕ) → length (page (refused n p)) ≡ 8 + length (decimal n) + 1 + length (decimal p) + 1
+pub refusal-length : (n p : ℕ) → length (page (refused n p)) ≡ 8 + length (inDecimal n) + 1 + length (inDecimal p) + 1
 unfolding page
 refusal-length n p = simp length-append (omega arith)
 
@@ -47,7 +47,7 @@ lines-fit (suc k) set = omega (arith, next-length k set, lines-fit k set, line-f
 
 pub set-fits : (set : List ℕ) → length set ≤ setRoom → length (page (result set)) ≤ pageSize
 set-fits set h =
-    let d : length (decimal (length set / 8)) ≤ 10 = decimal-fits (length set / 8) 9 (omega arith) in
+    let d : length (inDecimal (length set / 8)) ≤ 10 = decimal-fits (length set / 8) 9 (omega arith) in
     omega (arith, set-length set, lines-fit (length set / 8) set)
 
 -- the lines up to a run are no longer than all

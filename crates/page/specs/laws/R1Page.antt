@@ -1,5 +1,5 @@
 -- Document 01: R1 and `peaks(A)` print three lines, from the definitions alone.
-use Prim.Native.Nat.{ℕ, _+_, _*_, _<_}
+use Prim.Native.Nat.{ℕ, _*_, _<_}
 use native.Mathlib.Omega.{arith}
 use mathlib.Core.Path.{_≡_, refl, sym, ap, _∙_}
 use mathlib.Core.Bool.{Bool, true, false, _||_}
@@ -27,7 +27,6 @@ use Rattle.grammar.specs.inner.Lexer.{unsignedAt, numberAt, operandAt, comparis
 use Rattle.grammar.specs.inner.Parse.{parse, parsed}
 use Rattle.grammar.specs.Size.{tooDeep}
 use Rattle.grammar.specs.Syntax.{Text, listed, peaks}
-use Rattle.grammar.specs.Size.{temporal}
 use Rattle.meaning.specs.inner.Coded.{coded}
 use Rattle.meaning.specs.inner.Truth.{val, truth, someNode, refused8, refused9}
 use Rattle.question.specs.Question.{read, answer, askingLines, setLines, questionOf}

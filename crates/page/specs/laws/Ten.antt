@@ -9,10 +9,10 @@ use lib.Dec.{eqb, ltb}
 use lib.ListN.{length, length-map}
 use borrow.Author.Tests.{ltb-true, lt-ltb, eqb-false}
 use Rattle.number.specs.laws.Order.{true-or-false}
-use Rattle.refusal.specs.Outcome.{Outcome, refused, Line, line, judged}
+use Rattle.refusal.specs.Outcome.{refused, Line, line, judged}
 use Rattle.recording.specs.Recording.{records, reading, readings, recordingLines, noRecord}
 use Rattle.recording.specs.Output.{outputLine}
-use Rattle.recording.specs.laws.Outcome.{judged-skip, no-result}
+use Rattle.recording.specs.laws.Outcome.{judged-skip, no-result, same-number}
 use Rattle.runs.specs.Runs.{mostRuns, runCount, setBytes}
 use Rattle.runs.specs.laws.Runs.{setBytes-length}
 use Rattle.grammar.specs.Syntax.{Text}
@@ -29,9 +29,6 @@ use Rattle.page.specs.Printed.{setRoom}
 abbrev Others : ℕ → List Line → Type 0
 Others n [] = Unit {0}
 Others n (l ∷ ls) = (l .number ≡ n → ⊥) × Others n ls
-
-same-number : {R : Type 0} (n p m q : ℕ) → _≡_ {A = Outcome R} (refused n p) (refused m q) → n ≡ m
-same-number n p m q e = cc
 
 no-other : {R : Type 0} (n p : ℕ) (ls : List Line) (r : R) → Others n ls → judged ls r ≡ refused n p → ⊥
 unfolding judged

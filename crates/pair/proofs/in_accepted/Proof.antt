@@ -14,12 +14,12 @@ use Rattle.refusal.specs.declared.Refusal.the-variants.{NoRecord, BadTarget}
 use Rattle.number.specs.laws.Boolean.{or-right}
 use Rattle.recording.specs.Recording.{records, readings}
 use Rattle.recording.specs.laws.Record.{length-records}
-use Rattle.targets.specs.Target.{offAxis, Placed}
+use Rattle.targets.specs.Target.{offAxis, Placed, badTarget}
 use Rattle.targets.specs.laws.Target.{placed-handed}
 use Rattle.targets.specs.declared.OnAxis.the-variants.{Index, Off}
 use Rattle.pair.specs.declared.TopPair.{TopPair}
 use Rattle.pair.specs.declared.TopPair.the-variants as answer
-use Rattle.pair.specs.Pair.{Given, firstPair, badTarget, tooManyTops, acceptedLines, outcomeOf}
+use Rattle.pair.specs.Pair.{Given, firstPair, tooManyTops, acceptedLines, outcomeOf}
 use Rattle.recording.specs.Recording.{noRecord}
 use Rattle.pair.specs.laws.Pair.{answer-first, answer-pass}
 use Rattle.pair.proofs.in_accepted.Statement.{statement}

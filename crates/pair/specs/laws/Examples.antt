@@ -3,7 +3,7 @@ use Prim.Native.Nat.{ℕ}
 use mathlib.Core.Path.{_≡_, refl}
 use mathlib.Core.List.{List, [], _∷_}
 use lib.IntN.{pos, negsuc}
-use Rattle.pair.specs.Pair.{Given, times, none, pairsOf, firstApart}
+use Rattle.pair.specs.Pair.{times, none, pairsOf, firstApart}
 
 abbrev tops : List ℕ
 tops = 10 ∷ 20 ∷ 40 ∷ 50 ∷ []

@@ -2,9 +2,9 @@
 use Prim.Native.Nat.{ℕ, _-_, _≤_, _<_}
 use native.Mathlib.Omega.{arith}
 use native.Mathlib.Nat.{eq-or-lt-of-le}
-use mathlib.Core.Path.{_≡_, refl, sym, ap, ap₂, _∙_, subst}
+use mathlib.Core.Path.{_≡_, sym, ap, ap₂, _∙_, subst}
 use mathlib.Core.Bool.{true}
-use mathlib.Core.Logic.{_⊎_, inl, inr, ⊎-elim}
+use mathlib.Core.Logic.{inl, inr, ⊎-elim}
 use mathlib.Core.List.{List, [], _∷_, _++_}
 use lib.ListN.{length, getD, take, drop, length-map, List·getD-map}
 use lib.Seq.{take-all, take-append-seam, getD-take, length-take-le}
@@ -12,7 +12,6 @@ use lib.IntN.{ℤ, pos, negsuc, subℕ}
 use lib.Signed.{leZ}
 use borrow.Author.Tests.{leb-true}
 use Rattle.number.specs.Axis.{origin, whole}
-use Rattle.number.specs.laws.Order.{less-more-equal}
 use Rattle.refusal.specs.Outcome.{refused, Line, judged, NoneMeets}
 use Rattle.refusal.specs.Numbers.{numberOf, placeOf}
 use Rattle.refusal.specs.declared.Refusal.{Refusal}
@@ -27,7 +26,7 @@ use Rattle.tops.specs.laws.Event.{event-times-ascend}
 use Rattle.tops.specs.laws.Pick.{Ascending, pickedIndex, index-rising, index-found, Found, rankOf, number-rising, number-found, Numbered}
 use Rattle.pair.specs.declared.TopPair.{TopPair}
 use Rattle.pair.specs.declared.TopPair.the-variants as answer
-use Rattle.pair.specs.Pair.{timeAt, Fits, Given, times, none, pairsOf, firstApart, firstPair, OfTops, Foremost, FirstFitting, outcomeOf}
+use Rattle.pair.specs.Pair.{timeAt, Fits, Given, none, firstPair, OfTops, Foremost, FirstFitting, outcomeOf}
 use Rattle.pair.specs.inner.Search.{Rising, Apart, FirstApart}
 use Rattle.pair.specs.laws.Search.{none-apart, first-apart, decide-apart, pos-negsuc}
 

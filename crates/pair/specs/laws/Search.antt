@@ -6,7 +6,6 @@ use mathlib.Core.Path.{_≡_, refl, sym, ap, ap₂, _∙_}
 use mathlib.Core.Bool.{Bool, true, false, cond, true≢false}
 use mathlib.Core.Logic.{_⊎_, inl, inr, ⊎-elim}
 use mathlib.Core.List.{List, [], _∷_, _++_}
-use lib.Dec.{eqb}
 use lib.IntN.{ℤ, pos, negsuc, subℕ}
 use lib.ListN.{length, getD, take}
 use lib.Seq.{getD-take, length-take-le}
@@ -14,7 +13,7 @@ use borrow.Author.Tests.{eqb-true, eq-eqb}
 use borrow.Author.Count.{below-more}
 use Rattle.number.specs.laws.Order.{less-or-not}
 use Rattle.targets.specs.laws.Target.{sub-above, sub-below}
-use Rattle.pair.specs.Pair.{Given, times, none, Two, with, pairsOf, eqZ, firstApart}
+use Rattle.pair.specs.Pair.{times, none, Two, with, pairsOf, eqZ, firstApart}
 use Rattle.pair.specs.inner.Search.{Rising, Apart, Spaced, FirstApart}
 
 pub eqZ-true : (x y : ℤ) → eqZ x y ≡ true → x ≡ y

@@ -9,7 +9,7 @@ use Rattle.parser.specs.declared.Got.the-variants.{Upto, Unread}
 use Rattle.grammar.specs.Syntax.{Text}
 use Rattle.grammar.specs.Size.{mostBytes}
 use Rattle.grammar.specs.inner.Table.{row, rowAt, unaryFrom, binaryFrom, kinds}
-use Rattle.grammar.specs.inner.Parse.{Joiner, Task, more, argument, leafOf, node, Out, got, unread, opened, parse, rank}
+use Rattle.grammar.specs.inner.Parse.{Joiner, Task, more, argument, rowText, node, Out, got, unread, opened, parse, rank}
 
 -- row n is r, and every other row is as before
 pub record Put (before : List ℕ) (n : ℕ) (r : Row) (now : List ℕ) : Type 0 where
@@ -22,7 +22,7 @@ pub record Same (n : ℕ) (before now : List ℕ) : Type 0 where
 
 -- the rows from b up to m hold the tree, the root last
 pub data Laid (table : List ℕ) : ℕ → ℕ → Text → Type 0 where
-  leaf : {b : ℕ} {t : Text} → rowAt table b .kind < unaryFrom → leafOf (rowAt table b) ≡ t → Laid table b (b + 1) t
+  leaf : {b : ℕ} {t : Text} → rowAt table b .kind < unaryFrom → rowText (rowAt table b) ≡ t → Laid table b (b + 1) t
   unary : {b m : ℕ} {p : Text} (k : ℕ) → unaryFrom ≤ k → k < binaryFrom → Laid table b m p → rowAt table m ≡ row k (m - 1) 0 0 → Laid table b (m + 1) (node k p p)
   binary : {b m n : ℕ} {p q : Text} (k : ℕ) → binaryFrom ≤ k → k < kinds → Laid table b m p → Laid table m n q → rowAt table n ≡ row k (m - 1) (n - 1) 0 → Laid table b (n + 1) (node k p q)
 

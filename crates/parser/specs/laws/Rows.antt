@@ -1,13 +1,21 @@
--- How far a call that read something went.
-use mathlib.Core.Path.{_≡_, ap, subst}
+-- How far a call that read something went, and the rows that hold a tree.
+use mathlib.Core.Path.{_≡_, subst}
 use mathlib.Core.List.{List}
 use Prim.Native.Nat.{ℕ, _+_, _≤_, _<_}
+use native.Mathlib.Omega.{arith}
 use lib.ListN.{length}
 use Rattle.parser.specs.declared.Got.{Got}
 use Rattle.parser.specs.declared.Got.the-variants.{Upto}
+use Rattle.grammar.specs.Syntax.{Text}
 use Rattle.grammar.specs.inner.Parse.{Task}
-use Rattle.parser.specs.inner.Rows.{Ahead, Parses}
+use Rattle.parser.specs.inner.Rows.{Laid, leaf, unary, binary, Ahead, Parses}
 
 -- how far an answer reads
 pub ahead-of : {s : List ℕ} {g : Task} {at n e m : ℕ} {T U : List ℕ} {r : Got} → Parses s g at n T U r → r ≡ Upto e m → (at < e) × (e ≤ length s) × (n < m) × (m + at ≤ n + e)
 ahead-of {s} {at = at} {n = n} x p = subst (Ahead (length s) at n) p (x .ahead)
+
+-- a tree has a row
+pub laid-above : {T : List ℕ} {b m : ℕ} {t : Text} → Laid T b m t → b < m
+laid-above (leaf l e) = omega arith
+laid-above (unary k a c h e) = let x = laid-above h in omega arith
+laid-above (binary k a c h g e) = let x = laid-above h in let y = laid-above g in omega arith

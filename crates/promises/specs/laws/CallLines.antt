@@ -23,7 +23,7 @@ use Rattle.recording.specs.Recording.{records, readings, recordingLines, noReco
 use Rattle.recording.specs.Output.{outputLine}
 use Rattle.runs.specs.Runs.{runCount, setBytes}
 use Rattle.runs.specs.laws.Runs.{runCount-ext, setBytes-length}
-use Rattle.targets.specs.Target.{offAxis}
+use Rattle.targets.specs.Target.{offAxis, badTarget}
 use Rattle.tops.specs.Tops.{mostTops}
 use Rattle.grammar.specs.Syntax.{Text}
 use Rattle.grammar.specs.Grammar.{ReadsWhole}
@@ -43,7 +43,7 @@ use Rattle.degree.specs.Degree.{degreeLines, targetLine}
 use Rattle.band.specs.Band.{widest}
 use Rattle.band.specs.Call.{badBand, oneExtreme, widthLine, extremeLine}
 use Rattle.band.specs.laws.Meant.{test-extreme, one-alone}
-use Rattle.pair.specs.Pair.{badTarget, tooManyTops, pairLines}
+use Rattle.pair.specs.Pair.{tooManyTops, pairLines}
 use Rattle.thin.specs.Thin.{keptBytes}
 use Rattle.marks.specs.Marks.{marksOf, mostMarks, latestMark, marksLine}
 use Rattle.sheet.specs.Sheet.{mostLines, noPigment, badSheet}

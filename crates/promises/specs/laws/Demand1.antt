@@ -25,7 +25,7 @@ use Rattle.report.specs.Report.{MeanDegree, noMean, meanDegree, Naming, namingL
 use Rattle.report.specs.inner.Running.{Addition, stopped, last, figuresIn, answerIn}
 use Rattle.report.specs.inner.Running as inner
 use Rattle.report_state.specs.State.{additionIn, addAfter}
-use Rattle.report_state.specs.Call.{meanTold, answerTold, Reports, namedIndex, Starts, Adds}
+use Rattle.report_state.specs.Call.{meanTold, answerTold, ReportTold, namedIndex, Starts, Adds}
 use Rattle.report_state.specs.laws.Start.{named-mapped, start-short, start-ends}
 use Rattle.report_state.specs.laws.Add.{Fine, in-fine}
 use Rattle.reply.specs.laws.Place.{plain-place}
@@ -247,7 +247,7 @@ same-four : (a a′ b b′ c c′ d d′ : ℕ) → a ≡ a′ → b ≡ b′ �
 same-four a a′ b b′ c c′ d d′ p q r s = λ i. p i ∷ q i ∷ r i ∷ s i ∷ []
 
 module _ (b recording : List ℕ) (m e d x r : ℕ) (after : List ℕ) (m′ e′ d′ x′ : ℕ) where
-  handed-as : (a : Addition) → additionIn b recording ≡ a → Fine a b → Reports (answerIn a) m e d x r m′ e′ d′ x′ → after ≡ addAfter a b → HandedIn r (four m e d x) (four m′ e′ d′ x′) b after
+  handed-as : (a : Addition) → additionIn b recording ≡ a → Fine a b → ReportTold (answerIn a) m e d x r m′ e′ d′ x′ → after ≡ addAfter a b → HandedIn r (four m e d x) (four m′ e′ d′ x′) b after
   handed-as inner.none s f w t =
       let z : r ≡ 15 * half + 0 = w .returned in
       record {
@@ -269,7 +269,7 @@ module _ (b recording : List ℕ) (m e d x r : ℕ) (after : List ℕ) (m′ e�
     where
       other : (n : ℕ) → n ≡ 15 → n < 15 → ⊥
       other n e l = omega arith
-  handed-as (inner.taken q) s f w t =
+  handed-as (inner.further q) s f w t =
       let z : numberIn r ≡ 0 = ap numberIn (w .returned) in
       record { in-64-bits = small (w .returned); refusal-writes-no-place = λ k. absurd (k z); refusal-only-ends = λ k. absurd (k z); no-report-stays = λ k. absurd (other (numberIn r) z k) }
     where

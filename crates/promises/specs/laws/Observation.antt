@@ -17,7 +17,7 @@ use Rattle.meaning.specs.Listed.{recordAt}
 use Rattle.meaning.specs.Meaning.{lastOf, readingAt}
 use Rattle.meaning.specs.Alike.{Alike}
 use Rattle.meaning.specs.laws.Alike.{Tested, tested-alike}
-use Rattle.kept.specs.Kept.{less, more, anyTime, after, keptFor}
+use Rattle.kept.specs.Kept.{less, more, anyTime, laterThan, keptFor}
 use Rattle.kept.specs.Selection.{flags, select, Includes}
 use Rattle.kept.specs.laws.Kept.{extremes-kept, extremes-after-kept, same-events, same-additions}
 use Rattle.kept.specs.laws.Seen.{greatest, least, seen}
@@ -62,12 +62,12 @@ module _ (marks : List ℕ) (r : List Reading) (mask : List Bool) (w : Includes 
         (λ x y h k q. ltZ-between z (value c x) (value c y) (not-le (value c y) z k) (le-above (value c x) z h))
         (λ x y h. ltZ-asym (value c y) (value c x) h);
     up-after = λ m e c z.
-        seen marks r mask w (after m) (less c) (λ b x a h. extremes-after-kept marks m e b x a (greatest (after m) c b x a h)) (λ x. ltb m (x .time) && ltZ z (value c x))
+        seen marks r mask w (laterThan m) (less c) (λ b x a h. extremes-after-kept marks m e b x a (greatest (laterThan m) c b x a h)) (λ x. ltb m (x .time) && ltZ z (value c x))
         (λ x h. and-left (ltb m (x .time)) (ltZ z (value c x)) h)
         (λ x y h k q. ltZ-between z (value c y) (value c x) (and-right (ltb m (x .time)) (ltZ z (value c x)) h) (and-off (ltb m (y .time)) (ltZ z (value c y)) k q))
         (λ x y h. ltZ-asym (value c x) (value c y) h);
     down-after = λ m e c z.
-        seen marks r mask w (after m) (more c) (λ b x a h. extremes-after-kept marks m e b x a (least (after m) c b x a h)) (λ x. ltb m (x .time) && leZ (value c x) z)
+        seen marks r mask w (laterThan m) (more c) (λ b x a h. extremes-after-kept marks m e b x a (least (laterThan m) c b x a h)) (λ x. ltb m (x .time) && leZ (value c x) z)
         (λ x h. and-left (ltb m (x .time)) (leZ (value c x) z) h)
         (λ x y h k q. ltZ-between z (value c x) (value c y) (not-le (value c y) z (and-off (ltb m (y .time)) (leZ (value c y) z) k q)) (le-above (value c x) z (and-right (ltb m (x .time)) (leZ (value c x) z) h)))
         (λ x y h. ltZ-asym (value c y) (value c x) h);

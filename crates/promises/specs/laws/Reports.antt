@@ -9,7 +9,7 @@ use lib.ListN.{length, getD}
 use Rattle.number.specs.laws.Order.{less-or-not}
 use Rattle.degree.specs.Degree.{reachOf}
 use Rattle.report.specs.Report.{reportBytes}
-use Rattle.report_state.specs.State.{signature, stateless}
+use Rattle.report_state.specs.State.{reportSignature, stateless}
 use Rattle.report_state.specs.laws.Read.{too-short, other-head}
 use Rattle.report_state.specs.laws.Calls.{start-fold, no-state-fold}
 use Rattle.report_state.specs.laws.Exchanged.{SameReach, exchanged-calls}
@@ -23,7 +23,7 @@ kept-reach text held full k g =
     ⊎-elim (λ e. ap (λ (r : List ℕ). reachOf r text g) e) (λ s. selected-as-full (s .0) full held (s .2) (s .3) .reach text (asked-askable (s .0) text (s .4)) g) k
 
 -- four like bytes are the head of no report
-no-head : (p q r s x : ℕ) → p ≡ x → q ≡ x → r ≡ x → s ≡ x → (x ≡ 0) ⊎ (x ≡ 255) → p + 256 * q + 65536 * r + 16777216 * s ≡ signature → ⊥
+no-head : (p q r s x : ℕ) → p ≡ x → q ≡ x → r ≡ x → s ≡ x → (x ≡ 0) ⊎ (x ≡ 255) → p + 256 * q + 65536 * r + 16777216 * s ≡ reportSignature → ⊥
 no-head p q r s x a b c d h e = ⊎-elim (λ z. omega arith) (λ z. omega arith) h
 
 all-alike : (b : List ℕ) (x : ℕ) → (x ≡ 0) ⊎ (x ≡ 255) → ((i : ℕ) → i < length b → getD b i 0 ≡ x) → stateless b ≡ true

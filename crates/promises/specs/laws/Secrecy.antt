@@ -8,6 +8,7 @@ use lib.Dec.{eqb, ltb}
 use lib.IntN.{ℤ}
 use lib.ListN.{length, length-map}
 use borrow.Author.Tests.{ltb-false, eqb-false}
+use Rattle.targets.specs.Target.{badTarget}
 use Rattle.number.specs.laws.Boolean.{then, back, none-left}
 use Rattle.refusal.specs.Outcome.{Outcome, result, refused, Line, line, judged}
 use Rattle.recording.specs.Condition.{pick}
@@ -26,7 +27,7 @@ use Rattle.meaning.specs.laws.Named.{length-agreeing, same-times, top-blind, ag
 use Rattle.meaning.specs.inner.Coded.{index}
 use Rattle.question.specs.Question.{read, answer, setLines}
 use Rattle.degree.specs.Degree.{Value, met, short, noValue, valueOf, targetLine}
-use Rattle.pair.specs.Pair.{Given, times, none, pairsOf, firstApart, firstPair, badTarget, tooManyTops}
+use Rattle.pair.specs.Pair.{Given, times, none, pairsOf, firstApart, firstPair, tooManyTops}
 use Rattle.marks.specs.Marks.{marksOf}
 use Rattle.lab.specs.Lab.{LaboratoryText, askerLines, curveLine, labAskingLines, labQuestionOf, labDegreeOf, labPairOf}
 use Rattle.lab.specs.laws.Laboratory.{clear-laboratory}

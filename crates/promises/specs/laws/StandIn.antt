@@ -10,6 +10,7 @@ use lib.Dec.{eqb, ltb}
 use lib.IntN.{ℤ}
 use lib.ListN.{length, length-map}
 use borrow.Author.Tests.{eq-eqb, eqb-true}
+use Rattle.targets.specs.Target.{badTarget}
 use Rattle.number.specs.Axis.{whole}
 use Rattle.refusal.specs.Outcome.{refused, Line, line, judged, NoneMeets}
 use Rattle.recording.specs.Condition.{pick}
@@ -41,7 +42,7 @@ use Rattle.band.specs.inner.Ends.{bandsOf}
 use Rattle.band.specs.laws.Same.{text-same}
 use Rattle.leaves.specs.laws.Coding.{length-coded}
 use Rattle.recording.specs.laws.Record.{length-records}
-use Rattle.pair.specs.Pair.{Given, pairsOf, firstApart, firstPair, badTarget, acceptedLines, pairOf}
+use Rattle.pair.specs.Pair.{Given, pairsOf, firstApart, firstPair, acceptedLines, pairOf}
 use Rattle.sheet.specs.Sheet.{sheetOf, badSheet}
 use Rattle.sheet.specs.Finding.{Finding}
 use Rattle.sheet.specs.Call.{sheetLines, orderOf}

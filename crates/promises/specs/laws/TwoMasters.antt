@@ -18,7 +18,7 @@ use Rattle.grammar.specs.Syntax.{high, lowafter, listed}
 use Rattle.grammar.specs.inner.Lexer.{unsignedAt, numberAt, operandAt, comparisonAt, timedAt, argumentsAt, namedAt, headedAt, leafAt}
 use Rattle.grammar.specs.inner.Parse.{parse, parsed}
 use Rattle.meaning.specs.Ranges.{_to_, Lo, Hi}
-use Rattle.meaning.specs.Named.{Channel, SameChannel, Agree, none, more}
+use Rattle.meaning.specs.Named.{Channel, SameChannel, Agree, agree-none, agree-more}
 use Rattle.meaning.specs.inner.Recorded.{InRange}
 use Rattle.meaning.specs.inner.Coded.{Coded, code, codedValue, codedAfter}
 use Rattle.meaning.specs.inner.Truth.{truth, val, someNode, refused9}
@@ -111,7 +111,7 @@ unfolding reading signed offsetBinary
 differ-in-B = record {
   accepted = accepted;
   other-accepted = other-accepted;
-  agree = more (agree 0 11 0 0) (more (agree 10 19 0 0) (more (agree 20 14 4 0) (more (agree 30 15 0 3) (more (agree 40 16 0 0) none))));
+  agree = agree-more (agree 0 11 0 0) (agree-more (agree 10 19 0 0) (agree-more (agree 20 14 4 0) (agree-more (agree 30 15 0 3) (agree-more (agree 40 16 0 0) agree-none))));
 }
 
 -- ---- the sets

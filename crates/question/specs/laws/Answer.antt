@@ -1,10 +1,9 @@
 -- DEMAND 2, of the question call: a whole number of the axis lies in some run of the written bytes if and only if the text's one reading holds at
 -- the first record with that number put in.
-use Prim.Native.Nat.{ℕ, _<_, _≤_}
+use Prim.Native.Nat.{ℕ, _<_}
 use native.Mathlib.Omega.{arith}
-use mathlib.Core.Path.{_≡_, refl, sym, ap, subst, _∙_}
+use mathlib.Core.Path.{_≡_, sym, subst}
 use mathlib.Core.List.{List, [], _∷_, _++_}
-use mathlib.Core.Bool.{Bool, true, false, So}
 use mathlib.Core.Logic.{_↔_}
 use Rattle.number.specs.Axis.{axis, whole}
 use Rattle.refusal.specs.Outcome.{result}

@@ -1,41 +1,39 @@
 -- The question call from its parts: prepared, answered, written.
-use Prim.Native.Nat.{ℕ, zero, suc, _+_, _-_, _*_, _/_, _≤_, _<_}
+use Prim.Native.Nat.{ℕ, _*_, _≤_, _<_}
 use native.Mathlib.Omega.{arith}
 use native.Mathlib.Decide.{ℕ-discrete}
-use mathlib.Core.Path.{_≡_, refl, sym, ap, ap₂, subst, _∙_}
+use mathlib.Core.Path.{_≡_, sym, ap, subst, _∙_}
 use mathlib.Core.List.{List, [], _∷_, _++_}
-use mathlib.Core.Bool.{Bool, true, false, false≢true, _||_}
+use mathlib.Core.Bool.{Bool, false≢true}
 use lib.ListN.{length, drop}
-use lib.Dec.{eqb, ltb}
+use lib.Dec.{ltb}
 use borrow.Author.Tests.{ltb-false, lt-ltb, le-ltb, eq-eqb}
-use Rattle.number.specs.Axis.{axis}
 use Rattle.number.specs.laws.Boolean.{none-left}
-use Rattle.refusal.specs.Outcome.{Outcome, result, refused, judged, Line, NoneMeets}
+use Rattle.refusal.specs.Outcome.{Outcome, judged, NoneMeets}
 use Rattle.refusal.specs.Numbers.{numberOf, placeOf}
 use Rattle.refusal.specs.declared.Refusal.{Refusal}
 use Rattle.refusal.specs.declared.Refusal.the-variants.{ShortOutput}
 use Rattle.recording.specs.Recording.{records, recordingLines, noRecord}
 use Rattle.recording.specs.laws.Record.{length-records}
 use Rattle.recording.specs.Output.{outputLine, Answers}
-use Rattle.recording.specs.laws.Outcome.{judged-pass, judged-first, judged-none, result-none, refusal-stands, none-append, answers-refused, answers-written}
+use Rattle.recording.specs.laws.Outcome.{judged-pass, judged-first, judged-none, refusal-stands, none-append, answers-refused, answers-written}
 use Rattle.recording.specs.declared.Written.{Written}
 use Rattle.recording.specs.declared.Written.the-variants as written
 use Rattle.runs.specs.Runs.{runCount, setBytes}
 use Rattle.runs.specs.laws.Runs.{setBytes-ext, setBytes-length}
 use Rattle.runs.specs.Set.{member}
-use Rattle.runset.specs.declared.RunSet.{RunSet}
 use Rattle.grammar.specs.Syntax.{Text}
 use Rattle.grammar.specs.Size.{tooDeep, mostNodes}
-use Rattle.grammar.specs.inner.Table.{treeAt}
-use Rattle.parser.specs.inner.Rows.{Laid, leaf, unary, binary}
-use Rattle.grammar.specs.inner.Parse.{Parsed, one, none, parsed}
+use Rattle.parser.specs.laws.Rows.{laid-above}
+use Rattle.grammar.specs.inner.Parse.{none, parsed}
 use Rattle.text.specs.Told.{textLines, nodesOf, Tabled}
 use Rattle.meaning.specs.inner.Coded.{coded}
 use Rattle.meaning.specs.inner.Truth.{val}
 use Rattle.evaluation.specs.inner.Evaluation.{textOf}
-use Rattle.evaluation.specs.laws.Evaluate.{coded-length}
+use Rattle.leaves.specs.laws.Coding.{length-coded}
 use Rattle.question.specs.Question.{theText, read, answer, askingLines, setLines, answerOf, writtenOf, questionOf}
 use Rattle.question.specs.inner.Prepare.{preparedOf, Prepares}
+use Rattle.question.specs.laws.Prepare.{prepared-passes}
 use Rattle.question.specs.inner.Answered.{Answerable, Gives}
 use Rattle.question.specs.declared.prepare.Prepared.{Prepared}
 use Rattle.question.specs.declared.prepare.Prepared.the-variants as prepared
@@ -77,11 +75,6 @@ module _ (bytes : List ℕ) (p : Text) (words : List ℕ) (a : Verdict) (g : Giv
 
 -- ---- the text that was read
 
-held-more : {table : List ℕ} {b m : ℕ} {t : Text} → Laid table b m t → b < m
-held-more (leaf k e) = omega arith
-held-more (unary k l h p e) = let x = held-more p in omega arith
-held-more (binary k l h p q e) = let x = held-more p in let y = held-more q in omega arith
-
 module _ (bytes text table : List ℕ) where
   pub question-refused : (q : Prepared) (x : Refusal) → Prepares bytes text table q → q ≡ prepared.Refused x → (old : List ℕ)
       → Answers (questionOf bytes text (length old)) old (written.Refused x) old
@@ -92,25 +85,22 @@ module _ (bytes text table : List ℕ) where
       (sym (h .outcome) ∙ ap preparedOf e))
 
   module _ (q : Prepared) (n : ℕ) (h : Prepares bytes text table q) (e : q ≡ prepared.Nodes n) where
-    passed : NoneMeets (askingLines bytes text) × (nodesOf (parsed text) ≡ n)
-    passed = result-none (askingLines bytes text) (nodesOf (parsed text)) n (sym (h .outcome) ∙ ap preparedOf e)
-
     parts : NoneMeets (recordingLines bytes) × NoneMeets (noRecord bytes ∷ textLines text)
-    parts = none-append (recordingLines bytes) (noRecord bytes ∷ textLines text) (passed .0)
+    parts = none-append (recordingLines bytes) (noRecord bytes ∷ textLines text) (prepared-passes h n e .0)
 
     tabled : Tabled text table n
     tabled = h .tabled n e
 
     few-nodes : n ≤ mostNodes
     few-nodes =
-        omega (arith, passed .1, ltb-false mostNodes (nodesOf (parsed text)) (none-left (ltb mostNodes (nodesOf (parsed text))) (tooDeep text) (parts .1 .1 .1 .1 .0)))
+        omega (arith, prepared-passes h n e .1, ltb-false mostNodes (nodesOf (parsed text)) (none-left (ltb mostNodes (nodesOf (parsed text))) (tooDeep text) (parts .1 .1 .1 .1 .0)))
 
     some-record : 0 < length (coded bytes)
     some-record = by (ℕ-discrete (length (records bytes)) 0)
       where
         by : Dec (length (records bytes) ≡ 0) → 0 < length (coded bytes)
         by (yes z) = absurd (false≢true (sym (parts .1 .0) ∙ eq-eqb (length (records bytes)) 0 z))
-        by (no z) = omega (arith, coded-length bytes, length-records bytes)
+        by (no z) = omega (arith, length-coded bytes, length-records bytes)
 
     pub prepared-ready : 4 * mostNodes ≤ length table → Answerable table n bytes
     prepared-ready room =
@@ -120,7 +110,7 @@ module _ (bytes text table : List ℕ) where
           falling = tabled .falling;
           holds = tabled .rows;
           rows = omega (arith, few-nodes);
-          some = held-more (tabled .rows);
+          some = laid-above (tabled .rows);
           few = few-nodes;
         }
 
@@ -131,5 +121,5 @@ module _ (bytes text table : List ℕ) where
         let is : textOf table n ≡ read text = ap theText (sym (tabled .reads)) in
         let o : answerOf bytes (textOf table n) (length old) ≡ questionOf bytes text (length old) =
         ap (λ (p : Text). answerOf bytes p (length old)) is
-        ∙ sym (judged-pass (askingLines bytes text) (setLines bytes (read text) ++ (outputLine (length old) (setBytes (answer bytes text)) ∷ [])) (setBytes (answer bytes text)) (passed .0)) in
+        ∙ sym (judged-pass (askingLines bytes text) (setLines bytes (read text) ++ (outputLine (length old) (setBytes (answer bytes text)) ∷ [])) (setBytes (answer bytes text)) (prepared-passes h n e .0)) in
         subst (λ (k : Outcome (List ℕ)). Answers k old r new) o w

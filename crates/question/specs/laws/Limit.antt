@@ -2,26 +2,24 @@
 use Prim.Native.Nat.{ℕ, zero, suc, _<_, _≤_}
 use native.Mathlib.Omega.{arith}
 use native.Mathlib.Decide.{decLt, ℕ-discrete}
-use mathlib.Core.Path.{_≡_, refl, sym, ap, ap₂, subst, _∙_}
+use mathlib.Core.Path.{_≡_, refl, sym, ap, subst, _∙_}
 use native.Mathlib.Nat.{not-suc-le-zero, le-of-suc-le-suc}
 use mathlib.Core.Bool.{Bool, true, false, not, true≢false, _&&_, _||_}
 use borrow.Author.Tests.{not-true}
-use mathlib.Core.List.{List, [], _∷_, map}
-use lib.Dec.{ltb}
+use mathlib.Core.List.{List, [], _∷_}
 use lib.ListN.{length, getD, length-map}
 use Rattle.recording.specs.Recording.{Accepted, readings}
 use Rattle.recording.specs.Reading.{Curve, A, B, curveOf, a-top}
 use Rattle.tops.specs.Tops as tops
-use Rattle.grammar.specs.Syntax.{Text, Listed, listed, gaps, steps, lag}
+use Rattle.grammar.specs.Syntax.{Text, Listed, listed, lag}
 use Rattle.grammar.specs.declared.Row.{Row}
 use Rattle.grammar.specs.inner.Kinds.{GAPS, STEPS, LAG, NOT, OR, BRACKET}
 use Rattle.grammar.specs.inner.Table.{row, leafTexts, build, rowAt, treeAt, Falling}
 use Rattle.meaning.specs.inner.Coded.{Coded, coded, codedTimes}
-use Rattle.tops.specs.Tops.{mostTops}
 use Rattle.meaning.specs.inner.Truth.{manyTops, asksTooMany, ofListed, refused9, someNode}
 use Rattle.leaves.specs.inner.Leaf.{leafOf}
-use Rattle.leaves.specs.laws.Stamp.{event-stamps}
-use Rattle.number.specs.laws.Boolean.{and-left, and-right}
+use Rattle.leaves.specs.laws.Indices.{event-indices}
+use Rattle.number.specs.laws.Boolean.{and-left, and-right, or-left}
 use Rattle.evaluation.specs.laws.Step.{four}
 use Rattle.text.specs.laws.Table.{tree-step}
 use Rattle.evaluation.specs.laws.Tree.{build-leaf, falls-first, falls-second, kind-known}
@@ -29,7 +27,7 @@ use Rattle.evaluation.specs.laws.Node.{here-leaf, here-one, here-two}
 
 -- the number of tops
 pub tops-count : (rec : List ℕ) → Accepted rec → (c : Curve) → length (codedTimes (a-top c) (coded rec)) ≡ length (tops.topTimes c (readings rec))
-tops-count rec a c = ap length (event-stamps rec a (a-top c)) ∙ length-map (tops.topTimes c (readings rec)) _
+tops-count rec a c = ap length (event-indices rec a (a-top c)) ∙ length-map (tops.topTimes c (readings rec)) _
 
 -- P holds of none of the first m
 abbrev noneOf : (Text → Bool) → ℕ → List Text → Bool
@@ -64,9 +62,6 @@ op-one G k a b n p q l h = four (λ (k : ℕ). ofListed G (build (row k a b n) p
 
 op-two : (G : Listed → Bool) (k a b n : ℕ) (p q : Text) → OR ≤ k → k < BRACKET → ofListed G (build (row k a b n) p q) ≡ false
 op-two G k a b n p q l h = four (λ (k : ℕ). ofListed G (build (row k a b n) p q) ≡ false) OR k l h refl refl refl refl
-
-or-true : (a b : Bool) → a ≡ true → (a || b) ≡ true
-or-true a b e = ap (λ (x : Bool). x || b) e
 
 module _ (table : List ℕ) (count : ℕ) (rec : List ℕ) (falling : Falling table count) (n : ℕ) (inn : n < count) (line : Row) (is-line : line ≡ rowAt table n) where
   abbrev G : Text → Bool
@@ -118,7 +113,7 @@ module _ (table : List ℕ) (count : ℕ) (rec : List ℕ) (falling : Falling ta
       where
         by : Dec (rowAt table n .kind < OR) → true ≡ refused9 (coded rec) (treeAt table n)
         by (yes h) = sym (of-one h ∙ e)
-        by (no h) = sym (of-two (omega arith) ∙ or-true x _ e)
+        by (no h) = sym (of-two (omega arith) ∙ or-left x _ e)
 
     pub asks-one : line .kind < OR → x ≡ false → false ≡ refused9 (coded rec) (treeAt table n)
     asks-one h e = sym (of-one (subst (λ (j : ℕ). j < OR) kind-is h) ∙ e)

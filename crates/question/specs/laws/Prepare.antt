@@ -1,23 +1,22 @@
 -- The refusals 1 to 7 in order: of the recording, of no record, of the text.
 use Prim.Native.Nat.{ℕ, _/_}
 use native.Mathlib.Omega.{arith}
-use mathlib.Core.Path.{_≡_, refl, sym, ap, subst, _∙_}
-use mathlib.Core.List.{List, [], _∷_, _++_}
-use mathlib.Core.Bool.{Bool, true, false}
+use mathlib.Core.Path.{_≡_, sym, ap, _∙_}
+use mathlib.Core.List.{List, [], _∷_}
 use lib.ListN.{length}
-use lib.Dec.{eqb}
 use borrow.Author.Tests.{eq-eqb, ne-eqb}
-use Rattle.refusal.specs.Outcome.{Outcome, result, refused, judged, Line, NoneMeets}
+use Rattle.refusal.specs.Outcome.{refused, judged, NoneMeets}
 use Rattle.refusal.specs.Numbers.{numberOf, placeOf}
 use Rattle.refusal.specs.declared.Refusal.{Refusal}
 use Rattle.recording.specs.Recording.{records, recordingLines, noRecord}
 use Rattle.recording.specs.laws.Record.{length-records}
-use Rattle.recording.specs.laws.Outcome.{judged-pass, judged-skip, judged-first, result-none, refusal-stands, no-result}
+use Rattle.recording.specs.laws.Acceptance.{check-accepts}
+use Rattle.recording.specs.laws.Outcome.{judged-pass, judged-skip, judged-first, result-none, refusal-stands}
 use Rattle.recording.specs.Output.{checkOutcome}
 use Rattle.recording.specs.declared.Checked.{Checked}
 use Rattle.recording.specs.declared.Checked.the-variants as checked
 use Rattle.grammar.specs.inner.Parse.{parsed}
-use Rattle.text.specs.Told.{textLines, nodesOf, outcomeOf, Told, Tabled}
+use Rattle.text.specs.Told.{textLines, nodesOf, outcomeOf, Told}
 use Rattle.text.specs.declared.Answer.{Answer}
 use Rattle.text.specs.declared.Answer.the-variants as answer
 use Rattle.question.specs.Question.{askingLines}
@@ -25,7 +24,7 @@ use Rattle.question.specs.inner.Prepare.{preparedOf, Prepares}
 use Rattle.question.specs.declared.prepare.Prepared.{Prepared}
 use Rattle.question.specs.declared.prepare.Prepared.the-variants.{Nodes, Refused}
 
-refused-nodes : {C : Type 0} (x : Refusal) (n : ℕ) → Refused x ≡ Nodes n → C
+pub refused-nodes : {C : Type 0} (x : Refusal) (n : ℕ) → Refused x ≡ Nodes n → C
 refused-nodes x n e = let z : _≡_ {A = ℕ} 0 1 = cc in absurd (bad z)
   where
     bad : _≡_ {A = ℕ} 0 1 → ⊥
@@ -44,15 +43,11 @@ module _ (bytes text table : List ℕ) where
       refusing x (refusal-stands (recordingLines bytes) (noRecord bytes ∷ textLines text) (length bytes / 16) (nodesOf (parsed text)) (numberOf x) (placeOf x) (sym e ∙ ap checkOutcome q))
 
   module _ (c : Checked) (n : ℕ) (e : checkOutcome c ≡ judged (recordingLines bytes) (length bytes / 16)) (q : c ≡ checked.Records n) where
-    -- the recording is accepted, and has n records
-    pub accepted-is : NoneMeets (recordingLines bytes) × (length bytes / 16 ≡ n)
-    accepted-is = result-none (recordingLines bytes) (length bytes / 16) n (sym e ∙ ap checkOutcome q)
-
     count-is : length (records bytes) ≡ n
-    count-is = length-records bytes ∙ accepted-is .1
+    count-is = length-records bytes ∙ sym (check-accepts bytes c n e q .1)
 
     pass : judged (askingLines bytes text) (nodesOf (parsed text)) ≡ judged (noRecord bytes ∷ textLines text) (nodesOf (parsed text))
-    pass = judged-pass (recordingLines bytes) (noRecord bytes ∷ textLines text) (nodesOf (parsed text)) (accepted-is .0)
+    pass = judged-pass (recordingLines bytes) (noRecord bytes ∷ textLines text) (nodesOf (parsed text)) (check-accepts bytes c n e q .0)
 
     pub prepare-empty : n ≡ 0 → Prepares bytes text table (Refused Rattle.refusal.specs.declared.Refusal.the-variants.NoRecord)
     prepare-empty z =
@@ -69,3 +64,7 @@ module _ (bytes text table : List ℕ) where
       pub prepare-read : (m : ℕ) → a ≡ answer.Nodes m → Prepares bytes text table (Nodes m)
       prepare-read m h =
           record { outcome = sym (past ∙ sym (told .outcome) ∙ ap outcomeOf h); tabled = λ k z. told .tabled k (h ∙ ap answer.Nodes (same-nodes m k z)) }
+
+-- a text that was read: none of 1 to 7 meets, and it has n nodes
+pub prepared-passes : {bytes text table : List ℕ} {q : Prepared} (h : Prepares bytes text table q) (n : ℕ) → q ≡ Nodes n → NoneMeets (askingLines bytes text) × (nodesOf (parsed text) ≡ n)
+prepared-passes {bytes} {text} h n e = result-none (askingLines bytes text) (nodesOf (parsed text)) n (sym (h .outcome) ∙ ap preparedOf e)

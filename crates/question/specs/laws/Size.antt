@@ -2,14 +2,13 @@
 use Prim.Native.Nat.{ℕ, _*_, _≤_, _<_}
 use native.Mathlib.Omega.{arith}
 use native.Mathlib.Decide.{ℕ-discrete}
-use mathlib.Core.Path.{_≡_, refl, sym, ap, _∙_}
+use mathlib.Core.Path.{_≡_, sym, ap, _∙_}
 use mathlib.Core.List.{List, [], _∷_, _++_}
-use mathlib.Core.Bool.{Bool, true, false, cond, _||_, true≢false}
+use mathlib.Core.Bool.{Bool, true, false, cond, true≢false}
 use lib.ListN.{length}
-use lib.Dec.{eqb}
 use borrow.Author.Tests.{ltb-false, eq-eqb}
 use Rattle.number.specs.laws.Boolean.{off, none-left}
-use Rattle.refusal.specs.Outcome.{result, NoneMeets}
+use Rattle.refusal.specs.Outcome.{result}
 use Rattle.recording.specs.Recording.{records, recordingLines, noRecord}
 use Rattle.recording.specs.Output.{outputLine}
 use Rattle.recording.specs.laws.Outcome.{result-none, none-append}
@@ -22,7 +21,7 @@ use Rattle.meaning.specs.inner.Coded.{Coded, coded}
 use Rattle.grammar.specs.Size.{temporal}
 use Rattle.meaning.specs.inner.Truth.{someNode, overAt, someBelow, largeAt, refused8}
 use Rattle.meaning.specs.laws.Overfull.{below-at}
-use Rattle.evaluation.specs.laws.Evaluate.{coded-length}
+use Rattle.leaves.specs.laws.Coding.{length-coded}
 use Rattle.question.specs.Question.{read, answer, askingLines, setLines, questionOf}
 
 -- a node is a node of its text
@@ -53,7 +52,7 @@ some-record bytes e = by (ℕ-discrete (length (records bytes)) 0)
   where
     by : Dec (length (records bytes) ≡ 0) → 0 < length (coded bytes)
     by (yes z) = absurd (true≢false (sym (eq-eqb (length (records bytes)) 0 z) ∙ e))
-    by (no z) = omega (arith, coded-length bytes, length-records bytes)
+    by (no z) = omega (arith, length-coded bytes, length-records bytes)
 
 -- THE SIZE OF AN ANSWER: at most 256 runs of 8 bytes
 pub answered-few : (bytes text : List ℕ) (room : ℕ) (written : List ℕ) → questionOf bytes text room ≡ result written → length written ≤ 8 * mostRuns

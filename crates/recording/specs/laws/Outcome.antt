@@ -17,6 +17,9 @@ no-result n p r e = let z : _≡_ {A = ℕ} 0 1 = cc in absurd (bad z)
     bad : _≡_ {A = ℕ} 0 1 → ⊥
     bad z = omega arith
 
+pub same-number : {R : Type 0} (n p m q : ℕ) → _≡_ {A = Outcome R} (refused n p) (refused m q) → n ≡ m
+same-number n p m q e = cc
+
 module _ {R : Type 0} where
   -- lines that do not meet let the others judge
   pub judged-pass : (ls ms : List Line) (r : R) → NoneMeets ls → judged (ls ++ ms) r ≡ judged ms r

@@ -16,7 +16,7 @@ use Rattle.thin.specs.Thin.{keptBytes}
 use Rattle.copying.specs.Put.{put}
 use Rattle.live_state.specs.Limits.{mostHeld}
 use Rattle.live_state.specs.State.{runAt, headOf, readCount, heldCount, heldIn}
-use Rattle.live.specs.History.{History, add, outcome, taken, named, keptOf}
+use Rattle.live.specs.History.{History, add, outcome, withStep, lastSet, keptOf}
 use Rattle.live.specs.Call.{keptWith, holding, addOf}
 use Rattle.live.specs.laws.Step.{add-by}
 use Rattle.refinement.specs.laws.Represents.{runOf, momentOf, Taken, Represents}
@@ -39,7 +39,7 @@ module _ (h : History) (s x : List ℕ) (r : Represents h s) where
 
   pub partial-history : eqb (length x) 16 ≡ false → outcome h (add x) ≡ refused 1 0
   unfolding outcome judged
-  partial-history e = ap₂ (λ (a b : Bool). cond a (refused 11 0) (cond (not b) (refused 1 0) (judged grownLines (taken h (add x))))) (r .fine .0) e
+  partial-history e = ap₂ (λ (a b : Bool). cond a (refused 11 0) (cond (not b) (refused 1 0) (judged grownLines (withStep h (add x))))) (r .fine .0) e
 
   module _ (lx : length x ≡ 16) where
     joined : heldIn s 0 ++ x ≡ concat (keptOf (marksOf (h .marks)) (h .run)) ++ x
@@ -81,13 +81,13 @@ module _ (h : History) (s x : List ℕ) (r : Represents h s) where
         add-by s x false true (ltb mostRecords (readCount s 0 + 1)) (a-state h s r) (eq-eqb (length x) 16 lx) refl
         ∙ (λ i. cond (two i) (refused 2 0) (cond (held-fine i) (refused 11 0) (cond (not (three i)) (refused 3 (the-run h s r .count i)) (cond (nineteen i) (refused 19 0) (result (holding s (keptWith s x)))))))
 
-    pub history-lines : outcome h (add x) ≡ judged grownLines (taken h (add x))
+    pub history-lines : outcome h (add x) ≡ judged grownLines (withStep h (add x))
     unfolding outcome judged
     history-lines =
-        ap₂ (λ (a b : Bool). cond a (refused 11 0) (cond (not b) (refused 1 0) (judged grownLines (taken h (add x))))) (r .fine .0) (eq-eqb (length x) 16 lx)
+        ap₂ (λ (a b : Bool). cond a (refused 11 0) (cond (not b) (refused 1 0) (judged grownLines (withStep h (add x))))) (r .fine .0) (eq-eqb (length x) 16 lx)
 
     -- where no line meets, the state after it is the history's after it
-    pub grown-represents : NoneMeets grownLines → Represents (taken h (add x)) (holding s (keptWith s x))
+    pub grown-represents : NoneMeets grownLines → Represents (withStep h (add x)) (holding s (keptWith s x))
     grown-represents n =
         let ks : List ℕ = marksOf (h .marks) in
         let g : List Raw = h .run ++ x ∷ [] in
@@ -96,14 +96,14 @@ module _ (h : History) (s x : List ℕ) (r : Represents h s) where
         (ltb-false mostHeld (length (keptOf ks g)) (n .1 .1 .0)) in
         let e : holding s (keptWith s x) ≡ put (runAt 0) (runOf ks g) s =
         ap₂ (λ (c : ℕ) (k : List ℕ). holdingAs c k) (the-run h s r .count) kept-with ∙ ap (λ (b : List ℕ). put (runAt 0) b s) (run-behind ks (h .run) x (r .taken .sixteens) lx) in
-        subst (Represents (taken h (add x))) (sym e)
+        subst (Represents (withStep h (add x))) (sym e)
         (record {
           long = placed-long h s r 0 (omega arith) g t;
           fine = r .fine;
           signed = placed-signed h s r 0 (omega arith) g t;
           marked = placed-marked h s r 0 (omega arith) g t;
           run = placed-run h s r 0 (omega arith) g t;
-          moments = λ k a b. placed-other h s r 0 (omega arith) g t k (λ z. omega arith) (momentOf ks (named k (h .moments))) (moment-fits ks (named k (h .moments)) (r .taken-at k)) (r .moments k a b);
+          moments = λ k a b. placed-other h s r 0 (omega arith) g t k (λ z. omega arith) (momentOf ks (lastSet k (h .moments))) (moment-fits ks (lastSet k (h .moments)) (r .taken-at k)) (r .moments k a b);
           taken = t;
           taken-at = r .taken-at;
         })

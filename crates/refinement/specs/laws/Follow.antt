@@ -15,9 +15,9 @@ use Rattle.recording.specs.laws.Outcome.{judged-first, result-none}
 use Rattle.copying.specs.Put.{put}
 use Rattle.number.specs.Words.{word}
 use Rattle.marks.specs.Marks.{marksLine}
-use Rattle.live_state.specs.State.{signature, liveBytes, runAt, runBytes, readCount, heldIn, badMarksIn, noState, runStands}
+use Rattle.live_state.specs.State.{signature, liveBytes, runAt, runIn, readCount, heldIn, badMarksIn, noState, runStands}
 use Rattle.live_state.specs.laws.State.{no-state-by}
-use Rattle.live.specs.History.{History, begun, Step, add, save, restore, outcome, taken, goesOn, after, told, answer, stepLines, badName, keptRun, readOut}
+use Rattle.live.specs.History.{History, begun, Step, add, save, restore, outcome, withStep, goesOn, after, told, stepAnswer, stepLines, badName, keptRun, readOut}
 use Rattle.live.specs.Call.{holding, keptWith, heldOf, stepOf, stateAfter, startAfter}
 use Rattle.live.specs.laws.Step.{add-by, save-by, restore-by, start-by, held-by}
 use Rattle.refinement.specs.laws.Represents.{Represents, Follows}
@@ -29,7 +29,7 @@ use Rattle.refinement.specs.laws.Start.{started-represents, ended-none}
 
 -- a step is answered as the history answers it, and the state follows
 pub record Followed (h : History) (s : List ℕ) (t : Step) : Type 0 where
-  pub answers : told (stepOf s t) ≡ answer h t
+  pub answers : told (stepOf s t) ≡ stepAnswer h t
   pub follows : Follows (after h t) (stateAfter (stepOf s t) s)
 
 -- ---- a state of the history
@@ -54,17 +54,17 @@ module _ (h : History) (s : List ℕ) (r : Represents h s) where
   unfolding judged
   add-followed x true e =
       let lx = eqb-true (length x) 16 e in
-      alike-followed (add x) (grownLines h s x r) (taken h (add x)) (holding s (keptWith s x)) (state-lines h s x r lx) (history-lines h s x r lx)
+      alike-followed (add x) (grownLines h s x r) (withStep h (add x)) (holding s (keptWith s x)) (state-lines h s x r lx) (history-lines h s x r lx)
       (grown-represents h s x r lx)
   add-followed x false e = alike-followed (add x) (line 1 true ∷ []) h s (partial-state h s x r e) (partial-history h s x r e) (λ n. r)
 
   step-represented : (t : Step) → Followed h s t
   step-represented (add x) = add-followed x (eqb (length x) 16) refl
   step-represented (save name) =
-      alike-followed (save name) (nameLines h s r name) (taken h (save name)) (put (runAt name) (runBytes s 0) s) (save-lines h s r name) (save-history h s r name)
+      alike-followed (save name) (nameLines h s r name) (withStep h (save name)) (put (runAt name) (runIn s 0) s) (save-lines h s r name) (save-history h s r name)
       (saved-represents h s r name)
   step-represented (restore name) =
-      alike-followed (restore name) (backLines h s r name) (taken h (restore name)) (put (runAt 0) (runBytes s name) s) (restore-lines h s r name)
+      alike-followed (restore name) (backLines h s r name) (withStep h (restore name)) (put (runAt 0) (runIn s name) s) (restore-lines h s r name)
       (restore-history h s r name) (restored-represents h s r name)
 
 -- ---- bytes that are no state
@@ -95,9 +95,9 @@ none-read-out s none room = held-by s room true (ltb room (length (heldIn s 0)))
 module _ (h : History) (s : List ℕ) (bad : marksLine (h .marks) .meets ≡ true) (none : noState s ≡ true) where
   bad-outcome : (t : Step) → outcome h t ≡ refused 11 0
   unfolding outcome
-  bad-outcome (add x) = judged-first (marksLine (h .marks)) _ (taken h (add x)) bad
-  bad-outcome (save name) = judged-first (marksLine (h .marks)) _ (taken h (save name)) bad
-  bad-outcome (restore name) = judged-first (marksLine (h .marks)) _ (taken h (restore name)) bad
+  bad-outcome (add x) = judged-first (marksLine (h .marks)) _ (withStep h (add x)) bad
+  bad-outcome (save name) = judged-first (marksLine (h .marks)) _ (withStep h (save name)) bad
+  bad-outcome (restore name) = judged-first (marksLine (h .marks)) _ (withStep h (restore name)) bad
 
   step-refused : (t : Step) → Followed h s t
   step-refused t =
@@ -140,14 +140,14 @@ pub same-marks : (h : History) (t : Step) → after h t .marks ≡ h .marks
 unfolding outcome
 same-marks h t = by (outcome h t) refl
   where
-    kept-marks : (t : Step) → taken h t .marks ≡ h .marks
+    kept-marks : (t : Step) → withStep h t .marks ≡ h .marks
     kept-marks (add x) = refl
     kept-marks (save name) = refl
     kept-marks (restore name) = refl
 
     by : (o : Outcome History) → outcome h t ≡ o → goesOn h o .marks ≡ h .marks
     by (refused n p) e = refl
-    by (result g) e = ap (λ (k : History). k .marks) (sym (result-none (stepLines h t) (taken h t) g e .1)) ∙ kept-marks t
+    by (result g) e = ap (λ (k : History). k .marks) (sym (result-none (stepLines h t) (withStep h t) g e .1)) ∙ kept-marks t
 
 -- bytes of any number
 pub some-bytes : (n : ℕ) → (s : List ℕ) × (length s ≡ n)

@@ -13,7 +13,7 @@ use Rattle.marks.specs.Marks.{marksOf, marksLine, AcceptedMarks}
 use Rattle.copying.specs.Put.{part}
 use Rattle.live_state.specs.Limits.{mostHeld, mostMoments}
 use Rattle.live_state.specs.State.{signature, liveBytes, runAt, headOf, noRun, noState}
-use Rattle.live.specs.History.{History, Moment, unset, set, named, keptOf}
+use Rattle.live.specs.History.{History, Moment, unset, set, lastSet, keptOf}
 
 -- these bytes stand in s, from `at` on
 abbrev pub Has : List ℕ → ℕ → List ℕ → Type 0
@@ -46,9 +46,9 @@ pub record Represents (h : History) (s : List ℕ) : Type 0 where
   pub signed : Has s 0 (wordBytes signature ++ wordBytes (length (h .marks)))
   pub marked : Has s 16 (h .marks)
   pub run : Has s (runAt 0) (runOf (marksOf (h .marks)) (h .run))
-  pub moments : (k : ℕ) → 1 ≤ k → k ≤ mostMoments → Has s (runAt k) (momentOf (marksOf (h .marks)) (named k (h .moments)))
+  pub moments : (k : ℕ) → 1 ≤ k → k ≤ mostMoments → Has s (runAt k) (momentOf (marksOf (h .marks)) (lastSet k (h .moments)))
   pub taken : Taken (marksOf (h .marks)) (h .run)
-  pub taken-at : (k : ℕ) → TakenAt (marksOf (h .marks)) (named k (h .moments))
+  pub taken-at : (k : ℕ) → TakenAt (marksOf (h .marks)) (lastSet k (h .moments))
 
 -- THE STATE FOLLOWS THE HISTORY: it is the history's, or 11 refused the marks and the bytes are no state
 abbrev pub Follows : History → List ℕ → Type 0

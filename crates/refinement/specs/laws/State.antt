@@ -14,7 +14,7 @@ use Rattle.marks.specs.Marks.{marksOf, marksLine}
 use Rattle.thin.specs.Thin.{keptBytes}
 use Rattle.copying.specs.Put.{part}
 use Rattle.live_state.specs.Limits.{mostHeld}
-use Rattle.live_state.specs.State.{signature, liveBytes, runAt, noRun, marksIn, readCount, heldCount, heldIn, runBytes, runStands, noState}
+use Rattle.live_state.specs.State.{signature, liveBytes, runAt, noRun, marksIn, readCount, heldCount, heldIn, runIn, runStands, noState}
 use Rattle.live_state.specs.laws.State.{fine-length, bad-marks-by, no-state-by}
 use Rattle.live.specs.History.{History, Moment, unset, set, isSet, keptOf}
 use Rattle.refinement.specs.laws.Represents.{Has, runOf, momentOf, Taken, TakenAt, Represents}
@@ -27,7 +27,7 @@ pub record Read (marks : List ℕ) (run : List Raw) (s : List ℕ) (j : ℕ) : T
   pub count : readCount s j ≡ length run
   pub held-count : heldCount s j ≡ length (keptOf marks run)
   pub held : heldIn s j ≡ concat (keptOf marks run)
-  pub bytes : runBytes s j ≡ runOf marks run
+  pub bytes : runIn s j ≡ runOf marks run
   pub stands : runStands s j ≡ true
 
 pub run-read : (marks : List ℕ) (run : List Raw) (s : List ℕ) (j : ℕ) → Taken marks run → Has s (runAt j) (runOf marks run) → Read marks run s j

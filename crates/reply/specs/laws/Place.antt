@@ -7,7 +7,7 @@ use mathlib.Core.List.{List, [], _∷_, _++_}
 use lib.Dec.{ltb, eqb}
 use lib.ListN.{length}
 use borrow.Author.Tests.{ltb-true, ltb-false}
-use Rattle.refusal.specs.Outcome.{Outcome, result, refused, Line, judged}
+use Rattle.refusal.specs.Outcome.{Outcome, refused, Line, judged}
 use Rattle.recording.specs.Recording.{records, firstBad, recordingLines, mostRecords}
 use Rattle.recording.specs.laws.Record.{length-records}
 use Rattle.recording.specs.laws.Outcome.{no-result}

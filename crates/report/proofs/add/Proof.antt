@@ -1,5 +1,5 @@
 -- `report::add` meets its contract. Assumes nothing.
-use mathlib.Core.Path.{_≡_, sym, _∙_}
+use mathlib.Core.Path.{sym, _∙_}
 use Rattle.report.specs.laws.Running.{off-none, faulty-none, sound-added, sound-of, small-reached}
 use borrow.Author.Needs.{needs}
 use Rattle.report.proofs.add.Statement.{statement}

@@ -1,8 +1,6 @@
 -- `report::begin` meets its contract. Assumes nothing.
 use mathlib.Core.Path.{ap}
-use Prim.Native.Nat.{ℕ}
 use Rattle.mean.specs.declared.Mean.{Mean}
-use Rattle.report.specs.declared.Report.{Report}
 use borrow.Author.Needs.{needs}
 use Rattle.report.proofs.begin.Statement.{statement}
 use Rattle.report.proofs.begin.Tie as tie

@@ -1,5 +1,5 @@
 -- `report::name` meets its contract: refused by 15, then by 5 to 7, then as the target is. Assumes nothing.
-use mathlib.Core.Path.{ap, _∙_, subst}
+use mathlib.Core.Path.{ap, _∙_}
 use native.Mathlib.Omega.{arith}
 use lib.Dec.{eqb, ltb}
 use lib.IntN.{ℤ}

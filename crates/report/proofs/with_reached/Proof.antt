@@ -1,7 +1,6 @@
 -- `report::with_reached` meets its contract, by the cases of what was reached. Assumes nothing.
 use mathlib.Core.Path.{sym, ap, subst}
-use Rattle.refusal.specs.Outcome.{Outcome}
-use Rattle.degree.specs.Degree.{Reach, away, nowhere, reachedOf}
+use Rattle.degree.specs.Degree.{away, nowhere, reachedOf}
 use Rattle.degree.specs.declared.Reached.{Reached}
 use Rattle.report.specs.inner.Running.{Small, addedTo}
 use Rattle.report.specs.laws.Running.{batch-added}

@@ -13,8 +13,7 @@ use Rattle.ratio.specs.Degree.{degreeOf}
 use Rattle.degree.specs.Degree.{Reach, away, nowhere}
 use Rattle.degree.specs.inner.Reach.{reachAt}
 use Rattle.mean.specs.inner.Running.{next, running}
-use Rattle.report.specs.Report as told
-use Rattle.report.specs.Report.{MeanDegree, noMean, meanDegree, Figures, Answer, given, metIn, emptyIn, distancesIn, sumIn, mostBatches}
+use Rattle.report.specs.Report.{noMean, meanDegree, Figures, Answer, taken, given, metIn, emptyIn, distancesIn, sumIn, mostBatches}
 use Rattle.report.specs.declared.Report.{Report}
 use Rattle.report.specs.declared.Added.{Added}
 use Rattle.report.specs.declared.Added.the-variants as variant
@@ -58,25 +57,25 @@ pub record Sound (r : Report) : Type 0 where
 pub data Addition : Type 0 where
   none : Addition
   stopped : (number place : ℕ) → Addition
-  taken : Report → Addition
+  further : Report → Addition
   last : Report → Addition
 
 abbrev pub additionOf : Added → Addition
 additionOf variant.Nothing = none
 additionOf (variant.Stopped x) = stopped (numberOf x) (placeOf x)
-additionOf (variant.Taken r) = taken r
+additionOf (variant.Taken r) = further r
 additionOf (variant.Last r) = last r
 
 -- what the caller is told
 abbrev pub answerIn : Addition → Outcome Answer
 answerIn none = refused 15 0
 answerIn (stopped n p) = refused n p
-answerIn (taken r) = result told.taken
+answerIn (further r) = result taken
 answerIn (last r) = result (given (figuresIn r))
 
 -- a report with one batch more, which may be the last
 abbrev pub counted : Report → Addition
-counted r = cond (eqb (r .taken) (r .count)) (last r) (taken r)
+counted r = cond (eqb (r .taken) (r .count)) (last r) (further r)
 
 -- a recording whose degree call gives o
 abbrev pub addedTo : Report → Outcome Reach → Addition

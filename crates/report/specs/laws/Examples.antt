@@ -1,6 +1,6 @@
 -- Figures of small lists, and a report that is stopped.
 use Prim.Native.Nat.{ℕ}
-use mathlib.Core.Path.{_≡_, refl, sym, ap, _∙_, subst}
+use mathlib.Core.Path.{_≡_, refl, ap, _∙_}
 use mathlib.Core.Bool.{false}
 use mathlib.Core.List.{List, [], _∷_}
 use lib.IntN.{ℤ, negsuc}
@@ -8,8 +8,7 @@ use lib.Ieee.{fin, add, div, ofInt, round}
 use Rattle.refusal.specs.Outcome.{Outcome, result, refused}
 use Rattle.ratio.specs.Degree.{degreeOf}
 use Rattle.degree.specs.Degree.{Reach, away, nowhere, reachOf}
-use Rattle.report.specs.Report.{Figures, figuresOf, noMean, meanDegree, Naming, Answer, taken, told, onward, Stage, closed, underWay, named, openedBy, answers}
-use Rattle.report.specs.Report as report
+use Rattle.report.specs.Report.{figuresOf, noMean, meanDegree, Naming, Answer, taken, batchAnswer, onward, closed, underWay, startReport, addBatch, named, openedBy, reportAnswers}
 use Rattle.report.specs.inner.Naming.{naming}
 
 -- one met, one at 1, one with an empty set and two at 3: the degrees 1, 1/2, 1/4 and 1/4 have the mean 1/2
@@ -26,15 +25,15 @@ module _ (room : ℕ) (text : List ℕ) (g : ℤ) (first second third : List ℕ
   abbrev n : Naming
   n = naming 3 text g
 
-  after-second : (o : Outcome Reach) → o ≡ refused 1 0 → told n (x ∷ []) o ∷ answers room (onward n (x ∷ []) o) (report.add third ∷ []) ≡ refused 1 0 ∷ refused 15 0 ∷ []
-  after-second o e = ap (λ (p : Outcome Reach). told n (x ∷ []) p ∷ answers room (onward n (x ∷ []) p) (report.add third ∷ [])) e
+  after-second : (o : Outcome Reach) → o ≡ refused 1 0 → batchAnswer n (x ∷ []) o ∷ reportAnswers room (onward n (x ∷ []) o) (addBatch third ∷ []) ≡ refused 1 0 ∷ refused 15 0 ∷ []
+  after-second o e = ap (λ (p : Outcome Reach). batchAnswer n (x ∷ []) p ∷ reportAnswers room (onward n (x ∷ []) p) (addBatch third ∷ [])) e
 
   after-first : (o : Outcome Reach) → o ≡ result x
-      → told n [] o ∷ answers room (onward n [] o) (report.add second ∷ report.add third ∷ []) ≡ result taken ∷ answers room (underWay n (x ∷ [])) (report.add second ∷ report.add third ∷ [])
-  after-first o e = ap (λ (p : Outcome Reach). told n [] p ∷ answers room (onward n [] p) (report.add second ∷ report.add third ∷ [])) e
+      → batchAnswer n [] o ∷ reportAnswers room (onward n [] o) (addBatch second ∷ addBatch third ∷ []) ≡ result taken ∷ reportAnswers room (underWay n (x ∷ [])) (addBatch second ∷ addBatch third ∷ [])
+  after-first o e = ap (λ (p : Outcome Reach). batchAnswer n [] p ∷ reportAnswers room (onward n [] p) (addBatch second ∷ addBatch third ∷ [])) e
 
   stopped-by-1 : named room n ≡ result taken → reachOf first text g ≡ result x → reachOf second text g ≡ refused 1 0
-      → answers room closed (report.start n ∷ report.add first ∷ report.add second ∷ report.add third ∷ []) ≡ result taken ∷ result taken ∷ refused 1 0 ∷ refused 15 0 ∷ []
+      → reportAnswers room closed (startReport n ∷ addBatch first ∷ addBatch second ∷ addBatch third ∷ []) ≡ result taken ∷ result taken ∷ refused 1 0 ∷ refused 15 0 ∷ []
   stopped-by-1 a b c =
-      ap (λ (o : Outcome Answer). o ∷ answers room (openedBy n o) (report.add first ∷ report.add second ∷ report.add third ∷ [])) a
+      ap (λ (o : Outcome Answer). o ∷ reportAnswers room (openedBy n o) (addBatch first ∷ addBatch second ∷ addBatch third ∷ [])) a
       ∙ ap (λ (l : List (Outcome Answer)). result taken ∷ l) (after-first (reachOf first text g) b ∙ ap (λ (l : List (Outcome Answer)). result taken ∷ l) (after-second (reachOf second text g) c))

@@ -1,7 +1,7 @@
 -- Every report that the fold gives has its mean near.
 use Prim.Native.Nat.{ℕ, suc, _≤_, _<_}
 use native.Mathlib.Omega.{arith}
-use mathlib.Core.Path.{_≡_, refl, sym, ap, _∙_, subst}
+use mathlib.Core.Path.{_≡_, refl, sym, subst}
 use mathlib.Core.Bool.{Bool, true, false, cond}
 use mathlib.Core.Logic.{⊎-elim}
 use mathlib.Core.List.{List, [], _∷_, _++_, List·Memᴰ, List·Memᴰ·cases-cons, List·Memᴰ·not-nil}
@@ -9,10 +9,11 @@ use lib.Dec.{eqb}
 use lib.ListN.{length}
 use borrow.Author.Tests.{eqb-false, ltb-false}
 use Rattle.number.specs.laws.Boolean.{none-left, none-right}
-use Rattle.refusal.specs.Outcome.{Outcome, result, refused, NoneMeets}
+use Rattle.number.specs.laws.Order.{positive}
+use Rattle.refusal.specs.Outcome.{Outcome, result, refused}
 use Rattle.recording.specs.laws.Outcome.{result-none, no-result}
 use Rattle.degree.specs.Degree.{Reach, reachOf}
-use Rattle.report.specs.Report.{Figures, figuresOf, Naming, mostBatches, namingLines, Answer, taken, given, Stage, closed, underWay, Call, start, add, named, openedBy, told, onward, answered, stageAfter, answers, Reported}
+use Rattle.report.specs.Report.{Figures, figuresOf, Naming, mostBatches, namingLines, Answer, taken, given, Stage, closed, underWay, ReportCall, startReport, addBatch, named, openedBy, batchAnswer, onward, answered, stageAfter, reportAnswers, Reported}
 use Rattle.report.specs.laws.Steps.{AllSmall, small-more, length-more, figures-reported}
 
 -- a naming that was accepted is not whole yet, and its distances are those of the axis
@@ -23,15 +24,12 @@ Lawful (underWay n xs) = (n .count ≤ mostBatches) × (length xs < n .count) ×
 opened-lawful : (room : ℕ) (n : Naming) → Lawful (openedBy n (named room n))
 opened-lawful room n = by (named room n) refl
   where
-    some : (k : ℕ) → (k ≡ 0 → ⊥) → 0 < k
-    some k h = omega arith
-
     by : (o : Outcome Answer) → named room n ≡ o → Lawful (openedBy n o)
     by (refused k p) e = tt
     by (result x) e =
         let m = result-none (namingLines n room) taken x e .0 .0 in
         let z = eqb-false (n .count) 0 (none-left (eqb (n .count) 0) _ m) in
-        (ltb-false mostBatches (n .count) (none-right (eqb (n .count) 0) _ m), some (n .count) z, tt)
+        (ltb-false mostBatches (n .count) (none-right (eqb (n .count) 0) _ m), positive (n .count) z, tt)
 
 onward-lawful : (n : Naming) (xs : List Reach) (recording : List ℕ) → Lawful (underWay n xs) → Lawful (onward n xs (reachOf recording (n .text) (n .target)))
 onward-lawful n xs recording h = by (reachOf recording (n .text) (n .target)) refl
@@ -51,10 +49,10 @@ onward-lawful n xs recording h = by (reachOf recording (n .text) (n .target)) re
     by (refused k p) e = tt
     by (result x) e = more x (eqb (suc (length xs)) (n .count)) refl e
 
-pub stage-lawful : (room : ℕ) (s : Stage) (c : Call) → Lawful s → Lawful (stageAfter room s c)
-stage-lawful room s (start n) h = opened-lawful room n
-stage-lawful room closed (add recording) h = tt
-stage-lawful room (underWay n xs) (add recording) h = onward-lawful n xs recording h
+pub stage-lawful : (room : ℕ) (s : Stage) (c : ReportCall) → Lawful s → Lawful (stageAfter room s c)
+stage-lawful room s (startReport n) h = opened-lawful room n
+stage-lawful room closed (addBatch recording) h = tt
+stage-lawful room (underWay n xs) (addBatch recording) h = onward-lawful n xs recording h
 
 taken-given : {C : Type 0} (f : Figures) → taken ≡ given f → C
 taken-given f e = let z : _≡_ {A = ℕ} 0 1 = cc in absurd (bad z)
@@ -68,7 +66,7 @@ same-result x y e = cc
 same-given : (f g : Figures) → given f ≡ given g → f ≡ g
 same-given f g e = cc
 
-told-near : (n : Naming) (xs : List Reach) (recording : List ℕ) (f : Figures) → Lawful (underWay n xs) → told n xs (reachOf recording (n .text) (n .target)) ≡ result (given f) → Reported f
+told-near : (n : Naming) (xs : List Reach) (recording : List ℕ) (f : Figures) → Lawful (underWay n xs) → batchAnswer n xs (reachOf recording (n .text) (n .target)) ≡ result (given f) → Reported f
 told-near n xs recording f h = by (reachOf recording (n .text) (n .target)) refl
   where
     last : (x : Reach) (b : Bool) → reachOf recording (n .text) (n .target) ≡ result x
@@ -84,17 +82,17 @@ told-near n xs recording f h = by (reachOf recording (n .text) (n .target)) refl
         few a b c e l k = omega arith
     last x false e q = taken-given f (same-result taken (given f) q)
 
-    by : (o : Outcome Reach) → reachOf recording (n .text) (n .target) ≡ o → told n xs o ≡ result (given f) → Reported f
+    by : (o : Outcome Reach) → reachOf recording (n .text) (n .target) ≡ o → batchAnswer n xs o ≡ result (given f) → Reported f
     by (refused k p) e q = no-result k p (given f) q
     by (result x) e q = last x (eqb (suc (length xs)) (n .count)) e q
 
-answered-near : (room : ℕ) (s : Stage) (c : Call) (f : Figures) → Lawful s → answered room s c ≡ result (given f) → Reported f
-answered-near room s (start n) f h e = taken-given f (result-none (namingLines n room) taken (given f) e .1)
-answered-near room closed (add recording) f h e = no-result 15 0 (given f) e
-answered-near room (underWay n xs) (add recording) f h e = told-near n xs recording f h e
+answered-near : (room : ℕ) (s : Stage) (c : ReportCall) (f : Figures) → Lawful s → answered room s c ≡ result (given f) → Reported f
+answered-near room s (startReport n) f h e = taken-given f (result-none (namingLines n room) taken (given f) e .1)
+answered-near room closed (addBatch recording) f h e = no-result 15 0 (given f) e
+answered-near room (underWay n xs) (addBatch recording) f h e = told-near n xs recording f h e
 
 -- EVERY REPORT GIVEN, whatever calls were made, has its mean near
-pub fold-near : (room : ℕ) (cs : List Call) (s : Stage) → Lawful s → (f : Figures) → List·Memᴰ (result (given f)) (answers room s cs) → Reported f
+pub fold-near : (room : ℕ) (cs : List ReportCall) (s : Stage) → Lawful s → (f : Figures) → List·Memᴰ (result (given f)) (reportAnswers room s cs) → Reported f
 fold-near room [] s h f m = absurd (List·Memᴰ·not-nil m)
 fold-near room (c ∷ cs) s h f m =
     ⊎-elim (λ e. answered-near room s c f h (sym e)) (λ k. fold-near room cs (stageAfter room s c) (stage-lawful room s c h) f k) (List·Memᴰ·cases-cons m)

@@ -4,10 +4,10 @@ use native.Mathlib.Omega.{arith}
 use mathlib.Core.Path.{_≡_, sym, ap, _∙_}
 use mathlib.Core.Bool.{true, false}
 use mathlib.Core.List.{List, [], _∷_, _++_}
-use lib.Dec.{eqb, ltb}
+use lib.Dec.{ltb}
 use lib.IntN.{ℤ}
-use borrow.Author.Tests.{eq-eqb, ne-eqb, lt-ltb, le-ltb}
-use Rattle.number.specs.laws.Boolean.{or-left, or-right, or-none}
+use borrow.Author.Tests.{ne-eqb, lt-ltb, le-ltb}
+use Rattle.number.specs.laws.Boolean.{or-none}
 use Rattle.refusal.specs.Outcome.{Outcome, result, refused, Line, line, judged, NoneMeets}
 use Rattle.refusal.specs.Numbers.{numberOf, placeOf}
 use Rattle.refusal.specs.declared.Refusal.{Refusal}
@@ -21,7 +21,7 @@ use Rattle.targets.specs.Target.{Placed}
 use Rattle.targets.specs.declared.OnAxis.the-variants.{Index, Off}
 use Rattle.degree.specs.Degree.{targetLine}
 use Rattle.meaning.specs.laws.Whole.{index-whole}
-use Rattle.report.specs.Report.{Naming, mostBatches, reportBytes, badCount, namingLines}
+use Rattle.report.specs.Report.{mostBatches, reportBytes, badCount, namingLines}
 use Rattle.report.specs.inner.Naming.{naming, targetLines}
 
 -- ---- the target

@@ -1,7 +1,6 @@
 -- The figures of the report under way are those of the list of its batches.
 use Prim.Native.Nat.{ℕ, suc, _+_, _-_, _*_, _≤_, _<_}
 use native.Mathlib.Omega.{arith}
-use native.Mathlib.Numerals.{add-one}
 use mathlib.Core.Path.{_≡_, refl, sym, ap, _∙_, subst}
 use mathlib.Core.Bool.{Bool, true, false, cond, _||_}
 use mathlib.Core.List.{List, [], _∷_, _++_}
@@ -10,17 +9,16 @@ use lib.ListN.{length, length-append}
 use lib.Ieee.{Float, nan, inf, fin, ne, isNan}
 use lib.Ieee.Compare.{differs-from-itself, nan-differs}
 use borrow.Author.Tests.{eq-eqb, ne-eqb, ltb-false, leb-false, lt-ltb, le-ltb, lt-leb, le-leb}
-use Rattle.number.specs.laws.Boolean.{none-left, none-right, or-none, or-left, or-right, clash}
+use Rattle.number.specs.laws.Boolean.{none-left, none-right, or-none, or-left, or-right, clash, or-pass}
 use Rattle.number.specs.Axis.{axis}
 use Rattle.refusal.specs.Outcome.{Outcome, result, refused}
 use Rattle.ratio.specs.Degree.{degreeOf}
 use Rattle.degree.specs.Degree.{Reach, away, nowhere}
-use Rattle.mean.specs.Mean.{meanOf}
 use Rattle.mean.specs.inner.Running.{start, next, runFrom, running}
 use Rattle.mean.specs.laws.Running.{running-is}
 use Rattle.mean.specs.declared.Mean.{Mean}
 use Rattle.report.specs.Report.{MeanDegree, noMean, meanDegree, Figures, metIn, emptyIn, distancesIn, sumIn, meanIn, figuresOf, mostBatches}
-use Rattle.report.specs.inner.Running.{runningOf, withBatch, figuresIn, faulty, Sound, Addition, none, stopped, taken, last, counted, addedTo, additionTo, Small}
+use Rattle.report.specs.inner.Running.{runningOf, withBatch, figuresIn, faulty, Sound, Addition, none, further, last, counted, addedTo, additionTo, Small}
 use Rattle.degree.specs.inner.Reach.{reachAt}
 use Rattle.degree.specs.laws.Reach.{at-small}
 use Rattle.report.specs.declared.Report.{Report}
@@ -172,11 +170,8 @@ module _ (r : Report) where
   pub fault-mean : r .taken < r .count → r .count ≤ mostBatches → r .met + r .empty ≤ r .taken → r .distances ≤ 4000000000 * r .taken → no-sum ≡ false → no-mean ≡ faulty r
   fault-mean a b c d e =
       let f : (whole || (many || (parts || (far || (no-sum || no-mean))))) ≡ no-mean =
-      pass whole _ (lt-leb _ _ a) ∙ pass many _ (le-ltb _ _ b) ∙ pass parts _ (le-ltb _ _ c) ∙ pass far _ (le-ltb _ _ d) ∙ pass no-sum no-mean e in
+      or-pass whole _ (lt-leb _ _ a) ∙ or-pass many _ (le-ltb _ _ b) ∙ or-pass parts _ (le-ltb _ _ c) ∙ or-pass far _ (le-ltb _ _ d) ∙ or-pass no-sum no-mean e in
       sym f
-    where
-      pass : (x y : Bool) → x ≡ false → (x || y) ≡ y
-      pass x y h = ap (λ (b : Bool). b || y) h
 
 -- only a NaN differs from itself
 pub differs-nan : (x : Float) → ne x x ≡ isNan x
@@ -192,10 +187,10 @@ differs-nan x = by (ne x x) refl x refl
 -- ---- the next recording
 
 pub counted-last : (r : Report) → r .taken ≡ r .count → last r ≡ counted r
-counted-last r e = sym (ap (λ (b : Bool). cond b (last r) (taken r)) (eq-eqb (r .taken) (r .count) e))
+counted-last r e = sym (ap (λ (b : Bool). cond b (last r) (further r)) (eq-eqb (r .taken) (r .count) e))
 
-pub counted-taken : (r : Report) → (r .taken ≡ r .count → ⊥) → taken r ≡ counted r
-counted-taken r e = sym (ap (λ (b : Bool). cond b (last r) (taken r)) (ne-eqb (r .taken) (r .count) e))
+pub counted-taken : (r : Report) → (r .taken ≡ r .count → ⊥) → further r ≡ counted r
+counted-taken r e = sym (ap (λ (b : Bool). cond b (last r) (further r)) (ne-eqb (r .taken) (r .count) e))
 
 -- a batch that is counted
 pub batch-added : (r next : Report) (x : Reach) (o : Outcome Reach) (a : Addition) → o ≡ result x → next ≡ withBatch r x → a ≡ counted next → a ≡ addedTo r o

@@ -1,26 +1,24 @@
 -- The report under way answers as the plain fold over its batches does, and its mean is near.
 use Prim.Native.Nat.{ℕ, suc, _+_, _*_, _≤_, _<_}
 use native.Mathlib.Omega.{arith}
-use mathlib.Core.Path.{_≡_, refl, sym, ap, _∙_, subst}
+use mathlib.Core.Path.{_≡_, refl, ap, _∙_}
 use mathlib.Core.Bool.{Bool, true, false, not, cond}
 use mathlib.Core.List.{List, [], _∷_, _++_}
 use lib.Dec.{T, eqb}
 use lib.ListN.{length, length-append}
 use lib.IntN.{ℤ}
-use lib.Ieee.{Float, isNan}
+use lib.Ieee.{isNan}
 use Rattle.number.specs.Axis.{axis}
 use Rattle.refusal.specs.Outcome.{Outcome, result, refused}
 use Rattle.degree.specs.Degree.{Reach, away, nowhere, reachOf}
 use Rattle.degree.specs.laws.Reach.{away-small}
-use Rattle.mean.specs.Mean.{AtMost, exactMean, WithinBillionth}
+use Rattle.mean.specs.Mean.{AtMost}
 use Rattle.mean.specs.inner.Running.{running, Numbers}
 use Rattle.mean.specs.laws.Near.{mean-near}
 use Rattle.mean.specs.laws.Number.{running-numbers}
-use Rattle.report.specs.Report.{MeanDegree, noMean, meanDegree, Figures, metIn, emptyIn, distancesIn, sumIn, meanIn, figuresOf, Naming, mostBatches, Answer, given, told, MeanNear, Reported}
-use Rattle.report.specs.Report as report
-use Rattle.report.specs.inner.Running.{runningOf, withBatch, figuresIn, Sound, Addition, taken, last, stopped, counted, addedTo, answerIn}
+use Rattle.report.specs.Report.{Figures, metIn, emptyIn, distancesIn, sumIn, meanIn, figuresOf, Naming, mostBatches, taken, given, batchAnswer, MeanNear, Reported}
+use Rattle.report.specs.inner.Running.{runningOf, withBatch, Sound, further, last, counted, addedTo, answerIn}
 use Rattle.report.specs.laws.Running.{counted-distances, batch-more, figures-running}
-use Rattle.report.specs.declared.Report.{Report}
 
 -- each distance is one of the axis
 abbrev pub AllSmall : List Reach → Type 0
@@ -80,17 +78,17 @@ length-more xs x = length-append xs (x ∷ []) ∙ by (length xs)
     by n = omega arith
 
 pub counted-more : (n : ℕ) (xs : List Reach) (x : Reach)
-    → counted (withBatch (runningOf n xs) x) ≡ cond (eqb (suc (length xs)) n) (last (runningOf n (xs ++ x ∷ []))) (taken (runningOf n (xs ++ x ∷ [])))
+    → counted (withBatch (runningOf n xs) x) ≡ cond (eqb (suc (length xs)) n) (last (runningOf n (xs ++ x ∷ []))) (further (runningOf n (xs ++ x ∷ [])))
 counted-more n xs x =
-    ap counted (batch-more n xs x) ∙ ap (λ (k : ℕ). cond (eqb k n) (last (runningOf n (xs ++ x ∷ []))) (taken (runningOf n (xs ++ x ∷ [])))) (length-more xs x)
+    ap counted (batch-more n xs x) ∙ ap (λ (k : ℕ). cond (eqb k n) (last (runningOf n (xs ++ x ∷ []))) (further (runningOf n (xs ++ x ∷ [])))) (length-more xs x)
 
 -- EACH RECORDING IS ANSWERED AS THE FOLD SAYS
-pub answer-told : (n : Naming) (xs : List Reach) (o : Outcome Reach) → answerIn (addedTo (runningOf (n .count) xs) o) ≡ told n xs o
+pub answer-told : (n : Naming) (xs : List Reach) (o : Outcome Reach) → answerIn (addedTo (runningOf (n .count) xs) o) ≡ batchAnswer n xs o
 answer-told n xs (refused k p) = refl
 answer-told n xs (result x) = ap answerIn (counted-more (n .count) xs x) ∙ by (eqb (suc (length xs)) (n .count))
   where
-    by : (b : Bool) → answerIn (cond b (last (runningOf (n .count) (xs ++ x ∷ []))) (taken (runningOf (n .count) (xs ++ x ∷ []))))
-        ≡ cond b (result (given (figuresOf (xs ++ x ∷ [])))) (result report.taken)
+    by : (b : Bool) → answerIn (cond b (last (runningOf (n .count) (xs ++ x ∷ []))) (further (runningOf (n .count) (xs ++ x ∷ []))))
+        ≡ cond b (result (given (figuresOf (xs ++ x ∷ [])))) (result taken)
     by true = ap (λ (f : Figures). result (given f)) (figures-running (n .count) (xs ++ x ∷ []))
     by false = refl
 

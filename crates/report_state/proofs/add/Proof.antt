@@ -1,8 +1,7 @@
 -- `report_state::add` meets its contract. Assumes nothing.
-use mathlib.Core.Path.{_≡_, ap, _∙_, subst}
-use Rattle.report.specs.inner.Running.{Addition, answerIn}
+use mathlib.Core.Path.{ap, _∙_}
+use Rattle.report.specs.inner.Running.{Addition}
 use Rattle.report_state.specs.State.{addAfter}
-use Rattle.report_state.specs.Call.{Reports}
 use Rattle.report_state.specs.laws.Add.{fine-of}
 use Rattle.report_state.specs.laws.Tell.{same-told}
 use borrow.Author.Needs.{needs}

@@ -1,6 +1,6 @@
 -- `report_state::added` meets its contract. Assumes nothing.
 use native.Mathlib.Omega.{arith}
-use mathlib.Core.Path.{_≡_, refl, sym, ap, _∙_}
+use mathlib.Core.Path.{_≡_, sym, _∙_}
 use Rattle.report_state.specs.laws.Read.{held-of, none-in, some-in, text-part}
 use Rattle.report_state.specs.State.{sizeIn}
 use borrow.Author.Needs.{needs}

@@ -1,6 +1,6 @@
 -- `report_state::begin` meets its contract. Assumes nothing.
 use native.Mathlib.Omega.{arith}
-use mathlib.Core.Path.{_≡_, ap, _∙_}
+use mathlib.Core.Path.{ap, _∙_}
 use Rattle.report_state.specs.State.{figureWords}
 use Rattle.report_state.specs.laws.Start.{begun, begin-numbers}
 use borrow.Author.Needs.{needs}

@@ -1,5 +1,5 @@
 -- `report_state::is_stateless` meets its contract, test by test. Assumes nothing.
-use mathlib.Core.Path.{_≡_, sym, ap, _∙_}
+use mathlib.Core.Path.{sym, ap, _∙_}
 use native.Mathlib.Omega.{arith}
 use lib.Ieee.{binary64, nanBits}
 use Rattle.report_state.specs.laws.Read.{too-short, other-head, too-large, sum-nan, mean-nan}

@@ -1,7 +1,6 @@
 -- `report_state::mean_in` meets its contract. Assumes nothing.
 use native.Mathlib.Omega.{arith}
 use Rattle.report_state.specs.laws.Read.{same-mean}
-use borrow.Author.Needs.{needs}
 use Rattle.report_state.proofs.mean_in.Statement.{statement}
 use Rattle.report_state.proofs.mean_in.Tie as tie
 

@@ -1,12 +1,13 @@
 -- `report_state::remember` meets its contract. Assumes nothing.
 use native.Mathlib.Omega.{arith}
-use mathlib.Core.Path.{_≡_, sym, ap, _∙_, subst}
+use mathlib.Core.Path.{sym, ap, _∙_, subst}
 use mathlib.Core.List.{List, _++_}
 use Prim.Native.Nat.{ℕ}
 use lib.ListN.{drop}
+use Rattle.number.specs.Words.{wordsBytes}
 use Rattle.report.specs.declared.Added.{Added}
 use Rattle.report.specs.inner.Running.{additionOf}
-use Rattle.report_state.specs.State.{wordsBytes, addAfter}
+use Rattle.report_state.specs.State.{addAfter}
 use Rattle.report_state.specs.inner.Kept.{Writable}
 use borrow.Author.Needs.{needs}
 use Rattle.report_state.proofs.remember.Statement.{statement}

@@ -1,9 +1,8 @@
 -- `report_state::tell` meets its contract. Assumes nothing.
-use mathlib.Core.Path.{_≡_, ap, subst, sym}
-use Prim.Native.Nat.{ℕ}
+use mathlib.Core.Path.{ap, subst}
 use Rattle.refusal.specs.declared.Refusal.the-variants.{NoReport}
 use Rattle.report.specs.declared.Added.{Added}
-use Rattle.report.specs.inner.Running.{Addition, additionOf, answerIn, last}
+use Rattle.report.specs.inner.Running.{additionOf, answerIn}
 use Rattle.report_state.specs.inner.Kept.{Tellable}
 use Rattle.report_state.specs.laws.Tell.{refusal-told, taken-told, last-told}
 use borrow.Author.Needs.{needs}

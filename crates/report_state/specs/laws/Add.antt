@@ -2,15 +2,15 @@
 use Prim.Native.Nat.{ℕ, _+_, _-_, _≤_, _<_}
 use native.Mathlib.Omega.{arith}
 use mathlib.Core.Path.{_≡_, refl, sym, ap, _∙_, subst}
-use mathlib.Core.Bool.{Bool, true, false, not, cond, _||_}
+use mathlib.Core.Bool.{Bool, true, false, cond, _||_}
 use mathlib.Core.List.{List, [], _∷_, _++_}
-use lib.Dec.{T, eqb, ltb, leb}
+use lib.Dec.{eqb, leb}
 use lib.ListN.{length}
 use lib.Ieee.{isNan}
 use Rattle.number.specs.Axis.{axis}
-use Rattle.number.specs.laws.Boolean.{none-right}
+use Rattle.number.specs.laws.Boolean.{none-right, T-not}
 use Rattle.refusal.specs.Outcome.{Outcome, result, refused, Line, judged}
-use Rattle.recording.specs.laws.Outcome.{no-result}
+use Rattle.recording.specs.laws.Outcome.{no-result, same-number}
 use Rattle.recording.specs.Recording.{noRecord}
 use Rattle.text.specs.Told.{textLines}
 use Rattle.question.specs.Question.{read, answer, askingLines, setLines}
@@ -22,11 +22,11 @@ use Rattle.reply.specs.laws.Place.{place-below}
 use Rattle.mean.specs.inner.Running.{Numbers}
 use Rattle.mean.specs.laws.Number.{next-numbers}
 use Rattle.report.specs.Report.{reportBytes}
-use Rattle.report.specs.inner.Running.{withBatch, faulty, Sound, Addition, none, stopped, taken, last, counted, addedTo, additionTo}
+use Rattle.report.specs.inner.Running.{withBatch, faulty, Sound, Addition, none, stopped, further, last, counted, addedTo, additionTo}
 use Rattle.report.specs.laws.Running.{sound-of}
 use Rattle.report.specs.declared.Report.{Report}
-use Rattle.report_state.specs.State.{reportIn, indexIn, textIn, stateless, additionIn}
-use Rattle.report_state.specs.inner.Kept.{Held, Writable, Tellable}
+use Rattle.report_state.specs.State.{reportIn, indexIn, reportText, stateless, additionIn}
+use Rattle.report_state.specs.inner.Kept.{Writable, Tellable}
 use Rattle.report_state.specs.laws.Read.{held-of}
 
 -- the place of a refusal is a record of a recording, or 0
@@ -39,9 +39,6 @@ at-place bytes text v n p e =
 abbrev Low : List Line → Type 0
 Low [] = Unit {0}
 Low (l ∷ ls) = ((0 < l .number) × (l .number < 15)) × Low ls
-
-same-number : {R : Type 0} (n p m q : ℕ) → _≡_ {A = Outcome R} (refused n p) (refused m q) → n ≡ m
-same-number n p m q e = cc
 
 low-judged : {R : Type 0} (ls : List Line) (r : R) (n p : ℕ) → Low ls → judged ls r ≡ refused n p → (0 < n) × (n < 15)
 unfolding judged
@@ -61,27 +58,20 @@ at-number bytes text v n p e =
 
 -- ---- one batch more of a sound report
 
-is-number : (b : Bool) → b ≡ false → T (not b)
-is-number true h = absurd (no (ap not h))
-  where
-    no : false ≡ true → ⊥
-    no e = subst T (sym e) tt
-is-number false h = tt
-
 batch-numbers : (r : Report) (x : Reach) → Sound r → ((d : ℕ) → x ≡ away d → d < axis) → Numbers (withBatch r x .mean)
 batch-numbers r (away d) s h =
     let l : d < axis = h d refl in
     let a = s .more in
     let b = s .few in
     let c = s .parts in
-    next-numbers (r .mean) (r .taken + 1 - r .empty) d (omega arith) (omega arith) (omega arith) (is-number (isNan (r .mean .sum)) (s .sum-number))
-batch-numbers r nowhere s h = record { sum = is-number (isNan (r .mean .sum)) (s .sum-number); mean = is-number (isNan (r .mean .mean)) (s .mean-number) }
+    next-numbers (r .mean) (r .taken + 1 - r .empty) d (omega arith) (omega arith) (omega arith) (T-not (isNan (r .mean .sum)) (s .sum-number))
+batch-numbers r nowhere s h = record { sum = T-not (isNan (r .mean .sum)) (s .sum-number); mean = T-not (isNan (r .mean .mean)) (s .mean-number) }
 
 -- a report is stopped by a number below 15, which is not 0
 abbrev pub Stopping : Addition → Type 0
 Stopping none = Unit {0}
 Stopping (stopped n p) = (0 < n) × (n < 15)
-Stopping (taken r) = Unit {0}
+Stopping (further r) = Unit {0}
 Stopping (last r) = Unit {0}
 
 -- what it can be: written to bytes b, and told
@@ -93,7 +83,7 @@ pub record Fine (a : Addition) (b : List ℕ) : Type 0 where
 counted-fine : (r : Report) (b : List ℕ) → reportBytes ≤ length b → Numbers (r .mean) → Fine (counted r) b
 counted-fine r b l n = by (eqb (r .taken) (r .count))
   where
-    by : (t : Bool) → Fine (cond t (last r) (taken r)) b
+    by : (t : Bool) → Fine (cond t (last r) (further r)) b
     by true = record { writable = omega arith; tellable = n; stopping = tt }
     by false = record { writable = (omega arith, n); tellable = tt; stopping = tt }
 
@@ -116,9 +106,9 @@ module _ (r : Report) (b recording text : List ℕ) (v : ℕ) (l : reportBytes �
 pub in-fine : (b recording : List ℕ) → Fine (additionIn b recording) b
 in-fine b recording = by (stateless b) refl
   where
-    by : (t : Bool) → stateless b ≡ t → Fine (cond t none (additionTo (reportIn b) recording (textIn b) (indexIn b))) b
+    by : (t : Bool) → stateless b ≡ t → Fine (cond t none (additionTo (reportIn b) recording (reportText b) (indexIn b))) b
     by true e = record { writable = tt; tellable = tt; stopping = tt }
-    by false e = addition-fine (reportIn b) b recording (textIn b) (indexIn b) (held-of b e .long-enough)
+    by false e = addition-fine (reportIn b) b recording (reportText b) (indexIn b) (held-of b e .long-enough)
 
 pub fine-of : (b recording : List ℕ) (a : Addition) → a ≡ additionIn b recording → Fine a b
 fine-of b recording a e = subst (λ (x : Addition). Fine x b) (sym e) (in-fine b recording)

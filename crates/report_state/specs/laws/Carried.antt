@@ -1,21 +1,21 @@
 -- The bytes carry the report under way: read back, they are what the fold holds.
-use Prim.Native.Nat.{ℕ, suc, _+_, _*_, _/_, _%_, _≤_, _<_}
+use Prim.Native.Nat.{ℕ, _+_, _*_, _/_, _%_, _≤_, _<_}
 use native.Mathlib.Omega.{arith}
 use native.Mathlib.Nat.{div-add-mod'}
 use mathlib.Core.Path.{_≡_, refl, sym, ap, _∙_, subst}
-use mathlib.Core.Bool.{Bool, true, false, cond, _||_}
+use mathlib.Core.Bool.{Bool, true, false, cond}
 use mathlib.Core.List.{List, [], _∷_, _++_}
-use lib.Dec.{T, eqb, leb, ltb, lit≤}
-use lib.ListN.{length, getD, take, drop, length-append, length-drop}
+use lib.Dec.{T, eqb}
+use lib.ListN.{length, getD, take, drop}
 use lib.Seq.{take-at}
-use lib.Ieee.{Float, binary64, toBits, ofBits, fits, nanBits, isNan, top}
+use lib.Ieee.{Float, binary64, toBits, ofBits, fits, isNan}
 use lib.Ieee.Bits.{ofBits-toBits, toBits-lt, nanBits-is}
-use borrow.Author.Tests.{ltb-false, eqb-false, lt-leb}
+use borrow.Author.Tests.{ltb-false, lt-leb}
 use Rattle.number.specs.Axis.{axis}
-use Rattle.number.specs.Words.{word, wordBytes}
+use Rattle.number.specs.Words.{word, wordsBytes}
 use Rattle.number.specs.laws.Words.{word-front}
 use Rattle.number.specs.laws.Boolean.{none-right, or-none}
-use Rattle.refusal.specs.Outcome.{Outcome, result, refused, NoneMeets}
+use Rattle.refusal.specs.Outcome.{NoneMeets}
 use Rattle.recording.specs.laws.Outcome.{none-append}
 use Rattle.grammar.specs.Size.{mostBytes}
 use Rattle.text.specs.Told.{textLines}
@@ -24,19 +24,18 @@ use Rattle.degree.specs.Degree.{Reach, reachOf}
 use Rattle.degree.specs.inner.Reach.{reachAt}
 use Rattle.degree.specs.laws.Nearest.{on-axis}
 use Rattle.degree.specs.laws.Reach.{reach-index}
-use Rattle.mean.specs.inner.Running.{running, Fitting}
 use Rattle.mean.specs.laws.Number.{running-fitting}
 use Rattle.targets.specs.Target.{offAxis}
 use Rattle.report.specs.Report.{Naming, mostBatches, reportBytes, namingLines, distancesIn, Stage, closed, underWay}
-use Rattle.report.specs.inner.Running.{runningOf, faulty, Sound, Addition, none, addedTo, additionTo}
+use Rattle.report.specs.inner.Running.{runningOf, Sound, none, addedTo, additionTo}
 use Rattle.report.specs.inner.Naming.{targetLines}
 use Rattle.report.specs.laws.Running.{sound-not}
 use Rattle.report.specs.laws.Steps.{AllSmall, running-sound}
 use Rattle.report.specs.declared.Report.{Report}
-use Rattle.report_state.specs.State.{signature, low, high, long, figureWords, wordsBytes, reportIn, indexIn, sizeIn, textIn, stateless, closedBytes, additionIn}
+use Rattle.report_state.specs.State.{reportSignature, low, high, long, figureWords, reportIn, indexIn, sizeIn, reportText, stateless, closedBytes, additionIn}
 use Rattle.report_state.specs.inner.Kept.{Held}
 use Rattle.report_state.specs.laws.Words.{Words, word-in}
-use Rattle.report_state.specs.laws.Read.{same-mean, same-report, too-short, other-head, held-not, none-in}
+use Rattle.report_state.specs.laws.Read.{same-mean, same-report, other-head, held-not, none-in}
 
 -- ---- the words of a state
 
@@ -78,7 +77,7 @@ module _ (r : Report) (v n : ℕ) (w : Wordly r v n) (rest b : List ℕ) (e : b 
   at : (i : ℕ) → i < 13 → word b (4 * i) ≡ getD (stateWords r v n) i 0
   at i h = ap (λ (c : List ℕ). word c (4 * i)) e ∙ word-in (stateWords r v n) rest i (words-small r v n w) h
 
-  head-back : word b 0 ≡ signature
+  head-back : word b 0 ≡ reportSignature
   head-back = at 0 (omega arith)
 
   count-back : word b 4 ≡ r .count
@@ -135,7 +134,7 @@ module _ (r : Report) (v n : ℕ) (w : Wordly r v n) (rest b : List ℕ) (e : b 
     mean-number = nanBits-is binary64 (long b 36) ∙ ap isNan mean-back ∙ m;
   }
 
-pub text-back : (r : Report) (v : ℕ) (text rest b : List ℕ) → Wordly r v (length text) → b ≡ wordsBytes (stateWords r v (length text)) ++ (text ++ rest) → textIn b ≡ text
+pub text-back : (r : Report) (v : ℕ) (text rest b : List ℕ) → Wordly r v (length text) → b ≡ wordsBytes (stateWords r v (length text)) ++ (text ++ rest) → reportText b ≡ text
 text-back r v text rest b w e =
     ap (λ (j : ℕ). take j (drop 52 b)) (size-back r v (length text) w (text ++ rest) b e) ∙ ap (λ (c : List ℕ). take (length text) (drop 52 c)) e
     ∙ take-at text rest (length text) refl
@@ -160,7 +159,7 @@ no-state b h recording = sym (none-in b recording h)
 pub closed-carries : (b : List ℕ) → Carries (closedBytes b) closed
 closed-carries b = no-state (closedBytes b) (sym (other-head (closedBytes b) (λ e. bad (sym (word-front 0 (drop 4 b) (omega arith)) ∙ e))))
   where
-    bad : 0 ≡ signature → ⊥
+    bad : 0 ≡ reportSignature → ⊥
     bad e = omega arith
 
 module _ (b : List ℕ) (n : Naming) (xs : List Reach) (u : Under b n xs) where
@@ -204,8 +203,8 @@ module _ (b : List ℕ) (n : Naming) (xs : List Reach) (u : Under b n xs) where
   pub under-added : (recording : List ℕ) → additionIn b recording ≡ addedTo r (reachOf recording (n .text) (n .target))
   unfolding additionTo
   under-added recording =
-      ap (λ (t : Bool). cond t none (additionTo (reportIn b) recording (textIn b) (indexIn b))) under-held
-      ∙ ap (λ (x : Report). additionTo x recording (textIn b) (indexIn b)) (report-back r (index (n .target)) (length (n .text)) wordly (n .text ++ u .rest) b (u .state))
+      ap (λ (t : Bool). cond t none (additionTo (reportIn b) recording (reportText b) (indexIn b))) under-held
+      ∙ ap (λ (x : Report). additionTo x recording (reportText b) (indexIn b)) (report-back r (index (n .target)) (length (n .text)) wordly (n .text ++ u .rest) b (u .state))
       ∙ ap (λ (t : List ℕ). additionTo r recording t (indexIn b)) (text-back r (index (n .target)) (n .text) (u .rest) b wordly (u .state))
       ∙ ap (additionTo r recording (n .text)) (index-back r (index (n .target)) (length (n .text)) wordly (n .text ++ u .rest) b (u .state))
       ∙ ap (λ (t : Bool). cond t none (addedTo r (reachAt recording (n .text) (index (n .target))))) (or-none (lt-leb axis (index (n .target)) (on-axis (n .target) on .0)) (sound-not r sound))

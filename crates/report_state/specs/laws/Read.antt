@@ -1,7 +1,7 @@
 -- What the bytes hold, part by part.
 use Prim.Native.Nat.{ℕ, _+_, _-_, _%_, _≤_, _<_}
 use native.Mathlib.Omega.{arith}
-use mathlib.Core.Path.{_≡_, refl, sym, ap, _∙_}
+use mathlib.Core.Path.{_≡_, sym, ap, _∙_}
 use mathlib.Core.Bool.{Bool, true, false, not, cond, _||_}
 use mathlib.Core.List.{List}
 use lib.Dec.{T, eqb, ltb}
@@ -10,14 +10,14 @@ use lib.Ieee.{Float, binary64, nanBits}
 use lib.Ieee.Bits.{nanBits-above}
 use borrow.Author.Tests.{lt-ltb, le-ltb, ltb-false, eq-eqb, ne-eqb, eqb-true, not-false}
 use Rattle.number.specs.Words.{word}
-use Rattle.number.specs.laws.Boolean.{or-left, or-right, none-left, none-right, clash}
+use Rattle.number.specs.laws.Boolean.{or-left, or-right, none-left, none-right, T-not, or-pass}
 use Rattle.grammar.specs.Size.{mostBytes}
 use Rattle.mean.specs.declared.Mean.{Mean}
 use Rattle.report.specs.Report.{reportBytes}
 use Rattle.report.specs.inner.Running.{Addition, none, additionTo}
 use Rattle.report.specs.declared.Report.{Report}
 use Rattle.report_state.specs.inner.Kept.{Held}
-use Rattle.report_state.specs.State.{signature, long, reportIn, indexIn, sizeIn, textIn, stateless, additionIn}
+use Rattle.report_state.specs.State.{reportSignature, long, reportIn, indexIn, sizeIn, reportText, stateless, additionIn}
 
 pub same-mean : (s s′ m m′ : Float) → s ≡ s′ → m ≡ m′ → _≡_ {A = Mean} (record { sum = s; mean = m }) (record { sum = s′; mean = m′ })
 same-mean s s′ m m′ p q = λ i. record { sum = p i; mean = q i }
@@ -33,7 +33,7 @@ module _ (b : List ℕ) where
   short = ltb (length b) reportBytes
 
   abbrev other : Bool
-  other = not (eqb (word b 0) signature)
+  other = not (eqb (word b 0) reportSignature)
 
   abbrev large : Bool
   large = ltb mostBytes (sizeIn b)
@@ -47,8 +47,8 @@ module _ (b : List ℕ) where
   pub too-short : length b < reportBytes → true ≡ stateless b
   too-short h = sym (or-left short _ (lt-ltb _ _ h))
 
-  pub other-head : (word b 0 ≡ signature → ⊥) → true ≡ stateless b
-  other-head h = sym (or-right short _ (or-left other _ (ap not (ne-eqb (word b 0) signature h))))
+  pub other-head : (word b 0 ≡ reportSignature → ⊥) → true ≡ stateless b
+  other-head h = sym (or-right short _ (or-left other _ (ap not (ne-eqb (word b 0) reportSignature h))))
 
   pub too-large : mostBytes < sizeIn b → true ≡ stateless b
   too-large h = sym (or-right short _ (or-right other _ (or-left large _ (lt-ltb _ _ h))))
@@ -56,14 +56,11 @@ module _ (b : List ℕ) where
   pub sum-nan : no-sum ≡ true → true ≡ stateless b
   sum-nan h = sym (or-right short _ (or-right other _ (or-right large _ (or-left no-sum no-mean h))))
 
-  pub mean-nan : reportBytes ≤ length b → word b 0 ≡ signature → sizeIn b ≤ mostBytes → no-sum ≡ false → no-mean ≡ stateless b
+  pub mean-nan : reportBytes ≤ length b → word b 0 ≡ reportSignature → sizeIn b ≤ mostBytes → no-sum ≡ false → no-mean ≡ stateless b
   mean-nan h e l n =
       let f : (short || (other || (large || (no-sum || no-mean)))) ≡ no-mean =
-      pass short _ (le-ltb _ _ h) ∙ pass other _ (ap not (eq-eqb (word b 0) signature e)) ∙ pass large _ (le-ltb _ _ l) ∙ pass no-sum no-mean n in
+      or-pass short _ (le-ltb _ _ h) ∙ or-pass other _ (ap not (eq-eqb (word b 0) reportSignature e)) ∙ or-pass large _ (le-ltb _ _ l) ∙ or-pass no-sum no-mean n in
       sym f
-    where
-      pass : (x y : Bool) → x ≡ false → (x || y) ≡ y
-      pass x y h = ap (λ (t : Bool). t || y) h
 
   pub held-of : stateless b ≡ false → Held b
   held-of h =
@@ -72,7 +69,7 @@ module _ (b : List ℕ) where
       let t = none-right large _ q in
       record {
         long-enough = ltb-false (length b) reportBytes (none-left short _ h);
-        head = eqb-true (word b 0) signature (not-false (eqb (word b 0) signature) (none-left other _ r));
+        head = eqb-true (word b 0) reportSignature (not-false (eqb (word b 0) reportSignature) (none-left other _ r));
         size = ltb-false mostBytes (sizeIn b) (none-left large _ q);
         sum-number = none-left no-sum no-mean t;
         mean-number = none-right no-sum no-mean t;
@@ -85,13 +82,13 @@ module _ (b : List ℕ) where
 
   module _ (recording : List ℕ) where
     pub none-in : stateless b ≡ true → none ≡ additionIn b recording
-    none-in h = sym (ap (λ (t : Bool). cond t none (additionTo (reportIn b) recording (textIn b) (indexIn b))) h)
+    none-in h = sym (ap (λ (t : Bool). cond t none (additionTo (reportIn b) recording (reportText b) (indexIn b))) h)
 
-    pub some-in : stateless b ≡ false → (r : Report) (text : List ℕ) (v : ℕ) → r ≡ reportIn b → text ≡ textIn b → v ≡ indexIn b → (a : Addition)
+    pub some-in : stateless b ≡ false → (r : Report) (text : List ℕ) (v : ℕ) → r ≡ reportIn b → text ≡ reportText b → v ≡ indexIn b → (a : Addition)
         → a ≡ additionTo r recording text v → a ≡ additionIn b recording
     some-in h r text v e t i a q =
         q ∙ ap (λ (x : Report). additionTo x recording text v) e ∙ ap (λ (x : List ℕ). additionTo (reportIn b) recording x v) t
-        ∙ ap (additionTo (reportIn b) recording (textIn b)) i ∙ sym (ap (λ (s : Bool). cond s none (additionTo (reportIn b) recording (textIn b) (indexIn b))) h)
+        ∙ ap (additionTo (reportIn b) recording (reportText b)) i ∙ sym (ap (λ (s : Bool). cond s none (additionTo (reportIn b) recording (reportText b) (indexIn b))) h)
 
 -- ---- the bits of a number
 
@@ -99,14 +96,10 @@ pub nan-test : (n : ℕ) → ltb 9218868437227405312 (n % 9223372036854775808) �
 nan-test n = sym (nanBits-above binary64 n)
 
 pub number-bits : (n m : ℕ) → n ≡ m → nanBits binary64 m ≡ false → T (not (nanBits binary64 n))
-number-bits n m e h = by (nanBits binary64 n) (ap (nanBits binary64) e ∙ h)
-  where
-    by : (b : Bool) → b ≡ false → T (not b)
-    by true h = absurd (clash refl h)
-    by false h = tt
+number-bits n m e h = T-not (nanBits binary64 n) (ap (nanBits binary64) e ∙ h)
 
 -- the part of the bytes that holds the text
-pub text-part : (b : List ℕ) (n : ℕ) → n ≡ sizeIn b → take (52 + n - 52) (drop 52 b) ≡ textIn b
+pub text-part : (b : List ℕ) (n : ℕ) → n ≡ sizeIn b → take (52 + n - 52) (drop 52 b) ≡ reportText b
 text-part b n e =
     let k : 52 + n - 52 ≡ n = omega arith in
     ap (λ (j : ℕ). take j (drop 52 b)) (k ∙ e)

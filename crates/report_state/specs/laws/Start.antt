@@ -3,14 +3,14 @@ use Prim.Native.Nat.{ℕ, _+_, _≤_, _<_}
 use native.Mathlib.Omega.{arith}
 use mathlib.Core.Path.{_≡_, refl, sym, ap, _∙_, subst}
 use mathlib.Core.Bool.{Bool, true, false, cond}
-use mathlib.Core.List.{List, [], _∷_, _++_}
+use mathlib.Core.List.{List, [], _++_}
 use lib.Dec.{eqb, ltb}
 use lib.ListN.{length, take, drop, length-append}
 use borrow.Author.Tests.{ltb-false, lt-ltb}
-use Rattle.number.specs.Words.{wordBytes}
-use Rattle.number.specs.laws.Words.{put-behind}
+use Rattle.number.specs.Words.{wordBytes, wordsBytes}
+use Rattle.number.specs.laws.Words.{put-behind, length-row}
 use Rattle.number.specs.laws.Boolean.{none-right, clash}
-use Rattle.refusal.specs.Outcome.{Outcome, result, refused, judged, NoneMeets}
+use Rattle.refusal.specs.Outcome.{Outcome, result, refused}
 use Rattle.refusal.specs.Numbers.{numberOf, placeOf}
 use Rattle.refusal.specs.declared.Refusal.{Refusal}
 use Rattle.recording.specs.laws.Outcome.{result-none, none-append}
@@ -21,7 +21,7 @@ use Rattle.degree.specs.inner.Reach.{mapped}
 use Rattle.degree.specs.laws.Call.{judged-mapped}
 use Rattle.reply.specs.Reply.{half, packed}
 use Rattle.reply.specs.laws.Place.{plain-place}
-use Rattle.mean.specs.inner.Running.{Numbers, start}
+use Rattle.mean.specs.inner.Running.{Numbers}
 use Rattle.mean.specs.laws.Number.{running-numbers}
 use Rattle.report.specs.Report.{Naming, reportBytes, namingLines, named, Answer, taken}
 use Rattle.report.specs.inner.Running.{runningOf, namedOf}
@@ -29,10 +29,9 @@ use Rattle.report.specs.inner.Naming.{targetLines}
 use Rattle.report.specs.declared.Named.{Named}
 use Rattle.report.specs.declared.Named.the-variants as variant
 use Rattle.report.specs.declared.Report.{Report}
-use Rattle.report_state.specs.State.{figureWords, wordsBytes, namedBytes, closedBytes, startAfter}
+use Rattle.report_state.specs.State.{figureWords, namedBytes, closedBytes, namingAfter}
 use Rattle.report_state.specs.Call.{answerTold, namedIndex, Starts}
 use Rattle.report_state.specs.inner.Kept.{endedBytes}
-use Rattle.report_state.specs.laws.Words.{words-length}
 
 -- ---- the bytes, put one behind the other
 
@@ -43,7 +42,7 @@ begun n v text b b1 b2 b3 b4 words w p q r s =
     let heads : List ℕ = wordsBytes (figureWords (runningOf n [])) in
     let place : List ℕ = wordBytes v in
     let size : List ℕ = wordBytes (length text) in
-    let l : length heads ≡ 44 = words-length (figureWords (runningOf n [])) in
+    let l : length heads ≡ 44 = length-row (figureWords (runningOf n [])) in
     let lv : length (heads ++ place) ≡ 48 = length-append heads place ∙ ap (λ (k : ℕ). k + 4) l in
     let ln : length (heads ++ place ++ size) ≡ 52 = length-append (heads ++ place) size ∙ ap (λ (k : ℕ). k + 4) lv in
     let e1 : b1 ≡ heads ++ drop 44 b = p ∙ ap (λ (ws : List ℕ). wordsBytes ws ++ drop 44 b) w in
@@ -81,7 +80,7 @@ module _ (n : Naming) (old : List ℕ) where
         let o : namedIndex n room ≡ result v = sym h ∙ ap namedOf e in
         record {
           returned = sym (ap (λ (a : Outcome Answer). packed (answerTold a)) (named-mapped ∙ ap (mapped (λ (v : ℕ). taken)) o));
-          state = p ∙ sym (ap (λ (a : Outcome ℕ). startAfter n a old) o);
+          state = p ∙ sym (ap (λ (a : Outcome ℕ). namingAfter n a old) o);
         }
 
     pub start-refused : (y : Refusal) (r : ℕ) (new : List ℕ) → x ≡ variant.Refused y → r ≡ packed (refused (numberOf y) (placeOf y)) → new ≡ endedBytes old → Starts n old r new
@@ -89,14 +88,14 @@ module _ (n : Naming) (old : List ℕ) where
         let o : namedIndex n room ≡ refused (numberOf y) (placeOf y) = sym h ∙ ap namedOf e in
         record {
           returned = q ∙ sym (ap (λ (a : Outcome Answer). packed (answerTold a)) (named-mapped ∙ ap (mapped (λ (v : ℕ). taken)) o));
-          state = p ∙ sym (ap (λ (a : Outcome ℕ). startAfter n a old) o);
+          state = p ∙ sym (ap (λ (a : Outcome ℕ). namingAfter n a old) o);
         }
 
   -- bytes that are too short stay
-  pub start-short : length old < reportBytes → startAfter n (namedIndex n room) old ≡ old
+  pub start-short : length old < reportBytes → namingAfter n (namedIndex n room) old ≡ old
   start-short h = by (namedIndex n room) refl
     where
-      by : (o : Outcome ℕ) → namedIndex n room ≡ o → startAfter n o old ≡ old
+      by : (o : Outcome ℕ) → namedIndex n room ≡ o → namingAfter n o old ≡ old
       by (result v) e =
           let k = result-none (namingLines n room) (index (n .target)) v e .0 in
           let m = none-append (textLines (n .text)) (targetLines (n .target) room) (k .1) in
@@ -104,8 +103,8 @@ module _ (n : Naming) (old : List ℕ) where
       by (refused k p) e = ap (λ (t : Bool). cond t old (closedBytes old)) (lt-ltb room reportBytes h)
 
   -- a refusal changes no byte behind the first four
-  pub start-ends : (k p : ℕ) → namedIndex n room ≡ refused k p → drop 4 (startAfter n (namedIndex n room) old) ≡ drop 4 old
-  start-ends k p e = ap (λ (o : Outcome ℕ). drop 4 (startAfter n o old)) e ∙ by (ltb room reportBytes)
+  pub start-ends : (k p : ℕ) → namedIndex n room ≡ refused k p → drop 4 (namingAfter n (namedIndex n room) old) ≡ drop 4 old
+  start-ends k p e = ap (λ (o : Outcome ℕ). drop 4 (namingAfter n o old)) e ∙ by (ltb room reportBytes)
     where
       by : (t : Bool) → drop 4 (cond t old (closedBytes old)) ≡ drop 4 old
       by true = refl

@@ -3,21 +3,16 @@ use Prim.Native.Nat.{ℕ, zero, suc, _+_, _*_, _≤_, _<_}
 use native.Mathlib.Omega.{arith}
 use native.Mathlib.Numerals.{add-one}
 use mathlib.Core.Path.{_≡_, refl, sym, ap, _∙_}
-use mathlib.Core.List.{List, [], _∷_, _++_, append-assoc}
-use lib.ListN.{length, getD, take, drop, length-append}
+use mathlib.Core.List.{List, [], _∷_, _++_}
+use lib.ListN.{length, getD, take, drop}
 use lib.Seq.{take-suc, length-take-le, take-all}
-use Rattle.number.specs.Words.{word, wordBytes}
-use Rattle.number.specs.laws.Words.{word-front, word-behind, put-behind}
-use Rattle.report_state.specs.State.{wordsBytes}
+use Rattle.number.specs.Words.{word, wordBytes, wordsBytes}
+use Rattle.number.specs.laws.Words.{word-front, word-behind, put-behind, length-row}
 
 -- each word fits in 32 bits
 abbrev pub Words : List ℕ → Type 0
 Words [] = Unit {0}
 Words (w ∷ ws) = (w < 4294967296) × Words ws
-
-pub words-length : (ws : List ℕ) → length (wordsBytes ws) ≡ 4 * length ws
-words-length [] = refl
-words-length (w ∷ ws) = let h = words-length ws in omega arith
 
 words-append : (ws vs : List ℕ) → wordsBytes (ws ++ vs) ≡ wordsBytes ws ++ wordsBytes vs
 words-append [] vs = refl
@@ -33,7 +28,7 @@ pub put-turn : (ws before out next : List ℕ) (i : ℕ) → i < length ws → P
     → next ≡ take (4 * i) out ++ wordBytes (getD ws i 0) ++ drop (4 * i + 4) out → PutTo ws before (i + 1) next
 put-turn ws before out next i h e n =
     let l : length (take i ws) ≡ i = length-take-le i ws (omega arith) in
-    let k = words-length (take i ws) in
+    let k = length-row (take i ws) in
     let size : length (wordsBytes (take i ws)) ≡ 4 * i = omega arith in
     let four : 4 * i + 4 ≡ 4 * (i + 1) = omega arith in
     let one : wordsBytes (getD ws i 0 ∷ []) ≡ wordBytes (getD ws i 0) = refl in

@@ -1,9 +1,10 @@
 -- The invariant: the sum so far is the reply to as many turns.
-use Prim.Native.Nat.{ℕ, _-_, _≤_, _<_}
+use Prim.Native.Nat.{_-_, _≤_}
 use mathlib.Core.Path.{_≡_, refl, ap, _∙_}
 use mathlib.Core.Bool.{false}
 use native.Mathlib.Omega.{arith}
 use lib.ListN.{length}
+use Rattle.number.specs.laws.Order.{positive}
 use Rattle.runs.specs.Set.{member, slotWords, sharedWords}
 use Rattle.runset_c.specs.Bytes.{chosen, repeatReply}
 use Rattle.runset_c.proofs.Repetition.{no-turn, over-reply, empty-reply, one-more}
@@ -11,9 +12,6 @@ use native.Mathlib.Nat.{mod-lt}
 use borrow.Author.Needs.{needs}
 use Rattle.runset_c.proofs.repeated.Statement.{statement}
 use Rattle.runset_c.proofs.repeated.Tie as tie
-
-positive : (n : ℕ) → (n ≡ 0 → ⊥) → 0 < n
-positive n h = omega arith
 
 abbrev Inv-loop : tie.InvT-loop
 Inv-loop op a b c times shared₀ set₀ total₀ i₀ shared set total i = (i ≤ times) × (total ≡ repeatReply false (chosen op (member a) (member b) (member c)) i) × (length shared ≡ sharedWords) × (length set ≡ slotWords)

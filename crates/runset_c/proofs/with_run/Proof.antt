@@ -1,6 +1,4 @@
 -- The set or one run, where the run ends on the axis.
-use mathlib.Core.Path.{sym, _∙_}
-use native.Mathlib.Omega.{arith}
 use Rattle.runset_c.proofs.Loading.{extended-over, extended-copy, off-axis}
 use borrow.Author.Needs.{needs}
 use Rattle.runset_c.proofs.with_run.Statement.{statement}

@@ -8,11 +8,12 @@ use lib.ListN.{length}
 use Rattle.number.specs.Words.{word}
 use Rattle.refusal.specs.Outcome.{result}
 use Rattle.recording.specs.Recording.{rawAt, readings, Accepted}
+use Rattle.recording.specs.laws.Record.{length-readings}
 use Rattle.sheet.specs.Sheet.{sheetOf, mostLines, AcceptedSheet}
 use Rattle.sheet.specs.Finding.{allMet, brokenAt}
 use Rattle.sheet.specs.inner.Found.{finding}
 use Rattle.sheet.specs.inner.Firsts.{Firsts, Earliest}
-use Rattle.sheet.specs.laws.Firsts.{time-at, count-readings, shown-broken, shown-met}
+use Rattle.sheet.specs.laws.Firsts.{time-at, shown-broken, shown-met}
 use Rattle.sheet.specs.laws.Sheet.{lines-few}
 use Rattle.sheet.proofs.find.Statement.{statement}
 use Rattle.sheet.proofs.find.Tie as tie
@@ -20,15 +21,15 @@ use Rattle.sheet.proofs.find.Tie as tie
 module _ (bytes : List ℕ) (accepted : Accepted bytes) (n : ℕ) (count : n ≡ length bytes / 16) (sheet : List ℕ) (fine : AcceptedSheet sheet) (table : List ℕ) (firsts : Firsts (readings bytes) table)
     (index line : ℕ) (e : Earliest table n sheet (length sheet / 2) index line) where
   shown : Earliest table (length (readings bytes)) sheet (length sheet / 2) index line
-  shown = subst (λ (k : ℕ). Earliest table k sheet (length sheet / 2) index line) (count ∙ sym (count-readings bytes)) e
+  shown = subst (λ (k : ℕ). Earliest table k sheet (length sheet / 2) index line) (count ∙ sym (length-readings bytes)) e
 
   met : n ≤ index → result allMet ≡ result (finding (sheetOf sheet) (readings bytes))
-  met h = ap result (shown-met (readings bytes) table firsts sheet fine index line shown (omega (arith, count-readings bytes)))
+  met h = ap result (shown-met (readings bytes) table firsts sheet fine index line shown (omega (arith, length-readings bytes)))
 
   broken : (time : ℕ) → index < n → time ≡ word (rawAt bytes index) 0 → result (brokenAt time line) ≡ result (finding (sheetOf sheet) (readings bytes))
   broken time h t =
       ap result (ap (λ (u : ℕ). brokenAt u line) (t ∙ time-at bytes accepted index (omega arith))
-      ∙ shown-broken (readings bytes) table firsts sheet fine index line shown (omega (arith, count-readings bytes)))
+      ∙ shown-broken (readings bytes) table firsts sheet fine index line shown (omega (arith, length-readings bytes)))
 
   few : index < n → line < mostLines
   few h = let l = e .there h in let m = lines-few sheet fine in omega arith

@@ -6,8 +6,9 @@ use Prim.Native.Nat.{ℕ, suc, _-_, _/_, _≤_, _<_}
 use native.Mathlib.Omega.{arith}
 use lib.ListN.{length, getD}
 use Rattle.recording.specs.Recording.{rawAt, readings}
+use Rattle.recording.specs.laws.Record.{length-readings}
 use Rattle.sheet.specs.inner.Firsts.{FirstsFrom}
-use Rattle.sheet.specs.laws.Firsts.{pigment-at, pigment-few, count-readings, firsts-start, firsts-turn, firsts-end}
+use Rattle.sheet.specs.laws.Firsts.{pigment-at, pigment-few, firsts-start, firsts-turn, firsts-end}
 use Rattle.sheet.proofs.first_additions.Statement.{statement}
 use Rattle.sheet.proofs.first_additions.Tie as tie
 
@@ -20,7 +21,7 @@ abbrev μ-loop : tie.MeasureT-loop
 loop-holds : tie.Need-loop-holds Inv-loop μ-loop
 loop-holds c =
     let s = c .before in
-    (firsts-start (readings (s .args .rec .now)) (s .args .n) (s .pre .1 ∙ sym (count-readings (s .args .rec .now))), omega arith)
+    (firsts-start (readings (s .args .rec .now)) (s .args .n) (s .pre .1 ∙ sym (length-readings (s .args .rec .now))), omega arith)
 
 sub-i : tie.Need-sub-i Inv-loop μ-loop
 sub-i c = search needs
@@ -51,7 +52,7 @@ loop-again c =
     let i : ℕ = h .loop .i - 1 in
     let e = s .pre .1 in
     let inside : i < length rec / 16 = omega arith in
-    let l = count-readings rec in
+    let l = length-readings rec in
     let is : c .wide .result ≡ getD (rawAt rec i) 14 0 = c .wide .ensures .0 ∙ c .before .byte-in .ensures in
     let up : suc i ≡ h .loop .i = omega arith in (
       firsts-turn (readings rec) i (h .loop .first) (c .wide .result)

@@ -1,27 +1,18 @@
 -- `sheet::order` meets its contract. A refusal of the recording stands; an accepted one is judged by the lines that follow. Assumes nothing.
 use borrow.Author.Needs.{needs}
-use mathlib.Core.Path.{_≡_, sym, ap, _∙_}
-use mathlib.Core.List.{List}
-use Prim.Native.Nat.{ℕ, _/_}
+use mathlib.Core.Path.{sym, ap, _∙_}
+use Prim.Native.Nat.{_/_}
 use lib.ListN.{length}
-use Rattle.refusal.specs.Outcome.{judged}
 use Rattle.refusal.specs.Numbers.{numberOf, placeOf}
 use Rattle.recording.specs.Output.{checkOutcome}
-use Rattle.recording.specs.Recording.{readings, recordingLines, Accepted}
-use Rattle.recording.specs.laws.Outcome.{judged-pass, result-none, refusal-stands}
-use Rattle.recording.specs.declared.Checked.{Checked}
-use Rattle.recording.specs.declared.Checked.the-variants as checked
+use Rattle.recording.specs.Recording.{readings, recordingLines}
+use Rattle.recording.specs.laws.Outcome.{judged-pass, refusal-stands}
+use Rattle.recording.specs.laws.Acceptance.{check-accepts}
 use Rattle.sheet.specs.Sheet.{sheetOf}
 use Rattle.sheet.specs.inner.Found.{finding}
 use Rattle.sheet.specs.Call.{sheetLines, orderOf}
 use Rattle.sheet.proofs.order.Statement.{statement}
 use Rattle.sheet.proofs.order.Tie as tie
-
-accepted : (bytes : List ℕ) (r : Checked) (n : ℕ) → checkOutcome r ≡ judged (recordingLines bytes) (length bytes / 16) → r ≡ checked.Records n
-    → Accepted bytes × (n ≡ length bytes / 16)
-accepted bytes r n h e =
-    let k = result-none (recordingLines bytes) (length bytes / 16) n (sym h ∙ ap checkOutcome e) in
-    (k .0, sym (k .1))
 
 check-requires : tie.Need-check-requires
 check-requires c κs = search needs
@@ -33,7 +24,7 @@ in-accepted-requires : tie.Need-in-accepted-requires
 in-accepted-requires c κs =
     let t = c .before .before .before in
     let told = c .before .checked .given in
-    accepted (t .before .before .before .args .rec .now) (t .check .result) (told .0 .0) (t .check .ensures) (told .1)
+    check-accepts (t .before .before .before .args .rec .now) (t .check .result) (told .0 .0) (t .check .ensures) (told .1)
 
 enum-known-checked-2 : tie.Need-enum-known-checked-2
 enum-known-checked-2 c = search needs
@@ -46,7 +37,7 @@ returns c =
     let told = c .before .before .checked .given in
     c .in-accepted .ensures
     ∙ sym (judged-pass (recordingLines (a .rec .now)) (sheetLines (a .rec .now) (a .sheet .now)) (finding (sheetOf (a .sheet .now)) (readings (a .rec .now)))
-    (accepted (a .rec .now) (t .check .result) (told .0 .0) (t .check .ensures) (told .1) .0))
+    (check-accepts (a .rec .now) (t .check .result) (told .0 .0) (t .check .ensures) (told .1) .0))
 
 returns-2 : tie.Need-returns-2
 unfolding orderOf

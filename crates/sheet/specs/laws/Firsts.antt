@@ -7,7 +7,7 @@ use mathlib.Core.Bool.{true}
 use mathlib.Core.Logic.{_⊎_, inl, inr, ⊎-elim}
 use mathlib.Core.List.{List, [], _∷_}
 use lib.Dec.{leb}
-use lib.ListN.{length, getD, set, replicate, length-set, length-map, List·getD-map, length-replicate, getD-replicate}
+use lib.ListN.{length, getD, set, replicate, length-set, List·getD-map, length-replicate, getD-replicate}
 use lib.Seq.{getD-set-same, getD-set-other}
 use borrow.Author.Tests.{eq-eqb, ne-eqb, leb-true, le-leb}
 use Rattle.number.specs.Words.{word, signed, offsetBinary}
@@ -54,9 +54,6 @@ module _ (bytes : List ℕ) (accepted : Accepted bytes) (i : ℕ) (h : i < lengt
   pigment-few =
       let l = length-records bytes in
       pigment-most (rawAt bytes i) (ap fields (sym (getD-chunks (length bytes / 16) bytes i h)) ∙ good-fields (records bytes) 0 (accepted-sound bytes accepted .good) i (omega arith))
-
-pub count-readings : (bytes : List ℕ) → length (readings bytes) ≡ length bytes / 16
-count-readings bytes = length-map (records bytes) reading ∙ length-records bytes
 
 -- ---- filling it
 

@@ -11,6 +11,7 @@ use lib.Seq.{getD-drop, drop-cons}
 use lib.Dec.{eqb, ltb}
 use borrow.Author.Tests.{eqb-false, ltb-false}
 use Rattle.number.specs.laws.Boolean.{or-left, none-left, none-right}
+use Rattle.number.specs.laws.Order.{positive}
 use Rattle.recording.specs.Condition.{someOf}
 use Rattle.recording.specs.Recording.{mostPigments}
 use Rattle.sheet.specs.Sheet.{precedences, sheetOf, mostLines, noPigment, AcceptedSheet}
@@ -69,11 +70,7 @@ pub record IsPigment (k : ℕ) : Type 0 where
 pigment-is : (k : ℕ) → noPigment k ≡ false → IsPigment k
 pigment-is k e =
     let z = eqb-false k 0 (none-left (eqb k 0) (ltb mostPigments k) e) in
-    record { some = some k z; most = ltb-false mostPigments k (none-right (eqb k 0) (ltb mostPigments k) e) }
-  where
-    some : (k : ℕ) → (k ≡ 0 → ⊥) → 0 < k
-    some zero z = absurd (z refl)
-    some (suc k) z = omega arith
+    record { some = positive k z; most = ltb-false mostPigments k (none-right (eqb k 0) (ltb mostPigments k) e) }
 
 none-of : (s : List ℕ) → someOf noPigment s ≡ false → (i : ℕ) → i < length s → IsPigment (getD s i 0)
 none-of [] e i h = absurd (omega arith)

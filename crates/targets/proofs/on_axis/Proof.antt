@@ -13,6 +13,7 @@ use mir.ValLaws.{toZ-ofZ}
 use Rattle.number.specs.Axis.{axis, whole, origin}
 use Rattle.targets.specs.Target.{offAxis}
 use Rattle.number.specs.Axis.{lowest, highest}
+use Rattle.number.specs.laws.Boolean.{or-right}
 use Rattle.targets.specs.laws.Target.{sub-above, sub-below}
 use Rattle.targets.proofs.on_axis.Statement.{statement}
 use Rattle.targets.proofs.on_axis.Tie as tie
@@ -36,15 +37,11 @@ module _ (z : ℤ) (h : SFits w64 z) where
   same : toZ w64 (ofZ w64 z) ≡ z
   same = toZ-ofZ w64 z h
 
-  or-right : (b : Bool) → (b || true) ≡ true
-  or-right true = refl
-  or-right false = refl
-
   under : ltZ (toZ w64 (ofZ w64 z)) lowest ≡ true → offAxis z ≡ true
   under t = ap (λ (b : Bool). b || ltZ highest z) (ap (λ (y : ℤ). ltZ y lowest) (sym same) ∙ t)
 
   past : ltZ highest (toZ w64 (ofZ w64 z)) ≡ true → offAxis z ≡ true
-  past t = ap (λ (b : Bool). ltZ z lowest || b) (ap (λ (y : ℤ). ltZ highest y) (sym same) ∙ t) ∙ or-right (ltZ z lowest)
+  past t = ap (λ (b : Bool). ltZ z lowest || b) (ap (λ (y : ℤ). ltZ highest y) (sym same) ∙ t) ∙ or-right (ltZ z lowest) true refl
 
   module _ (lo : ltZ (toZ w64 (ofZ w64 z)) lowest ≡ false) (hi : ltZ highest (toZ w64 (ofZ w64 z)) ≡ false) where
     lo′ : ltZ z lowest ≡ false

@@ -2,10 +2,10 @@
 use mathlib.Core.Path.{_≡_, refl, sym, ap, ap₂, subst, _∙_}
 use mathlib.Core.Bool.{Bool, true, false, cond, not, _&&_, _||_, or-false, or-true, or-assoc}
 use mathlib.Core.List.{List, [], _∷_, _++_}
-use Prim.Native.Nat.{ℕ, zero, suc, _+_, _-_, _*_, _≤_, _<_}
+use Prim.Native.Nat.{ℕ, zero, suc, _+_, _-_, _≤_, _<_}
 use native.Mathlib.Omega.{arith}
 use native.Mathlib.Numerals.{add-one}
-use lib.Dec.{eqb, ltb, leb}
+use lib.Dec.{eqb, ltb}
 use lib.ListN.{length, getD, List·getD-append}
 use borrow.Author.Tests.{eqb-true, ltb-true, ltb-false}
 use Rattle.number.specs.laws.Boolean.{and-left, and-right}
@@ -15,8 +15,9 @@ use Rattle.grammar.specs.Size.{temporal, hasListed, nodes}
 use Rattle.grammar.specs.Classes.{within}
 use Rattle.grammar.specs.inner.Kinds.{HIGH, LAG, NOT, NEXT, FINALLY, GLOBALLY, OR, AND, UNTIL, WEAK-UNTIL}
 use Rattle.grammar.specs.inner.Table.{someRow, someKind, row, leafTexts, unaries, binaries, build, rowAt, tree, treeAt, Falling, unaryFrom, binaryFrom, kinds}
-use Rattle.grammar.specs.inner.Parse.{leafOf, node}
+use Rattle.grammar.specs.inner.Parse.{rowText, node}
 use Rattle.parser.specs.inner.Rows.{Laid, leaf, unary, binary}
+use Rattle.parser.specs.laws.Rows.{laid-above}
 
 -- what holds of each number below n
 abbrev pub Each : ℕ → (ℕ → Type 0) → Type 0
@@ -73,11 +74,6 @@ build-binary : (k a b n : ℕ) (p q : Text) → binaryFrom ≤ k → k < kinds �
 build-binary k a b n p q = binary-kinds (λ j. build (row j a b n) p q ≡ node j p q) refl refl refl refl k
 
 -- THE DECODER gives the tree that the rows hold
-pub above : {T : List ℕ} {b m : ℕ} {t : Text} → Laid T b m t → b < m
-above (leaf l e) = omega arith
-above (unary k a c h e) = let x = above h in omega arith
-above (binary k a c h g e) = let x = above h in let y = above g in omega arith
-
 tree-held : {T : List ℕ} {b m : ℕ} {t : Text} → Laid T b m t → (r f : ℕ) → m ≡ r + 1 → r < f → tree T f r ≡ t
 unfolding tree
 tree-held h r zero e l = absurd (omega arith)
@@ -86,15 +82,15 @@ tree-held {T} (leaf {b} {t} k q) r (suc f) e l =
     ap (λ (y : ℕ). build (rowAt T y) (tree T f (rowAt T y .first)) (tree T f (rowAt T y .second))) x ∙ build-leaf (rowAt T b) _ _ _ _ k ∙ q
 tree-held {T} (unary {b} {m} {p} k a c h q) r (suc f) e l =
     let x : r ≡ m = omega arith in
-    let y = above h in
+    let y = laid-above h in
     ap (λ (z : ℕ). build (rowAt T z) (tree T f (rowAt T z .first)) (tree T f (rowAt T z .second))) x
     ∙ ap (λ (z : Row). build z (tree T f (z .first)) (tree T f (z .second))) q
     ∙ build-unary k (m - 1) 0 0 (tree T f (m - 1)) (tree T f 0) (tree T f (m - 1)) a c
     ∙ ap (λ (z : Text). node k z z) (tree-held h (m - 1) f (omega arith) (omega arith))
 tree-held {T} (binary {b} {m} {n} {p} {q = u} k a c h g q) r (suc f) e l =
     let x : r ≡ n = omega arith in
-    let y = above h in
-    let z = above g in
+    let y = laid-above h in
+    let z = laid-above g in
     ap (λ (z : ℕ). build (rowAt T z) (tree T f (rowAt T z .first)) (tree T f (rowAt T z .second))) x
     ∙ ap (λ (z : Row). build z (tree T f (z .first)) (tree T f (z .second))) q
     ∙ build-binary k (m - 1) (n - 1) 0 (tree T f (m - 1)) (tree T f (n - 1)) a c
@@ -103,7 +99,7 @@ tree-held {T} (binary {b} {m} {n} {p} {q = u} k a c h g q) r (suc f) e l =
 
 pub decoded : {T : List ℕ} {b m : ℕ} {t : Text} → Laid T b m t → treeAt T (m - 1) ≡ t
 unfolding treeAt
-decoded {m = m} h = let x = above h in tree-held h (m - 1) (suc (m - 1)) (omega arith) (omega arith)
+decoded {m = m} h = let x = laid-above h in tree-held h (m - 1) (suc (m - 1)) (omega arith) (omega arith)
 
 -- the children of each node that the rows hold have smaller numbers
 abbrev Falls : List ℕ → ℕ → Type 0
@@ -123,7 +119,7 @@ held-falls {T} (unary {b} {m} k a c h q) j l g = go (ltb j m) refl (λ x. held-f
     go true e f = f (ltb-true j m e)
     go false e f =
         let x = ltb-false j m e in
-        let y = above h in
+        let y = laid-above h in
         let z : m ≡ j = omega arith in
         subst (Falls T) z (falls-row T m k (m - 1) 0 q (omega arith) (omega arith) (λ w. absurd (omega arith)))
 held-falls {T} (binary {b} {m} {n} k a c h g q) j l u = go (ltb j m) (ltb j n) refl refl (λ x. held-falls h j l x) (λ x y. held-falls g j x y)
@@ -133,8 +129,8 @@ held-falls {T} (binary {b} {m} {n} k a c h g q) j l u = go (ltb j m) (ltb j n) r
     go false true e d f i = i (ltb-false j m e) (ltb-true j n d)
     go false false e d f i =
         let x = ltb-false j n d in
-        let y = above h in
-        let w = above g in
+        let y = laid-above h in
+        let w = laid-above g in
         let z : n ≡ j = omega arith in
         subst (Falls T) z (falls-row T n k (m - 1) (n - 1) q c (omega arith) (λ o. omega arith))
 
@@ -143,9 +139,9 @@ unfolding Falling
 held-falling h m l = held-falls h m (omega arith) l
 
 -- the rows of a tree are as many as its nodes
-leaf-nodes : (r : Row) → r .kind < unaryFrom → nodes (leafOf r) ≡ 1
+leaf-nodes : (r : Row) → r .kind < unaryFrom → nodes (rowText r) ≡ 1
 leaf-nodes r h =
-    eqb-true (nodes (leafOf r)) 1 (agree-below unaryFrom (λ k. eqb (nodes (leafOf (row k (r .first) (r .second) (r .number)))) 1) (λ k. true) refl (r .kind) h)
+    eqb-true (nodes (rowText r)) 1 (agree-below unaryFrom (λ k. eqb (nodes (rowText (row k (r .first) (r .second) (r .number)))) 1) (λ k. true) refl (r .kind) h)
 
 pub held-nodes : {T : List ℕ} {b m : ℕ} {t : Text} → Laid T b m t → m ≡ b + nodes t
 held-nodes {T} (leaf {b} {t} k q) = let x = leaf-nodes (rowAt T b) k in let y : nodes t ≡ 1 = ap nodes (sym q) ∙ x in omega arith
@@ -189,7 +185,7 @@ some-end P T i n a b g = let z : i ≡ n = omega arith in sym (ap (someRow P T 0
 
 -- a property of texts that goes by the rows of the nodes
 pub record ByRow (P : Row → Bool) (F : Text → Bool) : Type 0 where
-  pub of-leaf : (r : Row) → r .kind < unaryFrom → F (leafOf r) ≡ P r
+  pub of-leaf : (r : Row) → r .kind < unaryFrom → F (rowText r) ≡ P r
   pub of-unary : (k a b n : ℕ) (p : Text) → unaryFrom ≤ k → k < binaryFrom → F (node k p p) ≡ (F p || P (row k a b n))
   pub of-binary : (k a b n : ℕ) (p q : Text) → binaryFrom ≤ k → k < kinds → F (node k p q) ≡ (F p || F q || P (row k a b n))
 
@@ -227,7 +223,7 @@ temporalKind k = within NEXT GLOBALLY k || within UNTIL WEAK-UNTIL k
 pub listed-by-kind : ByRow (λ r. listedKind (r .kind)) hasListed
 listed-by-kind =
     record {
-      of-leaf = λ r h. agree-below unaryFrom (λ k. hasListed (leafOf (row k (r .first) (r .second) (r .number)))) listedKind refl (r .kind) h;
+      of-leaf = λ r h. agree-below unaryFrom (λ k. hasListed (rowText (row k (r .first) (r .second) (r .number)))) listedKind refl (r .kind) h;
       of-unary = λ k a b n p. unary-kinds (λ j. hasListed (node j p p) ≡ (hasListed p || listedKind j))
           (sym (or-false (hasListed p))) (sym (or-false (hasListed p))) (sym (or-false (hasListed p))) (sym (or-false (hasListed p))) k;
       of-binary = λ k a b n p q. binary-kinds (λ j. hasListed (node j p q) ≡ (hasListed p || hasListed q || listedKind j))
@@ -238,7 +234,7 @@ listed-by-kind =
 pub temporal-by-kind : ByRow (λ r. temporalKind (r .kind)) temporal
 temporal-by-kind =
     record {
-      of-leaf = λ r h. agree-below unaryFrom (λ k. temporal (leafOf (row k (r .first) (r .second) (r .number)))) temporalKind refl (r .kind) h;
+      of-leaf = λ r h. agree-below unaryFrom (λ k. temporal (rowText (row k (r .first) (r .second) (r .number)))) temporalKind refl (r .kind) h;
       of-unary = λ k a b n p. unary-kinds (λ j. temporal (node j p p) ≡ (temporal p || temporalKind j))
           (sym (or-false (temporal p))) (sym (or-true (temporal p))) (sym (or-true (temporal p))) (sym (or-true (temporal p))) k;
       of-binary = λ k a b n p q. binary-kinds (λ j. temporal (node j p q) ≡ (temporal p || temporal q || temporalKind j))

@@ -1,22 +1,20 @@
 -- What an answer with nodes says: none of 5, 6 and 7 meets the text, the tree is its one reading by the rules, and the nodes are counted.
-use mathlib.Core.Path.{_≡_, refl, sym, ap, _∙_}
-use mathlib.Core.Bool.{Bool, true, false, cond, _||_}
+use mathlib.Core.Path.{_≡_, refl, ap}
+use mathlib.Core.Bool.{Bool, true, false, cond}
 use mathlib.Core.List.{List, [], _∷_}
-use Prim.Native.Nat.{ℕ, _+_, _-_, _≤_, _<_}
+use Prim.Native.Nat.{ℕ, _-_, _≤_, _<_}
 use native.Mathlib.Omega.{arith}
 use lib.Dec.{ltb}
 use borrow.Author.Tests.{ltb-false}
-use Rattle.refusal.specs.Outcome.{Outcome, result, refused, Line, judged, NoneMeets}
-use Rattle.text.specs.declared.Answer.{Answer}
-use Rattle.text.specs.declared.Answer.the-variants.{Nodes, Refused}
-use Rattle.grammar.specs.Syntax.{Text}
+use Rattle.number.specs.laws.Boolean.{none-left}
+use Rattle.refusal.specs.Outcome.{result, refused, Line, judged, NoneMeets}
+use Rattle.text.specs.declared.Answer.the-variants.{Nodes}
 use Rattle.grammar.specs.Size.{nodes, mostNodes, tooDeep}
-use Rattle.grammar.specs.Grammar.{ReadsWhole}
 use Rattle.grammar.specs.inner.Table.{treeAt}
-use Rattle.grammar.specs.inner.Parse.{Parsed, one, none, parsed}
-use Rattle.grammar.specs.laws.Unique.{reading-is}
-use Rattle.text.specs.laws.Table.{above, held-nodes}
-use Rattle.text.specs.Told.{textLines, nodesOf, outcomeOf, Tabled, Told}
+use Rattle.grammar.specs.inner.Parse.{parsed}
+use Rattle.parser.specs.laws.Rows.{laid-above}
+use Rattle.text.specs.laws.Table.{held-nodes}
+use Rattle.text.specs.Told.{textLines, nodesOf, Told}
 
 -- a result comes only where no line meets
 judged-result : {R : Type 0} (ls : List Line) (r x : R) → result x ≡ judged ls r → NoneMeets ls
@@ -28,10 +26,6 @@ judged-result (l ∷ ls) r x e = go (l .meets) refl e (λ g. judged-result ls r 
     go true q g k = let z : _≡_ {A = ℕ} 0 1 = cc in absurd (omega arith)
     go false q g k = (q, k g)
 
-or-left : (a b : Bool) → (a || b) ≡ false → a ≡ false
-or-left true b e = e
-or-left false b e = refl
-
 module _ (s table : List ℕ) (n : ℕ) (h : Told s table (Nodes n)) where
   pub none-meets : NoneMeets (textLines s)
   none-meets = judged-result (textLines s) (nodesOf (parsed s)) n (h .outcome)
@@ -40,14 +34,11 @@ module _ (s table : List ℕ) (n : ℕ) (h : Told s table (Nodes n)) where
   count = let x = held-nodes (h .tabled n refl .rows) in omega arith
 
   pub some-node : 0 < n
-  some-node = above (h .tabled n refl .rows)
+  some-node = laid-above (h .tabled n refl .rows)
 
   pub few : n ≤ mostNodes
   few =
       let x = ap nodesOf (h .tabled n refl .reads) in
       let y = count in
-      let z = ltb-false mostNodes (nodesOf (parsed s)) (or-left (ltb mostNodes (nodesOf (parsed s))) (tooDeep s) (none-meets .1 .1 .0)) in
+      let z = ltb-false mostNodes (nodesOf (parsed s)) (none-left (ltb mostNodes (nodesOf (parsed s))) (tooDeep s) (none-meets .1 .1 .0)) in
       omega arith
-
-  pub reads-whole : ReadsWhole s (treeAt table (n - 1))
-  reads-whole = reading-is s (treeAt table (n - 1)) .0 (h .tabled n refl .reads)

@@ -10,7 +10,7 @@ use Rattle.io.specs.Counts.{Counts}
 use Rattle.ask.specs.declared.input.Input.{Input}
 use Rattle.ask.specs.declared.input.State.{State}
 use Rattle.ask.specs.declared.input.State.the-variants.{More, Ended, Failed}
-use Rattle.ask.specs.Reading.{isMore, Turn, Turns, begun, then}
+use Rattle.ask.specs.Reading.{isMore, Turn, Turns, no-turn, then}
 use Rattle.ask.proofs.input.read_all.Statement.{statement}
 use Rattle.ask.proofs.input.read_all.Tie as tie
 
@@ -36,7 +36,7 @@ abbrev μ-loop : tie.MeasureT-loop
 μ-loop fd store₀ kept₀ turns₀ store kept turns = turns
 
 loop-holds : tie.Need-loop-holds Inv-loop μ-loop
-loop-holds c = (refl, search needs, begun)
+loop-holds c = (refl, search needs, no-turn)
 
 read-on-requires : tie.Need-read-on-requires Inv-loop μ-loop
 read-on-requires c κs = search needs

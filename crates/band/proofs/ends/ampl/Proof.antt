@@ -20,30 +20,30 @@ returns c =
 ampl-requires : tie.Need-ampl-requires
 ampl-requires c κs = let s = c .before .before in (s .pre .0, s .pre .1, s .pre .2)
 
-mul-greatest : tie.Need-mul-greatest
-mul-greatest c = let s = c .before .before .before in omega (arith, s .pre .3)
+mul-greater : tie.Need-mul-greater
+mul-greater c = let s = c .before .before .before in omega (arith, s .pre .3)
 
-sub-greatest : tie.Need-sub-greatest
-sub-greatest c =
+sub-greater : tie.Need-sub-greater
+sub-greater c =
     let s = c .before .before .before .before in
     let t = c .before .ampl in
     let h = ampl-today (s .args .rec .now) (s .pre .0) (curveOf (s .args .curve)) (s .pre .1) (t .result) (c .before .before .if1 .left) (t .ensures) in
     omega (arith, s .pre .3, h .0)
 
-greatest-requires : tie.Need-greatest-requires
-greatest-requires c κs = search needs
+greater-requires : tie.Need-greater-requires
+greater-requires c κs = search needs
 
-mul-least : tie.Need-mul-least
-mul-least c = let s = c .before .before .before .before .before in omega (arith, s .pre .3)
+mul-lesser : tie.Need-mul-lesser
+mul-lesser c = let s = c .before .before .before .before .before in omega (arith, s .pre .3)
 
-add-least : tie.Need-add-least
-add-least c =
+add-lesser : tie.Need-add-lesser
+add-lesser c =
     let s = c .before .before .before .before .before .before in
     let t = c .before .before .before .ampl in
     omega (arith, s .pre .3, t .ensures .inside)
 
-least-requires : tie.Need-least-requires
-least-requires c κs = search needs
+lesser-requires : tie.Need-lesser-requires
+lesser-requires c κs = search needs
 
 upto-requires-2 : tie.Need-upto-requires-2
 upto-requires-2 c κs = search needs
@@ -53,7 +53,7 @@ returns-2 c =
     let s = c .before .before .before .before .before .before .before .before in
     let t = c .before .before .before .before .before .ampl in
     c .upto2 .ensures
-    ∙ ap₂ (λ (m n : ℕ). twoSets (upto m) (upto n)) (c .before .before .before .greatest .ensures) (c .before .least .ensures)
+    ∙ ap₂ (λ (m n : ℕ). twoSets (upto m) (upto n)) (c .before .before .before .greater .ensures) (c .before .lesser .ensures)
     ∙ ampl-today (s .args .rec .now) (s .pre .0) (curveOf (s .args .curve)) (s .pre .1) (t .result) (c .before .before .before .before .before .before .if1 .left) (t .ensures) .1 (s .args .e)
 
 pub ampl-spec : {M : Type 1} → statement M
@@ -63,11 +63,11 @@ ampl-spec =
     upto-requires
     returns
     ampl-requires
-    mul-greatest
-    sub-greatest
-    greatest-requires
-    mul-least
-    add-least
-    least-requires
+    mul-greater
+    sub-greater
+    greater-requires
+    mul-lesser
+    add-lesser
+    lesser-requires
     upto-requires-2
     returns-2)

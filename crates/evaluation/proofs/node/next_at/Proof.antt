@@ -1,14 +1,13 @@
 -- The child's set at the next record goes by way of the shared words, for it lies in the table that is written.
-use mathlib.Core.Path.{_≡_, sym, ap, subst, _∙_}
-use mathlib.Core.Bool.{Bool, true, false, cond}
+use mathlib.Core.Path.{sym, ap, subst, _∙_}
+use mathlib.Core.Bool.{Bool, cond}
 use mathlib.Core.List.{List, _++_}
 use Prim.Native.Nat.{ℕ}
 use native.Mathlib.Omega.{arith}
 use lib.ListN.{length, take, drop}
 use lib.Seq.{length-take-le, take-at}
 use Rattle.runs.specs.Set.{member, Valid, slotWords}
-use Rattle.runs.specs.laws.Set.{holds-makes, holds-ext}
-use Rattle.evaluation.specs.inner.Slots.{slot, Puts}
+use Rattle.evaluation.specs.inner.Slots.{slot}
 use Rattle.evaluation.specs.laws.Slots.{puts-ext}
 use borrow.Author.Needs.{needs}
 use Rattle.evaluation.proofs.node.next_at.Statement.{statement}

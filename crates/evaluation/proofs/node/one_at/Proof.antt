@@ -1,13 +1,10 @@
 -- The step is lent the slot of its node, and the slot of its child.
-use mathlib.Core.Path.{_≡_, sym, ap, subst, _∙_}
-use mathlib.Core.Bool.{Bool, true, false}
-use mathlib.Core.List.{List}
+use mathlib.Core.Path.{sym, ap, subst, _∙_}
 use Prim.Native.Nat.{ℕ}
 use native.Mathlib.Omega.{arith}
 use lib.ListN.{length-drop}
 use lib.Seq.{length-take-le}
 use Rattle.runs.specs.Set.{member, Valid}
-use Rattle.grammar.specs.inner.Kinds.{NEXT}
 use Rattle.evaluation.specs.inner.Step.{unaryOf}
 use Rattle.evaluation.specs.inner.Slots.{slot}
 use Rattle.evaluation.specs.laws.Slots.{across, across-is, made-in, puts-lists, puts-ext}

@@ -1,7 +1,7 @@
 -- Each kind is one operation on sets.
-use mathlib.Core.Path.{_≡_, refl, sym, ap, _∙_}
-use mathlib.Core.Bool.{Bool, true, false}
-use Prim.Native.Nat.{ℕ, _<_}
+use mathlib.Core.Path.{sym, ap, _∙_}
+use mathlib.Core.Bool.{Bool}
+use Prim.Native.Nat.{ℕ}
 use native.Mathlib.Omega.{arith}
 use Rattle.grammar.specs.inner.Kinds.{FINALLY, GLOBALLY}
 use Rattle.grammar.specs.inner.Table.{unaryFrom}

@@ -1,14 +1,14 @@
 -- Each kind is one operation on sets.
-use mathlib.Core.Path.{_≡_, refl, sym, ap, _∙_}
-use mathlib.Core.Bool.{Bool, true, false}
+use mathlib.Core.Path.{_≡_, sym, ap, _∙_}
+use mathlib.Core.Bool.{Bool}
 use Prim.Native.Nat.{ℕ, _≤_, _<_}
 use native.Mathlib.Omega.{arith}
 use Rattle.grammar.specs.inner.Kinds.{AND, UNTIL, WEAK-UNTIL}
 use Rattle.grammar.specs.inner.Table.{binaryFrom}
 use Rattle.runs.specs.Set.{member}
 use Rattle.runs.specs.laws.Set.{holds-makes, makes-ext}
-use Rattle.evaluation.specs.inner.Step.{unaryOf, binaryOf}
-use Rattle.evaluation.specs.laws.Step.{child-at-last, last-of-four, until-or-weak}
+use Rattle.evaluation.specs.inner.Step.{binaryOf}
+use Rattle.evaluation.specs.laws.Step.{last-of-four, until-or-weak}
 use borrow.Author.Needs.{needs}
 use Rattle.evaluation.proofs.step.two.Statement.{statement}
 use Rattle.evaluation.proofs.step.two.Tie as tie

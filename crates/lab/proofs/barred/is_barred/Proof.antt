@@ -1,5 +1,5 @@
 -- `barred::is_barred` meets its contract, test by test.
-use mathlib.Core.Path.{refl, sym, ap, _∙_}
+use mathlib.Core.Path.{sym, ap, _∙_}
 use mathlib.Core.Bool.{not}
 use borrow.Author.Needs.{needs}
 use Rattle.grammar.specs.Classes.{within}

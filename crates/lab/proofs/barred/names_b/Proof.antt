@@ -1,11 +1,11 @@
 -- `barred::names_b` meets its contract, test by test.
 use mathlib.Core.Path.{refl, sym, ap, _∙_}
 use mathlib.Core.Bool.{Bool, _&&_}
-use lib.Dec.{eqb, leb, ltb}
+use lib.Dec.{leb, ltb}
 use borrow.Author.Needs.{needs}
 use borrow.Author.Tests.{le-leb, lt-leb}
 use Rattle.grammar.specs.inner.Kinds.{COMPARE}
-use Rattle.lab.specs.inner.Barred.{namesBoth, hasCurve, rowNamesB}
+use Rattle.lab.specs.inner.Barred.{namesBoth, rowNamesB}
 use Rattle.lab.specs.laws.Barred.{here, past, chosen, other}
 use Rattle.lab.proofs.barred.names_b.Statement.{statement}
 use Rattle.lab.proofs.barred.names_b.Tie as tie

@@ -4,8 +4,7 @@ use lib.Dec.{eqb}
 use borrow.Author.Needs.{needs}
 use borrow.Author.Tests.{eq-eqb, ne-eqb}
 use Rattle.grammar.specs.Classes.{within}
-use Rattle.grammar.specs.inner.Kinds.{A-TO-B, CROSS, CROSSUP, LAG}
-use Rattle.lab.specs.inner.Barred.{namesBoth}
+use Rattle.grammar.specs.inner.Kinds.{A-TO-B, CROSS, CROSSUP}
 use Rattle.lab.specs.laws.Barred.{here, past}
 use Rattle.lab.proofs.barred.names_both.Statement.{statement}
 use Rattle.lab.proofs.barred.names_both.Tie as tie

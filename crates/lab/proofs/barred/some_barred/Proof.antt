@@ -1,7 +1,6 @@
 -- `barred::some_barred` meets its contract. The invariant: no row before i is barred.
 use mathlib.Core.Path.{_≡_, refl, sym, ap, _∙_}
 use mathlib.Core.Bool.{false}
-use mathlib.Core.List.{List}
 use Prim.Native.Nat.{ℕ, _-_, _≤_}
 use borrow.Author.Needs.{needs}
 use Rattle.grammar.specs.inner.Table.{someRow}
@@ -11,10 +10,6 @@ use Rattle.lab.specs.inner.Barred.{rowBarred}
 use Rattle.lab.specs.laws.Barred.{barred-scan}
 use Rattle.lab.proofs.barred.some_barred.Statement.{statement}
 use Rattle.lab.proofs.barred.some_barred.Tie as tie
-use Rattle.lab.proofs.barred.some_barred.Reads as reads
-use Rattle.lab.proofs.barred.some_barred.Lts as lts
-use Rattle.evaluation.proofs.rows.row_at.Reads as row-at-reads
-use Rattle.lab.proofs.barred.is_barred.Reads as is-barred-reads
 
 abbrev Inv-loop : tie.InvT-loop
 Inv-loop table n marks i₀ i = (i ≤ n) × (someRow (rowBarred (marksOf marks)) table 0 i ≡ false)

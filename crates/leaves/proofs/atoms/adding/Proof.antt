@@ -1,10 +1,9 @@
 -- One test for all numbers.
 use mathlib.Core.Path.{sym, ap, _∙_}
 use Rattle.recording.specs.Recording.{rawAt, reading}
-use Rattle.meaning.specs.inner.Coded.{Coded, codedAdds}
+use Rattle.meaning.specs.inner.Coded.{codedAdds}
 use Rattle.meaning.specs.laws.Listed.{adds-code}
 use Rattle.leaves.specs.laws.Coding.{coded-at, record-inside}
-use borrow.Author.Needs.{needs}
 use Rattle.leaves.proofs.atoms.adding.Statement.{statement}
 use Rattle.leaves.proofs.atoms.adding.Tie as tie
 

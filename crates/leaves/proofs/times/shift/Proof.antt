@@ -1,7 +1,7 @@
 -- The first k are shifted, the others are as before.
 use Prim.Native.Nat.{_-_, _≤_}
 use native.Mathlib.Omega.{arith}
-use Rattle.leaves.specs.laws.Stamp.{Shifting, shifting-start, shifting-turn}
+use Rattle.leaves.specs.laws.Indices.{Shifting, shifting-start, shifting-turn}
 use borrow.Author.Needs.{needs}
 use Rattle.leaves.proofs.times.shift.Statement.{statement}
 use Rattle.leaves.proofs.times.shift.Tie as tie

@@ -1,7 +1,6 @@
 -- The invariant: what was read so far and the digits ahead come to what the digits from `at` on come to.
-use mathlib.Core.Path.{refl, sym, ap, _∙_}
+use mathlib.Core.Path.{refl}
 use Prim.Native.Nat.{_-_}
-use native.Mathlib.Omega.{arith}
 use borrow.Author.Needs.{needs}
 use lib.ListN.{length}
 use Rattle.lexer.proofs.NumberLaws.{Reading, digit-more, digits-end, not-digit, digit-bounds, past-end}

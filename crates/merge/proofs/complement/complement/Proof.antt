@@ -1,8 +1,7 @@
 -- A cut at the low end, those between, and one at the high end; of the two as many are counted as the set has not.
-use Prim.Native.Nat.{_-_, _≤_}
 use native.Mathlib.Omega.{arith}
-use mathlib.Core.Path.{_≡_, sym, ap, _∙_}
-use lib.ListN.{length, length-set, length-drop}
+use mathlib.Core.Path.{sym, _∙_}
+use lib.ListN.{length-set}
 use Rattle.merge.specs.laws.Complement.{mid-length, complement-over, put-length, put-holds}
 use borrow.Author.Needs.{needs}
 use Rattle.merge.proofs.complement.complement.Statement.{statement}

@@ -1,5 +1,4 @@
 -- The first cut and the last.
-use native.Mathlib.Omega.{arith}
 use Rattle.merge.specs.laws.Complement.{ended-none, ended-some}
 use borrow.Author.Needs.{needs}
 use Rattle.merge.proofs.complement.ends_of.Statement.{statement}

@@ -1,6 +1,6 @@
 -- By the sign.
 use Prim.Native.Nat.{_-_}
-use Rattle.page.specs.Decimal.{decimal}
+use Rattle.page.specs.Decimal.{inDecimal}
 use Rattle.page.specs.laws.Decimal.{middle, signed-below, signed-above}
 use Rattle.page.specs.laws.Puts.{puts-same, puts-then}
 use borrow.Author.Needs.{needs}
@@ -41,7 +41,7 @@ returns c =
     let t = c .before .before .before .before .before .before .before .before .before .offset-binary in
     let e = signed-below (s .args .bits) (t .result) (t .ensures) (c .before .before .before .before .before .before .before .before .if1 .taken) in
     puts-same (sym e)
-    (puts-then (45 ∷ []) (decimal (middle - t .result)) (s .args .out .now) _ _ (s .args .at) _ _ (omega (arith, s .pre, ap length e)) (c .before .before .before .before .before .before .byte .ensures) (c .before .before .unsigned .ensures))
+    (puts-then (45 ∷ []) (inDecimal (middle - t .result)) (s .args .out .now) _ _ (s .args .at) _ _ (omega (arith, s .pre, ap length e)) (c .before .before .before .before .before .before .byte .ensures) (c .before .before .unsigned .ensures))
 
 cast-unsigned-2 : tie.Need-cast-unsigned-2
 cast-unsigned-2 c = search needs

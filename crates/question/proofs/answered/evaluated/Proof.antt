@@ -1,6 +1,5 @@
 -- 9 by the search for tops, 8 and the set by the evaluation.
 use mathlib.Core.Path.{sym, _∙_}
-use native.Mathlib.Omega.{arith}
 use Rattle.evaluation.specs.inner.Evaluation.{textOf}
 use Rattle.question.specs.laws.Answered.{gives-nine, gives-eight, gives-set, asking}
 use borrow.Author.Needs.{needs}

@@ -1,6 +1,6 @@
 -- The complement of the cuts.
-use mathlib.Core.Path.{sym, ap, subst}
-use mathlib.Core.Bool.{Bool, not}
+use mathlib.Core.Path.{sym, subst}
+use mathlib.Core.Bool.{not}
 use mathlib.Core.List.{List}
 use Prim.Native.Nat.{ℕ, _≤_}
 use lib.ListN.{length}

@@ -4,7 +4,8 @@ use native.Mathlib.Omega.{arith}
 use borrow.Author.Needs.{needs}
 use lib.Dec.{eqb}
 use lib.ListN.{length, getD}
-use Rattle.text.proofs.BracketLaws.{Counted, none-counted, one-at-most, deep, not-deep, never-deep}
+use Rattle.number.specs.laws.Order.{one-at-most}
+use Rattle.text.proofs.BracketLaws.{Counted, none-counted, deep, not-deep, never-deep}
 use Rattle.text.proofs.brackets.too_deep.Statement.{statement}
 use Rattle.text.proofs.brackets.too_deep.Tie as tie
 

@@ -1,5 +1,5 @@
 -- The times of the scan, each shifted where they are few.
-use mathlib.Core.Path.{_≡_, _∙_}
+use mathlib.Core.Path.{_≡_}
 use mathlib.Core.List.{List}
 use Prim.Native.Nat.{ℕ, _≤_}
 use native.Mathlib.Omega.{arith}
@@ -11,10 +11,10 @@ use Rattle.tops.specs.Tops as raw
 use Rattle.tops.specs.Tops.{mostTops}
 use Rattle.tops.specs.inner.Scan.{Scanned}
 use Rattle.meaning.specs.inner.Coded.{coded, codedTimes}
-use Rattle.leaves.specs.inner.Stamps.{Early, Shifted, Stamped}
-use Rattle.leaves.specs.laws.Stamp.{scan-count, scan-there, scan-early, scan-stamps, event-stamps, event-times}
-use Rattle.leaves.proofs.times.top_stamps.Statement.{statement}
-use Rattle.leaves.proofs.times.top_stamps.Tie as tie
+use Rattle.leaves.specs.inner.Indices.{Early, Shifted, Indexed}
+use Rattle.leaves.specs.laws.Indices.{scan-count, scan-there, scan-early, scan-indexed, event-indices, event-times}
+use Rattle.leaves.proofs.times.top_indices.Statement.{statement}
+use Rattle.leaves.proofs.times.top_indices.Tie as tie
 
 module _ (rec : List ℕ) (a : Accepted rec) (curve : ℕ) (old new : List ℕ) (long : length old ≡ mostTops) (count : ℕ)
     (s : Scanned (raw.eventTimes (a-top (curveOf curve)) (readings rec)) old count new) where
@@ -25,20 +25,20 @@ module _ (rec : List ℕ) (a : Accepted rec) (curve : ℕ) (old new : List ℕ) 
   found = codedTimes (a-top (curveOf curve)) (coded rec)
 
   counted : count ≡ length found
-  counted = scan-count times found old new count (event-stamps rec a (a-top (curveOf curve))) s
+  counted = scan-count times found old new count (event-indices rec a (a-top (curveOf curve))) s
 
   module _ (few : count ≤ mostTops) where
     fits : length found ≤ length old
     fits = omega (arith, counted)
 
     there : count ≤ length new
-    there = scan-there times found old new count (event-stamps rec a (a-top (curveOf curve))) s fits
+    there = scan-there times found old new count (event-indices rec a (a-top (curveOf curve))) s fits
 
     early : Early count new
-    early = scan-early times found old new count (event-stamps rec a (a-top (curveOf curve))) s fits (event-times rec a (a-top (curveOf curve)))
+    early = scan-early times found old new count (event-indices rec a (a-top (curveOf curve))) s fits (event-times rec a (a-top (curveOf curve)))
 
-    stamped : (final : List ℕ) → Shifted count new final → Stamped found count final
-    stamped = scan-stamps times found old new count (event-stamps rec a (a-top (curveOf curve))) s fits
+    indexed : (final : List ℕ) → Shifted count new final → Indexed found count final
+    indexed = scan-indexed times found old new count (event-indices rec a (a-top (curveOf curve))) s fits
 
 event-times-requires : tie.Need-event-times-requires
 event-times-requires c κs = search needs
@@ -63,7 +63,7 @@ returns c =
     let t = c .before .before .shift in
     record {
       counted = counted (a .rec .now) (s .pre .0) (a .curve) (a .times .now) (e .last .1 .1 .1 .0) (s .pre .2) (e .result) (e .ensures);
-      stamped = λ h. stamped (a .rec .now) (s .pre .0) (a .curve) (a .times .now) (e .last .1 .1 .1 .0) (s .pre .2) (e .result) (e .ensures) h (t .last .0) (t .ensures);
+      indexed = λ h. indexed (a .rec .now) (s .pre .0) (a .curve) (a .times .now) (e .last .1 .1 .1 .0) (s .pre .2) (e .result) (e .ensures) h (t .last .0) (t .ensures);
     }
 
 same-length-2 : tie.Need-same-length-2
@@ -76,10 +76,10 @@ returns-2 c =
     let e = c .before .before .before .event-times in
     record {
       counted = counted (a .rec .now) (s .pre .0) (a .curve) (a .times .now) (e .last .1 .1 .1 .0) (s .pre .2) (e .result) (e .ensures);
-      stamped = λ h. absurd (let o = c .if1 .left in omega arith);
+      indexed = λ h. absurd (let o = c .if1 .left in omega arith);
     }
 
-pub top-stamps-spec : {M : Type 1} → statement M
-top-stamps-spec =
+pub top-indices-spec : {M : Type 1} → statement M
+top-indices-spec =
     tie.close
     (tie.spec event-times-requires shift-requires same-length returns same-length-2 returns-2)

@@ -24,6 +24,6 @@ pub record Shifted (n : ℕ) (old new : List ℕ) : Type 0 where
   pub shifted : (k : ℕ) → k < n → getD new k 0 ≡ indexOf (getD old k 0)
 
 -- the first n of the array are the indices found
-pub record Stamped (found : List ℕ) (n : ℕ) (new : List ℕ) : Type 0 where
+pub record Indexed (found : List ℕ) (n : ℕ) (new : List ℕ) : Type 0 where
   pub room : n ≤ length new
-  pub stamps : take n new ≡ found
+  pub indices : take n new ≡ found

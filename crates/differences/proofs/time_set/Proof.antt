@@ -1,4 +1,4 @@
--- `moments` meets its contract. The invariant: the set holds the times passed.
+-- `time_set` meets its contract. The invariant: the set holds the times passed.
 use Prim.Native.Nat.{ℕ, _≤_, _<_, _-_, _+_}
 use native.Mathlib.Omega.{arith}
 use mathlib.Core.Path.{_≡_, refl, sym, _∙_}
@@ -9,48 +9,48 @@ use lib.ListN.{length, getD}
 use Rattle.number.specs.Axis.{axis}
 use Rattle.runs.specs.Set.{member, Holds, Makes}
 use Rattle.differences.specs.inner.Search.{Least}
-use Rattle.differences.specs.inner.Times.{Times, momentsOf}
+use Rattle.differences.specs.inner.Times.{Times, timeSet}
 use Rattle.differences.proofs.GatherLaws.{Gathered, gathered-none, gathered-end, gathered-behind, gathered-run, gathered-over}
-use Rattle.differences.proofs.MomentLaws.{Parted, parted-start, nothing-left, on-axis, moment-least, alone, parted-on}
+use Rattle.differences.proofs.TimeLaws.{Parted, parted-start, nothing-left, on-axis, time-least, alone, parted-on}
 use borrow.Author.Needs.{needs}
-use Rattle.differences.proofs.moments.Statement.{statement}
-use Rattle.differences.proofs.moments.Tie as tie
+use Rattle.differences.proofs.time_set.Statement.{statement}
+use Rattle.differences.proofs.time_set.Tie as tie
 
 record Loop (l : List ℕ) (i : ℕ) (words : List ℕ) : Type 0 where
   pub x : ℕ
   pub parted : Parted l i x
-  pub gathered : Gathered (momentsOf l) x words
+  pub gathered : Gathered (timeSet l) x words
 
 start : (l words : List ℕ) → Holds (λ v. false) words → Loop l 0 words
-start l words w = record { x = 0; parted = parted-start l; gathered = gathered-none (momentsOf l) 0 words (omega arith) (λ v k. absurd (omega arith)) w }
+start l words w = record { x = 0; parted = parted-start l; gathered = gathered-none (timeSet l) 0 words (omega arith) (λ v k. absurd (omega arith)) w }
 
 module _ (l : List ℕ) (t : Times l) (i : ℕ) (words : List ℕ) (h : Loop l i words) where
-  done : length l ≤ i → Makes (momentsOf l) words false
-  done k = gathered-end (momentsOf l) (h .x) words (h .gathered) (nothing-left l i (h .x) (h .parted) k)
+  done : length l ≤ i → Makes (timeSet l) words false
+  done k = gathered-end (timeSet l) (h .x) words (h .gathered) (nothing-left l i (h .x) (h .parted) k)
 
   module _ (k : i < length l) where
-    first : Least (momentsOf l) (h .x) (getD l i 0)
-    first = moment-least l t i (h .x) (h .parted) k
+    first : Least (timeSet l) (h .x) (getD l i 0)
+    first = time-least l t i (h .x) (h .parted) k
 
     here : getD l i 0 < axis
     here = on-axis l t i (h .x) (h .parted) k
 
-    full : (v : ℕ) → getD l i 0 ≤ v → v < getD l i 0 + 1 → momentsOf l v ≡ true
+    full : (v : ℕ) → getD l i 0 ≤ v → v < getD l i 0 + 1 → timeSet l v ≡ true
     full = alone l t i (h .x) (h .parted) k
 
     below : (v : ℕ) → v < axis → member words v ≡ true → v < getD l i 0
-    below = gathered-behind (momentsOf l) (h .x) words (h .gathered) (getD l i 0) (getD l i 0) (getD l i 0 + 1) refl first (omega arith) (omega (arith, here)) full
+    below = gathered-behind (timeSet l) (h .x) words (h .gathered) (getD l i 0) (getD l i 0) (getD l i 0 + 1) refl first (omega arith) (omega (arith, here)) full
 
     module _ (after : List ℕ) (over : Bool) (m : Makes (λ v. member words v || (leb (getD l i 0) v && leb v (getD l i 0))) after over) where
       turn : over ≡ false → Loop l (i + 1) after
       turn o = record {
         x = getD l i 0 + 1;
         parted = parted-on l t i (h .x) (h .parted) k;
-        gathered = gathered-run (momentsOf l) (h .x) words (h .gathered) (getD l i 0) (getD l i 0) (getD l i 0 + 1) refl first (omega arith) (omega (arith, here)) full after over m o;
+        gathered = gathered-run (timeSet l) (h .x) words (h .gathered) (getD l i 0) (getD l i 0) (getD l i 0 + 1) refl first (omega arith) (omega (arith, here)) full after over m o;
       }
 
-      too-many : over ≡ true → Makes (momentsOf l) after true
-      too-many o = gathered-over (momentsOf l) (h .x) words (h .gathered) (getD l i 0) (getD l i 0) (getD l i 0 + 1) refl first (omega arith) (omega (arith, here)) full after over m o
+      too-many : over ≡ true → Makes (timeSet l) after true
+      too-many o = gathered-over (timeSet l) (h .x) words (h .gathered) (getD l i 0) (getD l i 0) (getD l i 0 + 1) refl first (omega arith) (omega (arith, here)) full after over m o
 
 abbrev Inv-loop : tie.InvT-loop
 Inv-loop t set₀ i₀ set i = Loop t i set × (i ≤ length t)
@@ -107,8 +107,8 @@ returns-2 c =
     let l = c .before .loop in
     done (s .args .t .now) (s .pre .0) (l .i) (l .set) (l .inv .0) (c .loop-test .left)
 
-pub moments-spec : {M : Type 1} → statement M
-moments-spec =
+pub time-set-spec : {M : Type 1} → statement M
+time-set-spec =
     tie.close
     (tie.spec
     Inv-loop

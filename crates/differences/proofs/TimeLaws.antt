@@ -1,5 +1,5 @@
 -- Ascending times, one after another: each is the least from the times passed on.
-use Prim.Native.Nat.{ℕ, _+_, _-_, _≤_, _<_}
+use Prim.Native.Nat.{ℕ, _+_, _≤_, _<_}
 use native.Mathlib.Omega.{arith}
 use native.Mathlib.Decide.{decLt}
 use mathlib.Core.Path.{_≡_, refl, sym, ap, _∙_}
@@ -11,7 +11,7 @@ use lib.ListN.{length, getD}
 use borrow.Author.Tests.{eqb-true, eq-eqb}
 use Rattle.number.specs.Axis.{axis}
 use Rattle.meaning.specs.laws.Pick.{some-at, some-find}
-use Rattle.differences.specs.inner.Times.{Times, momentsOf}
+use Rattle.differences.specs.inner.Times.{Times, timeSet}
 use Rattle.differences.specs.inner.Search.{Least}
 use Rattle.differences.proofs.SearchLaws.{times-up}
 
@@ -23,26 +23,26 @@ pub record Parted (l : List ℕ) (i x : ℕ) : Type 0 where
 pub parted-start : (l : List ℕ) → Parted l 0 0
 parted-start l = record { below = λ k a b. absurd (omega arith); above = λ k a b. omega arith }
 
-at-place : (l : List ℕ) (k : ℕ) → k < length l → momentsOf l (getD l k 0) ≡ true
+at-place : (l : List ℕ) (k : ℕ) → k < length l → timeSet l (getD l k 0) ≡ true
 at-place l k h = some-at 0 (eqb (getD l k 0)) l k h (eq-eqb (getD l k 0) (getD l k 0) refl)
 
 -- a number that no place has
-not-there : (l : List ℕ) (v : ℕ) → ((k : ℕ) → k < length l → getD l k 0 ≡ v → ⊥) → momentsOf l v ≡ false
-not-there l v none = go (momentsOf l v) refl
+not-there : (l : List ℕ) (v : ℕ) → ((k : ℕ) → k < length l → getD l k 0 ≡ v → ⊥) → timeSet l v ≡ false
+not-there l v none = go (timeSet l v) refl
   where
-    go : (e : Bool) → momentsOf l v ≡ e → e ≡ false
+    go : (e : Bool) → timeSet l v ≡ e → e ≡ false
     go false h = refl
     go true h = let f = some-find 0 (eqb v) l h in absurd (none (f .0) (f .1) (sym (eqb-true v (getD l (f .0) 0) (f .2))))
 
-pub nothing-left : (l : List ℕ) (i x : ℕ) → Parted l i x → length l ≤ i → (v : ℕ) → x ≤ v → v < axis → momentsOf l v ≡ false
+pub nothing-left : (l : List ℕ) (i x : ℕ) → Parted l i x → length l ≤ i → (v : ℕ) → x ≤ v → v < axis → timeSet l v ≡ false
 nothing-left l i x p h v a b = not-there l v (λ k m e. omega (arith, p .below k (omega arith) m))
 
 module _ (l : List ℕ) (t : Times l) (i x : ℕ) (p : Parted l i x) (h : i < length l) where
   pub on-axis : getD l i 0 < axis
   on-axis = omega (arith, t .most i h)
 
-  pub moment-least : Least (momentsOf l) x (getD l i 0)
-  moment-least = record {
+  pub time-least : Least (timeSet l) x (getD l i 0)
+  time-least = record {
     low = p .above i (omega arith) h;
     end = omega (arith, on-axis);
     here = λ z. at-place l i h;
@@ -56,8 +56,8 @@ module _ (l : List ℕ) (t : Times l) (i x : ℕ) (p : Parted l i x) (h : i < le
       side k (no c) = inl (omega arith)
 
   -- it alone is passed
-  pub alone : (v : ℕ) → getD l i 0 ≤ v → v < getD l i 0 + 1 → momentsOf l v ≡ true
-  alone v a b = let e : v ≡ getD l i 0 = omega arith in ap (momentsOf l) e ∙ at-place l i h
+  pub alone : (v : ℕ) → getD l i 0 ≤ v → v < getD l i 0 + 1 → timeSet l v ≡ true
+  alone v a b = let e : v ≡ getD l i 0 = omega arith in ap (timeSet l) e ∙ at-place l i h
 
   pub parted-on : Parted l (i + 1) (getD l i 0 + 1)
   parted-on = record {

@@ -3,18 +3,17 @@ use Prim.Native.Nat.{ℕ, zero, suc, _+_, _≤_, _<_}
 use native.Mathlib.Omega.{arith}
 use native.Mathlib.Nat.{not-suc-le-zero, le-of-suc-le-suc}
 use mathlib.Core.Path.{_≡_, refl, sym, ap, _∙_}
-use mathlib.Core.Bool.{Bool, true, false}
 use mathlib.Core.Logic.{⊎-elim}
 use mathlib.Core.List.{List, [], _∷_, _++_, map}
 use lib.ListN.{length, getD, take, drop, length-map, length-append, length-drop, length-set}
 use lib.ListN as list
 use lib.Seq.{take-all, ext-getD, getD-take, length-take-le, getD-set-same, getD-set-other}
-use Rattle.number.specs.Axis.{axis}
 use Rattle.number.specs.laws.Order.{less-or-not}
 use Rattle.recording.specs.Condition.{pick}
 use Rattle.recording.specs.Reading.{Event, event, turn, added}
 use Rattle.recording.specs.Recording.{readings, mostRecords, Accepted}
 use Rattle.recording.specs.laws.Acceptance.{accepted-sound}
+use Rattle.recording.specs.laws.Record.{length-readings}
 use Rattle.tops.specs.Tops as raw
 use Rattle.tops.specs.inner.Scan.{Scanned}
 use Rattle.tops.specs.laws.Scan.{scanned-at}
@@ -27,8 +26,7 @@ use Rattle.meaning.specs.laws.Listed.{all-settled, event-code, additions-code}
 use Rattle.differences.specs.inner.Times.{Times}
 use Rattle.differences.specs.laws.Times.{picked-times}
 use Rattle.meaning.specs.inner.Coded.{coded}
-use Rattle.leaves.specs.laws.Coding.{length-readings}
-use Rattle.leaves.specs.inner.Stamps.{mostEvents, indexOf, Early, Shifted, Stamped}
+use Rattle.leaves.specs.inner.Indices.{mostEvents, indexOf, Early, Shifted, Indexed}
 
 -- ---- from times to indices
 
@@ -83,10 +81,10 @@ module _ (raw found old new : List ℕ) (count : ℕ) (is : found ≡ map indexO
       let n = ap length is ∙ length-map raw indexOf in
       omega (arith, t .most k (omega arith))
 
-  pub scan-stamps : (final : List ℕ) → Shifted count new final → Stamped found count final
-  scan-stamps final t = record {
+  pub scan-indexed : (final : List ℕ) → Shifted count new final → Indexed found count final
+  scan-indexed final t = record {
     room = there;
-    stamps = ext-getD 0 (take count final) (map indexOf raw) (length-take-le count final there ∙ s .counted ∙ sym (length-map raw indexOf)) each ∙ sym is;
+    indices = ext-getD 0 (take count final) (map indexOf raw) (length-take-le count final there ∙ s .counted ∙ sym (length-map raw indexOf)) each ∙ sym is;
   }
     where
       there : count ≤ length final
@@ -104,9 +102,9 @@ module _ (rec : List ℕ) (a : Accepted rec) where
   few : length (readings rec) ≤ mostRecords
   few = omega (arith, length-readings rec, accepted-sound rec a .few)
 
-  pub event-stamps : (e : Event) → codedTimes e (coded rec) ≡ map indexOf (raw.eventTimes e (readings rec))
+  pub event-indices : (e : Event) → codedTimes e (coded rec) ≡ map indexOf (raw.eventTimes e (readings rec))
   unfolding raw.eventTimes
-  event-stamps e =
+  event-indices e =
       event-code e (readings rec) (all-settled (readings rec) (accepted-recorded rec a .in-range))
       ∙ sym (map-map raw.recordedTime indexOf (pick (event e) (readings rec)))
 
@@ -115,14 +113,14 @@ module _ (rec : List ℕ) (a : Accepted rec) where
 
   pub events-few : (e : Event) → length (codedTimes e (coded rec)) ≤ mostEvents
   events-few e =
-      let s = ap length (event-stamps e) ∙ length-map (raw.eventTimes e (readings rec)) indexOf in
+      let s = ap length (event-indices e) ∙ length-map (raw.eventTimes e (readings rec)) indexOf in
       omega (arith, events-half e (readings rec), few)
 
   -- ---- additions
 
-  pub addition-stamps : (k : ℕ) → codedAdditions k (coded rec) ≡ map indexOf (raw.additionTimes k (readings rec))
+  pub addition-indices : (k : ℕ) → codedAdditions k (coded rec) ≡ map indexOf (raw.additionTimes k (readings rec))
   unfolding raw.additionTimes
-  addition-stamps k =
+  addition-indices k =
       additions-code k (readings rec) (all-settled (readings rec) (accepted-recorded rec a .in-range))
       ∙ sym (map-map raw.recordedTime indexOf (pick (added k) (readings rec)))
 
@@ -131,5 +129,5 @@ module _ (rec : List ℕ) (a : Accepted rec) where
 
   pub additions-room : (k : ℕ) → length (codedAdditions k (coded rec)) ≤ mostRecords
   additions-room k =
-      let s = ap length (addition-stamps k) ∙ length-map (raw.additionTimes k (readings rec)) indexOf in
+      let s = ap length (addition-indices k) ∙ length-map (raw.additionTimes k (readings rec)) indexOf in
       omega (arith, additions-few k (readings rec), few)
