@@ -190,3 +190,28 @@ pub fn join(a: &[u32], b: &[u32], set: &mut [u32]) -> Joined
     }
     finish(b, run.j, run.low, run.end, set, n, stores)
 }
+
+// The same of two sets of one run each, at once.
+pub fn of_two(a: &[u32], b: &[u32], set: &mut [u32]) -> Joined
+    requires { ⌜ Canonical (now a) × Canonical (now b) × (length (now a) ≡ 2) × (length (now b) ≡ 2) × (length (now set) ≡ slotWords) ⌝ }
+    ensures { λ r. ⌜ Joins (λ v. inside (now (a .entry)) v || inside (now (b .entry)) v) (now (set .exit)) r ⌝ }
+{
+    let run = next(a, 0, b, 0);
+    let r = next(a, run.i, b, run.j);
+    let mut stores: usize = 0;
+    if r.low <= run.end {
+        store(set, 0, run.low, greater(run.end, r.end), &mut stores);
+        set[CUTS] = 2;
+        return Joined {
+            over: false,
+            stores,
+        };
+    }
+    close(set, 0, run, &mut stores);
+    close(set, 1, r, &mut stores);
+    set[CUTS] = 4;
+    Joined {
+        over: false,
+        stores,
+    }
+}

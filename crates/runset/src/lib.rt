@@ -88,7 +88,14 @@ impl RunSet {
         requires { ⌜ Valid (now a) × Valid (now b) × (length (now set) ≡ slotWords) ⌝ }
         ensures { λ r. ⌜ Joins (λ v. member (now (a .entry)) v || member (now (b .entry)) v) (now (set .exit)) r ⌝ }
     {
-        join::join(cuts_of(a), cuts_of(b), set)
+        let p = cuts_of(a);
+        let q = cuts_of(b);
+        if p.len() == 2 {
+            if q.len() == 2 {
+                return join::of_two(p, q, set);
+            }
+        }
+        join::join(p, q, set)
     }
 
     // What is in a or in b. This and the next three say whether there are too many runs.

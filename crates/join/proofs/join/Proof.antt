@@ -60,7 +60,7 @@ loop-less : tie.Need-loop-less Inv-loop μ-loop
 loop-less c =
     let s = c .before .before .before .before .before .before .before .before .before .before .before .before .before .before .before in
     let l = c .before .before .before .before .before .before .before .before .before .loop in
-    omega (arith, c .before .before .before .before .next2 .ensures .on, c .before .before .before .before .before .before .before .if2 .taken, place-right (s .args .a .now) (s .args .b .now) (l .set) (l .n) (l .run) (l .inv .0))
+    omega (arith, c .before .before .before .before .next2 .ensures .step, c .before .before .before .before .before .before .before .if2 .taken, place-right (s .args .a .now) (s .args .b .now) (l .set) (l .n) (l .run) (l .inv .0))
 
 loop-again : tie.Need-loop-again Inv-loop μ-loop
 loop-again c =
@@ -90,7 +90,7 @@ loop-less-2 : tie.Need-loop-less-2 Inv-loop μ-loop
 loop-less-2 c =
     let s = c .before .before .before .before .before .before .before .before .before .before .before .before .before .before .before .before .before .before .before .before in
     let l = c .before .before .before .before .before .before .before .before .before .before .before .before .before .before .loop in
-    omega (arith, c .before .before .before .before .before .before .before .before .before .next2 .ensures .on, c .before .before .before .before .before .before .before .before .before .before .before .before .if2 .taken, place-right (s .args .a .now) (s .args .b .now) (l .set) (l .n) (l .run) (l .inv .0))
+    omega (arith, c .before .before .before .before .before .before .before .before .before .next2 .ensures .step, c .before .before .before .before .before .before .before .before .before .before .before .before .if2 .taken, place-right (s .args .a .now) (s .args .b .now) (l .set) (l .n) (l .run) (l .inv .0))
 
 loop-again-2 : tie.Need-loop-again-2 Inv-loop μ-loop
 loop-again-2 c =

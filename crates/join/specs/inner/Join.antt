@@ -29,7 +29,7 @@ pub record Next (a : List ℕ) (i : ℕ) (b : List ℕ) (j : ℕ) (r : Head) : T
   pub on-axis : r .end ≤ axis
   pub left : Rest (r .low) a (r .i)
   pub right : Rest (r .low) b (r .j)
-  pub on : i + j < r .i + r .j
+  pub step : r .i + r .j ≡ i + j + 2
   pub members : (v : ℕ) → (inside (drop i a) v || inside (drop j b) v) ≡ (within (r .low) (r .end) v || (inside (drop (r .i) a) v || inside (drop (r .j) b) v))
 
 -- an open run up to `end`, with all runs from place i on that meet it: what is left begins behind it, with a gap

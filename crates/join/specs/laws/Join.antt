@@ -117,7 +117,7 @@ module _ (a : List ℕ) (i : ℕ) (b : List ℕ) (j : ℕ) (wa : Rest 0 a i) (wb
     on-axis = run-on-axis a i wa h;
     left = behind a i wa h;
     right = rest-from (getD a i 0) b j wb o;
-    on = omega arith;
+    step = omega arith;
     members = λ v. ap (λ (x : Bool). x || inside (drop j b) v) (split a i wa h v) ∙ or-assoc (within (getD a i 0) (getD a (i + 1) 0) v) (inside (drop (i + 2) a) v) (inside (drop j b) v);
   }
 
@@ -129,7 +129,7 @@ module _ (a : List ℕ) (i : ℕ) (b : List ℕ) (j : ℕ) (wa : Rest 0 a i) (wb
     on-axis = run-on-axis b j wb h;
     left = rest-from (getD b j 0) a i wa o;
     right = behind b j wb h;
-    on = omega arith;
+    step = omega arith;
     members = λ v. ap (λ (x : Bool). inside (drop i a) v || x) (split b j wb h v) ∙ or-swap (inside (drop i a) v) (within (getD b j 0) (getD b (j + 1) 0) v) (inside (drop (j + 2) b) v);
   }
 

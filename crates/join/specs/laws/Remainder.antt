@@ -2,7 +2,7 @@
 use Prim.Native.Nat.{ℕ, _+_, _-_, _*_, _≤_, _<_, max}
 use native.Mathlib.Omega.{arith}
 use mathlib.Core.Path.{_≡_, refl, sym, ap, ap₂, subst, _∙_}
-use mathlib.Core.Bool.{Bool, true, false, _||_, true≢false}
+use mathlib.Core.Bool.{Bool, true, false, _||_, _&&_, true≢false}
 use mathlib.Core.List.{List, [], _∷_, _++_, append-assoc, append-nil}
 use mathlib.Core.Logic.{inl, inr}
 use lib.Dec.{leb, ltb}
@@ -11,14 +11,15 @@ use lib.Seq.{drop-length, length-take-le, take-set-le, getD-set-same}
 use borrow.Author.Tests.{ltb-true}
 use Rattle.number.specs.Axis.{axis}
 use Rattle.number.specs.laws.Boolean.{or-cases, and-right}
-use Rattle.runs.specs.Runs.{mostRuns}
+use Rattle.runs.specs.Runs.{mostRuns, runCount}
 use Rattle.runs.specs.Set.{slotWords, inside, Ascending, Canonical}
 use Rattle.runs.specs.laws.Cuts.{none, rest-ended, lone}
 use Rattle.runs.specs.laws.Runs.{cuts-count}
 use Rattle.runs.specs.laws.Set.{held, holds-makes, too-many}
 use Rattle.runs.specs.laws.Added.{put-two, grown-behind}
 use Rattle.join.specs.inner.Join.{Rest, within, Reached, withRun, Appended, Open, opened, Joins}
-use Rattle.join.specs.laws.Join.{run-split, one-run, both, run-on-axis, behind, split, first-cut, rest-from, or-assoc, rest-weak}
+use Rattle.join.specs.laws.Join.{run-split, one-run, both, run-on-axis, behind, split, first-cut, rest-from, or-assoc, rest-weak, Joining, right-any, place-right, open-right, joins-right}
+use Rattle.join.specs.declared.Head.{Head}
 use Rattle.join.specs.declared.Reach.{Reach}
 
 -- ---- how far the open run goes
@@ -175,3 +176,13 @@ module _ (words : List ℕ) (n low end : ℕ) (l : List ℕ) (i : ℕ) (w : Open
             f (λ v h. all-members v));
         stores = λ z. omega (arith, all-length, cuts-count f cuts (ordered .0) (λ v h. all-members v));
       }
+
+-- nothing is left: the open run is the last
+pub joins-last : (a b words : List ℕ) (n : ℕ) (r : Head) (w : Joining a b words n r) → length a ≤ r .i → length b ≤ r .j → n < mostRuns
+    → (o : List ℕ) → o ≡ withRun words n (r .low) (r .end) → (k : ℕ) → k ≡ n + 1 → Joins (λ v. inside a v || inside b v) (set o (2 * mostRuns) (2 * n + 2)) (record { over = false; stores = k })
+joins-last a b words n r w ha hb few o e k is =
+    let q = reached-end b (r .j) (r .end) (r .j) (r .end) (reaching-start b (r .j) (r .end) (right-any a b words n r w) (w .on-axis)) hb in
+    let x = appended b (r .j) o (n + 1) (r .j) (n + 1) o (appending-start b (r .j) o (n + 1) (right-any a b words n r w)) hb in
+    joins-right a b words n r w ha _ _
+    (finish-all words n (r .low) (r .end) b (r .j) (open-right a b words n r w) _ q (2 * n + 2) (omega (arith, place-right a b words n r w)) (omega arith) o e o k
+    (subst (Appended b (r .j) o (n + 1) o) (sym is) x))

@@ -17,11 +17,25 @@ cuts-of-requires c κs = search needs
 cuts-of-requires-2 : tie.Need-cuts-of-requires-2
 cuts-of-requires-2 c κs = search needs
 
+of-two-requires : tie.Need-of-two-requires
+of-two-requires c κs =
+    let s = c .before .before .before .before .before .before .before .before in
+    let a = sym (c .before .before .before .before .cuts-of .ensures) in
+    let b = sym (c .before .before .before .cuts-of2 .ensures) in
+    (subst Canonical a (s .pre .0 .canonical), subst Canonical b (s .pre .1 .canonical), c .before .before .if1 .taken, c .before .if2 .taken, s .pre .2)
+
+same-length : tie.Need-same-length
+same-length c = search needs
+
+returns : tie.Need-returns
+unfolding member
+returns c = joins-lists _ _ (c .before .before .before .before .before .before .before .cuts-of .ensures) (c .before .before .before .before .before .before .cuts-of2 .ensures) (c .before .before .of-two .ensures)
+
 join-requires : tie.Need-join-requires
 join-requires c κs =
-    let s = c .before .before .before .before .before .before in
-    let a = sym (c .before .before .cuts-of .ensures) in
-    let b = sym (c .before .cuts-of2 .ensures) in (
+    let s = c .before .before .before .before .before .before .before in
+    let a = sym (c .before .before .before .cuts-of .ensures) in
+    let b = sym (c .before .before .cuts-of2 .ensures) in (
       subst Canonical a (s .pre .0 .canonical),
       subst Canonical b (s .pre .1 .canonical),
       subst (λ (l : List ℕ). length l ≤ sharedWords) a (valid-short (s .args .a .now) (s .pre .0)),
@@ -29,13 +43,22 @@ join-requires c κs =
       s .pre .2,
     )
 
-same-length : tie.Need-same-length
-same-length c = search needs
+same-length-2 : tie.Need-same-length-2
+same-length-2 c = search needs
 
-returns : tie.Need-returns
+returns-2 : tie.Need-returns-2
 unfolding member
-returns c = joins-lists _ _ (c .before .before .before .before .before .cuts-of .ensures) (c .before .before .before .before .cuts-of2 .ensures) (c .before .before .join .ensures)
+returns-2 c = joins-lists _ _ (c .before .before .before .before .before .before .cuts-of .ensures) (c .before .before .before .before .before .cuts-of2 .ensures) (c .before .before .join .ensures)
 
 pub join-spec : {M : Type 1} → statement M
 join-spec =
-    tie.close (tie.spec cuts-of-requires cuts-of-requires-2 join-requires same-length returns)
+    tie.close
+    (tie.spec
+    cuts-of-requires
+    cuts-of-requires-2
+    of-two-requires
+    same-length
+    returns
+    join-requires
+    same-length-2
+    returns-2)
