@@ -16,8 +16,7 @@ fn many_tops(rec: &[u8], curve: usize) -> bool
     requires { ⌜ Accepted (now rec) × (curve < 2) ⌝ }
     ensures { λ r. ⌜ r ≡ manyTops (curveOf curve) (coded (now (rec .entry))) ⌝ }
 {
-    let mut none = [0u32; 1];
-    tops::MOST_TOPS < tops::event_times(rec, rec.len() / 16, tops::Event::Top(curve), &mut none)
+    tops::MOST_TOPS < tops::top_count(rec, rec.len() / 16, curve)
 }
 
 // Whether a leaf takes differences between too many tops.
