@@ -1,9 +1,8 @@
 -- The run that begins first, and the other: they meet, or both are stored.
-use Prim.Native.Nat.{_+_, _≤_}
-use mathlib.Core.Path.{_≡_, refl, sym, _∙_}
+use mathlib.Core.Path.{_∙_}
 use native.Mathlib.Omega.{arith}
-use lib.ListN.{length, length-set}
-use Rattle.join.specs.laws.Join.{whole-rest, rest-any, joining-start, joining-meet, joining-apart, with-size}
+use lib.ListN.{length-set}
+use Rattle.join.specs.laws.Join.{whole-rest, rest-any, joining-start, joining-meet, joining-apart}
 use Rattle.join.specs.laws.Remainder.{joins-last}
 use borrow.Author.Needs.{needs}
 use Rattle.join.proofs.of_two.Statement.{statement}

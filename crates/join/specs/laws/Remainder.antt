@@ -2,7 +2,7 @@
 use Prim.Native.Nat.{ℕ, _+_, _-_, _*_, _≤_, _<_, max}
 use native.Mathlib.Omega.{arith}
 use mathlib.Core.Path.{_≡_, refl, sym, ap, ap₂, subst, _∙_}
-use mathlib.Core.Bool.{Bool, true, false, _||_, _&&_, true≢false}
+use mathlib.Core.Bool.{Bool, true, false, _||_, true≢false}
 use mathlib.Core.List.{List, [], _∷_, _++_, append-assoc, append-nil}
 use mathlib.Core.Logic.{inl, inr}
 use lib.Dec.{leb, ltb}
@@ -11,7 +11,7 @@ use lib.Seq.{drop-length, length-take-le, take-set-le, getD-set-same}
 use borrow.Author.Tests.{ltb-true}
 use Rattle.number.specs.Axis.{axis}
 use Rattle.number.specs.laws.Boolean.{or-cases, and-right}
-use Rattle.runs.specs.Runs.{mostRuns, runCount}
+use Rattle.runs.specs.Runs.{mostRuns}
 use Rattle.runs.specs.Set.{slotWords, inside, Ascending, Canonical}
 use Rattle.runs.specs.laws.Cuts.{none, rest-ended, lone}
 use Rattle.runs.specs.laws.Runs.{cuts-count}
