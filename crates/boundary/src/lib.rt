@@ -18,8 +18,8 @@ pub fn tell_degree(near: degree::Nearness, distance: &mut u64, degree: &mut u64)
     match near {
         degree::Nearness::Met => 0,
         degree::Nearness::Short(d, k) => {
-            *distance = ratio::bits(d);
-            *degree = ratio::bits(k);
+            *distance = binary64::bits(d);
+            *degree = binary64::bits(k);
             1
         }
         degree::Nearness::NoValue => 2,

@@ -11,7 +11,7 @@ use Rattle.refusal.specs.Numbers.{numberOf, placeOf}
 use Rattle.runs.specs.Distance.{distance}
 use Rattle.meaning.specs.inner.Coded.{index}
 use Rattle.question.specs.Question.{read, answer, askingLines, setLines}
-use Rattle.ratio.specs.Degree.{distanceOf, degreeOf}
+use Rattle.binary64.specs.Degree.{distanceOf, degreeOf}
 use Rattle.targets.specs.Target.{offAxis}
 use Rattle.degree.specs.declared.Reached.{Reached}
 use Rattle.degree.specs.declared.Reached.the-variants as reached

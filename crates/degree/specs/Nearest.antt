@@ -8,8 +8,8 @@ use Rattle.recording.specs.Recording.{readings}
 use Rattle.grammar.specs.Syntax.{Text}
 use Rattle.grammar.specs.Grammar.{ReadsWhole}
 use Rattle.meaning.specs.Meaning.{Holds}
-use Rattle.ratio.specs.Apart.{apart}
-use Rattle.ratio.specs.Degree.{distanceOf, degreeOf}
+use Rattle.binary64.specs.Apart.{apart}
+use Rattle.binary64.specs.Degree.{distanceOf, degreeOf}
 use Rattle.degree.specs.Degree.{Value, met, short, noValue}
 
 module _ (r : List Reading) (p : Text) where

@@ -47,8 +47,8 @@ fn grade(d: u32) -> Nearness
     if d == 0 {
         return Nearness::Met;
     }
-    let distance = ratio::distance_of(d);
-    let degree = ratio::degree_of(d);
+    let distance = binary64::distance_of(d);
+    let degree = binary64::degree_of(d);
     Nearness::Short(distance, degree)
 }
 

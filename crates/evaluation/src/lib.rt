@@ -12,7 +12,7 @@ ghost use Rattle.runs.specs.Set.{slotWords, sharedWords};
 ghost use Rattle.meaning.specs.inner.Coded.{coded};
 ghost use Rattle.grammar.specs.Size.{temporal};
 ghost use Rattle.evaluation.specs.inner.Slots.{Sized};
-ghost use Rattle.evaluation.specs.inner.Evaluate.{Node, Leaves};
+ghost use Rattle.evaluation.specs.inner.Evaluate.{Evaluable, NodePromise};
 ghost use Rattle.evaluation.specs.inner.Evaluation.{textOf, Asking, Evaluates};
 use grammar::kinds;
 use runset::RunSet;
@@ -35,8 +35,8 @@ fn eval(
     other: &mut Sets,
     shared: &mut Shared,
 ) -> bool
-    requires { ⌜ Node (now table) (now rec) i n (now own) (now other) × (length (now shared) ≡ sharedWords) ⌝ }
-    ensures { λ r. ⌜ Leaves (now (table .entry)) (now (rec .entry)) i n (now (own .entry)) (now (other .entry)) (now (own .exit)) (now (other .exit)) r
+    requires { ⌜ Evaluable (now table) (now rec) i n (now own) (now other) × (length (now shared) ≡ sharedWords) ⌝ }
+    ensures { λ r. ⌜ NodePromise (now (table .entry)) (now (rec .entry)) i n (now (own .entry)) (now (other .entry)) (now (own .exit)) (now (other .exit)) r
         × Sized (now (own .exit)) × Sized (now (other .exit)) × (length (now (shared .exit)) ≡ sharedWords) ⌝ }
 {
     let row = rows::row_at(table, n);

@@ -24,8 +24,8 @@ abbrev pub entryAt : List ℕ → ℕ → List ℕ
 entryAt summary i = take entryBytes (drop (i * entryBytes) summary)
 
 -- by what the entry says, the curve is somewhere at least z: its greatest value is
-unfoldable pub reaches : Curve → ℤ → List ℕ → Bool
-reaches c z entry = leZ z (signed (word entry (greatestAt c)))
+unfoldable pub saidToReach : Curve → ℤ → List ℕ → Bool
+saidToReach c z entry = leZ z (signed (word entry (greatestAt c)))
 
 -- of the n numbers from `at` on, those of which P holds, ascending
 abbrev pub numbersFrom : (ℕ → Bool) → ℕ → ℕ → List ℕ
@@ -34,7 +34,7 @@ numbersFrom P at (suc n) = when (P at) at (numbersFrom P (suc at) n)
 
 -- of the first n entries, the numbers of those that reach z
 abbrev pub numbersTo : Curve → ℤ → List ℕ → ℕ → List ℕ
-numbersTo c z summary n = numbersFrom (λ i. reaches c z (entryAt summary i)) 0 n
+numbersTo c z summary n = numbersFrom (λ i. saidToReach c z (entryAt summary i)) 0 n
 
 -- THE LISTING, as bytes
 unfoldable pub listing : Curve → ℤ → List ℕ → List ℕ

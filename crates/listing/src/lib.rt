@@ -11,7 +11,7 @@ ghost use Rattle.refusal.specs.Outcome.{judged};
 ghost use Rattle.recording.specs.Reading.{curveOf};
 ghost use Rattle.recording.specs.Output.{Answers, outputLine};
 ghost use Rattle.entry.specs.Entry.{entryBytes};
-ghost use Rattle.listing.specs.Listing.{mostEntries, entryAt, reaches, numbersTo, listing};
+ghost use Rattle.listing.specs.Listing.{mostEntries, entryAt, saidToReach, numbersTo, listing};
 ghost use Rattle.listing.specs.Call.{levelLines, findOf};
 use entry::ENTRY_BYTES;
 use recording::Written;
@@ -30,7 +30,7 @@ const LIFT: u32 = 147_483_648;
 // Whether entry i says that the curve is somewhere at least the number at this index of the axis.
 fn reaches_level(summary: &[u8], i: usize, curve: usize, index: u32) -> bool
     requires { ⌜ (i * entryBytes + entryBytes ≤ length (now summary)) × (curve < 2) × (index < axis) ⌝ }
-    ensures { λ r. ⌜ r ≡ reaches (curveOf curve) (whole index) (entryAt (now (summary .entry)) i) ⌝ }
+    ensures { λ r. ⌜ r ≡ saidToReach (curveOf curve) (whole index) (entryAt (now (summary .entry)) i) ⌝ }
 {
     let greatest = number::offset_binary(number::word_at(
         summary,

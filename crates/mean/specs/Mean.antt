@@ -6,8 +6,8 @@ use mathlib.Core.List.{List, [], _∷_}
 use lib.ListN.{length}
 use lib.IntN.{pos}
 use lib.Ieee.{Float, nan, inf, fin, binary64, add, div, ofInt, up, down}
-use Rattle.ratio.specs.Apart.{apart}
-use Rattle.ratio.specs.Degree.{degreeOf}
+use Rattle.binary64.specs.Apart.{apart}
+use Rattle.binary64.specs.Degree.{degreeOf}
 
 -- ---- in binary64
 

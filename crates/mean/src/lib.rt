@@ -1,6 +1,6 @@
 // The running sum of degrees and the last mean, which travel together from batch to batch.
 ghost use mathlib.Core.Path.{_≡_};
-ghost use Rattle.ratio.specs.Degree.{degreeOf};
+ghost use Rattle.binary64.specs.Degree.{degreeOf};
 ghost use Rattle.mean.specs.inner.Running.{start, next};
 
 pub struct Mean {
@@ -22,7 +22,7 @@ pub fn none() -> Mean
 pub fn with(m: Mean, n: u32, d: u32) -> Mean
     ensures { λ r. ⌜ r ≡ next m n (degreeOf d) ⌝ }
 {
-    let s = m.sum + ratio::degree_of(d);
+    let s = m.sum + binary64::degree_of(d);
     Mean {
         sum: s,
         mean: s / n as f64,

@@ -151,8 +151,8 @@ fn words_of(r: Report) -> [u32; WORDS]
     ensures { λ s. ⌜ s ≡ figureWords r ⌝ }
 {
     let m = r.mean;
-    let sum = ratio::bits(m.sum);
-    let mean = ratio::bits(m.mean);
+    let sum = binary64::bits(m.sum);
+    let mean = binary64::bits(m.mean);
     [
         SIGNATURE,
         r.count,
@@ -225,7 +225,7 @@ fn give(r: Report, met: &mut u32, empty: &mut u32, distances: &mut u64, mean: &m
         return 2;
     }
     let m = r.mean;
-    *mean = ratio::bits(m.mean);
+    *mean = binary64::bits(m.mean);
     1
 }
 

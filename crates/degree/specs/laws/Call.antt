@@ -33,8 +33,8 @@ use Rattle.question.specs.declared.prepare.Prepared.{Prepared}
 use Rattle.question.specs.declared.prepare.Prepared.the-variants as prepared
 use Rattle.question.specs.declared.answered.Verdict.the-variants.{Fine, Refused}
 use Rattle.question.specs.declared.answered.Verdict.{Verdict}
-use Rattle.ratio.specs.Degree.{distanceOf, degreeOf}
-use Rattle.ratio.specs.laws.Degree.{distance-number, degree-number}
+use Rattle.binary64.specs.Degree.{distanceOf, degreeOf}
+use Rattle.binary64.specs.laws.Degree.{distance-number, degree-number}
 use Rattle.targets.specs.Target.{Placed}
 use Rattle.targets.specs.declared.OnAxis.the-variants.{Index, Off}
 use Rattle.degree.specs.Degree.{Reach, away, nowhere, reachIn, reachedOf, Value, met, short, noValue, graded, valued, valueOf, targetLine, nearnessOf}

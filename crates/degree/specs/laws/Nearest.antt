@@ -24,9 +24,9 @@ use Rattle.meaning.specs.laws.Truth.{val-holds}
 use Rattle.question.specs.Question.{read, answer, askingLines, setLines}
 use Rattle.question.specs.laws.Lines.{read-reads, reads-read}
 use Rattle.number.specs.laws.Boolean.{none-left}
-use Rattle.ratio.specs.Apart.{apart}
-use Rattle.ratio.specs.Degree.{distanceOf, degreeOf}
-use Rattle.ratio.specs.laws.Degree.{distance-exact}
+use Rattle.binary64.specs.Apart.{apart}
+use Rattle.binary64.specs.Degree.{distanceOf, degreeOf}
+use Rattle.binary64.specs.laws.Degree.{distance-exact}
 use Rattle.targets.specs.Target.{offAxis}
 use Rattle.targets.specs.laws.Target.{sub-above, sub-below}
 use Rattle.degree.specs.Degree.{away, nowhere, Value, met, short, graded, valued, valueOf, targetLine, nearnessOf}

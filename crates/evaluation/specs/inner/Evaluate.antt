@@ -16,15 +16,15 @@ use Rattle.meaning.specs.inner.Truth.{val, overAt, refused9, lastCoded}
 use Rattle.evaluation.specs.inner.Slots.{slot, Sized}
 
 -- the slot of node n holds the set of the text t at record i
-abbrev pub Right : List Coded → ℕ → Text → ℕ → List ℕ → Type 0
-Right r i t n sets = Holds (λ v. val r v t i) (slot sets n)
+abbrev pub SlotHolds : List Coded → ℕ → Text → ℕ → List ℕ → Type 0
+SlotHolds r i t n sets = Holds (λ v. val r v t i) (slot sets n)
 
 -- the sets of the nodes of a text at record i: the root's in `own`, its children's in `other`, and so on by turns
 unfoldable pub Stand : {table : List ℕ} {b m : ℕ} {t : Text} → List Coded → ℕ → Laid table b m t → List ℕ → List ℕ → Type 0
-Stand r i (leaf {b} {t} l e) own other = Right r i t b own
-Stand r i (unary {b} {m} {p} k l h child e) own other = Right r i (node k p p) m own × Stand r i child other own
+Stand r i (leaf {b} {t} l e) own other = SlotHolds r i t b own
+Stand r i (unary {b} {m} {p} k l h child e) own other = SlotHolds r i (node k p p) m own × Stand r i child other own
 Stand r i (binary {b} {m} {n} {p} {q} k l h first second e) own other =
-    Right r i (node k p q) n own × Stand r i first other own × Stand r i second other own
+    SlotHolds r i (node k p q) n own × Stand r i first other own × Stand r i second other own
 
 -- what an evaluation of a text at record i asks of the recording and of the tables
 pub record Fit {table : List ℕ} {b m : ℕ} {t : Text} (rec : List ℕ) (i : ℕ) (laid : Laid table b m t) (own other : List ℕ) : Type 0 where
@@ -38,7 +38,7 @@ pub record Fit {table : List ℕ} {b m : ℕ} {t : Text} (rec : List ℕ) (i : �
   pub ready : i < lastCoded (coded rec) → temporal t ≡ true → Stand (coded rec) (suc i) laid other own
 
 -- node n is the root of a text that is laid in rows, and it can be evaluated
-pub record Node (table rec : List ℕ) (i n : ℕ) (own other : List ℕ) : Type 0 where
+pub record Evaluable (table rec : List ℕ) (i n : ℕ) (own other : List ℕ) : Type 0 where
   pub base : ℕ
   pub end : ℕ
   pub text : Text
@@ -53,11 +53,11 @@ pub record Evaluated {table : List ℕ} {b m : ℕ} {t : Text} (r : List Coded) 
   pub own-kept : (k : ℕ) → (b ≤ k → m ≤ k) → slot own′ k ≡ slot own k
   pub other-kept : (k : ℕ) → (b ≤ k → m ≤ k + 1) → slot other′ k ≡ slot other k
 
-pub record Outcome {table : List ℕ} {b m : ℕ} {t : Text} (r : List Coded) (i : ℕ) (laid : Laid table b m t) (own other own′ other′ : List ℕ) (over : Bool) : Type 0 where
+pub record NodeOutcome {table : List ℕ} {b m : ℕ} {t : Text} (r : List Coded) (i : ℕ) (laid : Laid table b m t) (own other own′ other′ : List ℕ) (over : Bool) : Type 0 where
   pub good : over ≡ false → Evaluated r i laid own other own′ other′
   pub bad : over ≡ true → overAt r t i ≡ true
 
 -- WHAT THE EVALUATION OF NODE n PROMISES
-abbrev pub Leaves : List ℕ → List ℕ → ℕ → ℕ → List ℕ → List ℕ → List ℕ → List ℕ → Bool → Type 0
-Leaves table rec i n own other own′ other′ over =
-    (b m : ℕ) (t : Text) (laid : Laid table b m t) → m ≡ n + 1 → Fit rec i laid own other → Outcome (coded rec) i laid own other own′ other′ over
+abbrev pub NodePromise : List ℕ → List ℕ → ℕ → ℕ → List ℕ → List ℕ → List ℕ → List ℕ → Bool → Type 0
+NodePromise table rec i n own other own′ other′ over =
+    (b m : ℕ) (t : Text) (laid : Laid table b m t) → m ≡ n + 1 → Fit rec i laid own other → NodeOutcome (coded rec) i laid own other own′ other′ over

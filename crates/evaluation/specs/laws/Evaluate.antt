@@ -26,7 +26,7 @@ use Rattle.meaning.specs.inner.Truth.{val, largeAt, overAt, lastCoded, refused9
 use Rattle.leaves.specs.laws.Coding.{length-coded}
 use Rattle.evaluation.specs.inner.Slots.{slot, Puts}
 use Rattle.evaluation.specs.inner.Step.{unaryOf, binaryOf}
-use Rattle.evaluation.specs.inner.Evaluate.{Right, Stand, Fit, Evaluated, Outcome}
+use Rattle.evaluation.specs.inner.Evaluate.{SlotHolds, Stand, Fit, Evaluated, NodeOutcome}
 use Rattle.evaluation.specs.laws.Step.{four, unary-last, unary-inner, binary-last, binary-inner}
 use Rattle.evaluation.specs.laws.Node.{some-one, some-two}
 use Rattle.evaluation.specs.laws.Stand.{stand-root, stand-same}
@@ -162,13 +162,13 @@ module _ (table : List ℕ) (rec : List ℕ) (i : ℕ) where
   over-is : (t : Text) (f : ℕ → Bool) → ((v : ℕ) → v < axis → f v ≡ val r v t i) → (over : Bool) → over ≡ ltb mostRuns (runCount f) → over ≡ largeAt r t i
   over-is t f e over h = h ∙ ap (ltb mostRuns) (runCount-ext f (λ v. val r v t i) e)
 
-  right-is : (t : Text) (f : ℕ → Bool) (n : ℕ) (sets : List ℕ) → ((v : ℕ) → v < axis → f v ≡ val r v t i) → Holds f (slot sets n) → Right r i t n sets
+  right-is : (t : Text) (f : ℕ → Bool) (n : ℕ) (sets : List ℕ) → ((v : ℕ) → v < axis → f v ≡ val r v t i) → Holds f (slot sets n) → SlotHolds r i t n sets
   right-is t f n sets e h = holds-ext f (λ v. val r v t i) (slot sets n) e h
 
   module _ {b m : ℕ} {p : Text} (k : ℕ) (l : unaryFrom ≤ k) (h : k < binaryFrom) (child : Laid table b m p) (e : rowAt table m ≡ row k (m - 1) 0 0)
       {own other own₁ other₁ : List ℕ} (fit : Fit rec i (unary k l h child e) own other) (done : Evaluated r i child other own other₁ own₁) where
     -- the node's set and its child's at the next record are where they were
-    child-next : isLast ≡ false → unaryFrom < k → Right r (suc i) (node k p p) m other₁ × Right r (suc i) p (m - 1) own₁
+    child-next : isLast ≡ false → unaryFrom < k → SlotHolds r (suc i) (node k p p) m other₁ × SlotHolds r (suc i) p (m - 1) own₁
     unfolding Stand
     child-next z g =
         let o = laid-above child in
@@ -196,7 +196,7 @@ module _ (table : List ℕ) (rec : List ℕ) (i : ℕ) where
       one-some : overAt r (node k p p) i ≡ (largeAt r (node k p p) i || overAt r p i)
       one-some = some-one (λ t. largeAt r t i) k 0 0 0 p p l h
 
-      pub one-done : Outcome r i (unary k l h child e) own other own₂ other₁ over
+      pub one-done : NodeOutcome r i (unary k l h child e) own other own₂ other₁ over
       unfolding Stand
       one-done =
           let o = laid-above child in
@@ -214,7 +214,7 @@ module _ (table : List ℕ) (rec : List ℕ) (i : ℕ) where
       {own other own₁ other₁ own₂ other₂ : List ℕ} (fit : Fit rec i (binary k l h first second e) own other)
       (done₁ : Evaluated r i first other own other₁ own₁) (done₂ : Evaluated r i second other₁ own₁ other₂ own₂) where
     -- the node's set at the next record is where it was
-    own-next : isLast ≡ false → AND < k → Right r (suc i) (node k p q) n other₂
+    own-next : isLast ≡ false → AND < k → SlotHolds r (suc i) (node k p q) n other₂
     unfolding Stand
     own-next z g =
         let o = laid-above first in
@@ -250,7 +250,7 @@ module _ (table : List ℕ) (rec : List ℕ) (i : ℕ) where
       two-some : overAt r (node k p q) i ≡ (largeAt r (node k p q) i || (overAt r p i || overAt r q i))
       two-some = some-two (λ t. largeAt r t i) k 0 0 0 p q l h
 
-      pub two-done : Outcome r i (binary k l h first second e) own other own₃ other₂ over
+      pub two-done : NodeOutcome r i (binary k l h first second e) own other own₃ other₂ over
       unfolding Stand
       two-done =
           let o = laid-above first in

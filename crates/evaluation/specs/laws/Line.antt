@@ -20,7 +20,7 @@ use Rattle.meaning.specs.inner.Truth.{val, largeAt, overAt, refused9}
 use Rattle.leaves.specs.inner.Leaf.{leafOf, Asked}
 use Rattle.evaluation.specs.inner.Slots.{slot, Puts}
 use Rattle.evaluation.specs.inner.Step.{unaryOf, binaryOf}
-use Rattle.evaluation.specs.inner.Evaluate.{Right, Stand, Fit, Node, Leaves}
+use Rattle.evaluation.specs.inner.Evaluate.{SlotHolds, Stand, Fit, Evaluable, NodePromise}
 use Rattle.evaluation.specs.laws.Node.{some-leaf, some-one, some-two}
 use Rattle.evaluation.specs.laws.Laid.{line-is, laid-kind, leaf-kind, leaf-text}
 use Rattle.evaluation.specs.laws.Evaluate.{fit-child, fit-first, fit-second, one-valid, child-valid, one-done, two-valid, first-valid, second-valid, two-done}
@@ -40,7 +40,7 @@ module _ (table : List ℕ) (rec : List ℕ) (i n : ℕ) (line : Row) (is-line :
         few-tops = ap (refused9 r) (leaf-text table n line is-line laid is h) ∙ fit .few-tops;
       }
 
-  pub line-leaf : (own other own′ : List ℕ) (over : Bool) → line .kind < unaryFrom → Puts (λ v. val r v (leafOf line) i) own own′ n over → Leaves table rec i n own other own′ other over
+  pub line-leaf : (own other own′ : List ℕ) (over : Bool) → line .kind < unaryFrom → Puts (λ v. val r v (leafOf line) i) own own′ n over → NodePromise table rec i n own other own′ other over
   unfolding Stand
   line-leaf own other own′ over h puts b m t (leaf l e) is fit =
       let x : n ≡ b = omega arith in
@@ -48,7 +48,7 @@ module _ (table : List ℕ) (rec : List ℕ) (i n : ℕ) (line : Row) (is-line :
       let some : overAt r t i ≡ over = ap (λ (u : Text). overAt r u i) (sym text) ∙ some-leaf (λ u. largeAt r u i) line ∙ sym (puts .flag) in
       record {
         good = λ z. record {
-          stand = subst (λ (j : ℕ). Right r i t j own′) x (subst (λ (u : Text). Right r i u n own′) text (puts .here z));
+          stand = subst (λ (j : ℕ). SlotHolds r i t j own′) x (subst (λ (u : Text). SlotHolds r i u n own′) text (puts .here z));
           small = some ∙ z;
           own-kept = λ k w. puts .elsewhere z k (λ y. absurd (let g = w (omega arith) in omega arith));
           other-kept = λ k w. refl;
@@ -65,7 +65,7 @@ module _ (table : List ℕ) (rec : List ℕ) (i n : ℕ) (line : Row) (is-line :
     at-first : (m k c d : ℕ) → m + 1 ≡ n + 1 → rowAt table m ≡ row k c d 0 → a ≡ c
     at-first m k c d is e = is-a ∙ ap (λ (x : Row). x .first) (line-is table n line is-line m k c d is e)
 
-    pub first-node : {b m : ℕ} {t : Text} (laid : Laid table b m t) → m ≡ n + 1 → {own other : List ℕ} → Fit rec i laid own other → Node table rec i a other own
+    pub first-node : {b m : ℕ} {t : Text} (laid : Laid table b m t) → m ≡ n + 1 → {own other : List ℕ} → Fit rec i laid own other → Evaluable table rec i a other own
     first-node (leaf {b} u e) is fit = let x = leaf-kind table n line is-line b is u in absurd (omega arith)
     first-node (unary {b} {m} {p} k u h child e) is fit =
         let o = laid-above child in
@@ -86,8 +86,8 @@ module _ (table : List ℕ) (rec : List ℕ) (i n : ℕ) (line : Row) (is-line :
     kind-fits (unary {b} {m} k u h child e) is = let x = laid-kind table n line is-line m k (m - 1) 0 is e in omega arith
     kind-fits (binary {b} {m} {n = j} k u h first second e) is = let x = laid-kind table n line is-line j k (m - 1) (j - 1) is e in omega arith
 
-    module _ (own other own₁ other₁ : List ℕ) (over : Bool) (o : Leaves table rec i a other own other₁ own₁ over) where
-      pub first-over : (own₂ other₂ : List ℕ) → over ≡ true → Leaves table rec i n own other own₂ other₂ true
+    module _ (own other own₁ other₁ : List ℕ) (over : Bool) (o : NodePromise table rec i a other own other₁ own₁ over) where
+      pub first-over : (own₂ other₂ : List ℕ) → over ≡ true → NodePromise table rec i n own other own₂ other₂ true
       first-over own₂ other₂ z b m t (leaf u e) is fit = let x = leaf-kind table n line is-line b is u in absurd (omega arith)
       first-over own₂ other₂ z b m t (unary {m = j} {p} k u h child e) is fit =
           let w = laid-above child in
@@ -129,7 +129,7 @@ module _ (table : List ℕ) (rec : List ℕ) (i n : ℕ) (line : Row) (is-line :
 
           pub line-one : (own₂ : List ℕ) (out : Bool)
               → Puts (λ v. unaryOf (line .kind) (eqb (i + 1) (length rec / 16)) (member (slot other₁ a) v) (member (slot other₁ n) v) (member (slot own₁ a) v)) own₁ own₂ n out
-              → Leaves table rec i n own other own₂ other₁ out
+              → NodePromise table rec i n own other own₂ other₁ out
           line-one own₂ out puts b m t (leaf u e) is fit = let x = leaf-kind table n line is-line b is u in absurd (omega arith)
           line-one own₂ out puts b m t (unary {m = j} {p} k u h child e) is fit =
               let w = laid-above child in
@@ -150,7 +150,7 @@ module _ (table : List ℕ) (rec : List ℕ) (i n : ℕ) (line : Row) (is-line :
           at-second : (m k d s : ℕ) → m + 1 ≡ n + 1 → rowAt table m ≡ row k d s 0 → c ≡ s
           at-second m k d s is e = is-c ∙ ap (λ (x : Row). x .second) (line-is table n line is-line m k d s is e)
 
-          pub second-node : {b m : ℕ} {t : Text} (laid : Laid table b m t) → m ≡ n + 1 → Fit rec i laid own other → Node table rec i c other₁ own₁
+          pub second-node : {b m : ℕ} {t : Text} (laid : Laid table b m t) → m ≡ n + 1 → Fit rec i laid own other → Evaluable table rec i c other₁ own₁
           second-node (leaf {b} u e) is fit = let x = leaf-kind table n line is-line b is u in absurd (omega arith)
           second-node (unary {b} {m} k u h child e) is fit = let x = laid-kind table n line is-line m k (m - 1) 0 is e in absurd (omega (arith, x, h, g))
           second-node (binary {b} {m} {n = j} {p} {q} k u h first second e) is fit =
@@ -166,8 +166,8 @@ module _ (table : List ℕ) (rec : List ℕ) (i n : ℕ) (line : Row) (is-line :
           second-falls (unary {b} {m} k u h child e) is = let x = laid-kind table n line is-line m k (m - 1) 0 is e in absurd (omega (arith, x, h, g))
           second-falls (binary {b} {m} {n = j} k u h first second e) is = let w = laid-above first in let v = laid-above second in let y = at-second j k (m - 1) (j - 1) is e in omega arith
 
-          module _ (own₂ other₂ : List ℕ) (over₂ : Bool) (o₂ : Leaves table rec i c other₁ own₁ other₂ own₂ over₂) where
-            pub second-over : (own₃ other₃ : List ℕ) → over₂ ≡ true → Leaves table rec i n own other own₃ other₃ true
+          module _ (own₂ other₂ : List ℕ) (over₂ : Bool) (o₂ : NodePromise table rec i c other₁ own₁ other₂ own₂ over₂) where
+            pub second-over : (own₃ other₃ : List ℕ) → over₂ ≡ true → NodePromise table rec i n own other own₃ other₃ true
             second-over own₃ other₃ y b m t (leaf u e) is fit = let x = leaf-kind table n line is-line b is u in absurd (omega arith)
             second-over own₃ other₃ y b m t (unary {m = j} k u h child e) is fit = let x = laid-kind table n line is-line j k (j - 1) 0 is e in absurd (omega (arith, x, h, g))
             second-over own₃ other₃ y b m t (binary {m = d} {n = j} {p} {q} k u h first second e) is fit =
@@ -205,7 +205,7 @@ module _ (table : List ℕ) (rec : List ℕ) (i n : ℕ) (line : Row) (is-line :
 
               pub line-two : (own₃ : List ℕ) (out : Bool)
                   → Puts (λ v. binaryOf (line .kind) (eqb (i + 1) (length rec / 16)) (member (slot other₂ a) v) (member (slot other₂ c) v) (member (slot other₂ n) v)) own₂ own₃ n out
-                  → Leaves table rec i n own other own₃ other₂ out
+                  → NodePromise table rec i n own other own₃ other₂ out
               line-two own₃ out puts b m t (leaf u e) is fit = let x = leaf-kind table n line is-line b is u in absurd (omega arith)
               line-two own₃ out puts b m t (unary {m = j} k u h child e) is fit = let x = laid-kind table n line is-line j k (j - 1) 0 is e in absurd (omega (arith, x, h, g))
               line-two own₃ out puts b m t (binary {m = d} {n = j} {p} {q} k u h first second e) is fit =

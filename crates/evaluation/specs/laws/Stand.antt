@@ -11,7 +11,7 @@ use Rattle.meaning.specs.inner.Coded.{Coded}
 use Rattle.meaning.specs.inner.Truth.{val}
 use Rattle.parser.specs.laws.Rows.{laid-above}
 use Rattle.evaluation.specs.inner.Slots.{slot}
-use Rattle.evaluation.specs.inner.Evaluate.{Right, Stand}
+use Rattle.evaluation.specs.inner.Evaluate.{SlotHolds, Stand}
 
 -- the slots from b on and before m are the same
 abbrev pub Same : ℕ → ℕ → List ℕ → List ℕ → Type 0
@@ -19,14 +19,14 @@ Same b m before after = (k : ℕ) → b ≤ k → k < m → slot after k ≡ slo
 
 module _ (r : List Coded) (i : ℕ) where
   -- the root's slot is the last
-  pub stand-root : {table : List ℕ} {b m : ℕ} {t : Text} (laid : Laid table b m t) (own other : List ℕ) → Stand r i laid own other → Right r i t (m - 1) own
+  pub stand-root : {table : List ℕ} {b m : ℕ} {t : Text} (laid : Laid table b m t) (own other : List ℕ) → Stand r i laid own other → SlotHolds r i t (m - 1) own
   unfolding Stand
-  stand-root (leaf {b} {t} l e) own other s = let x : b ≡ b + 1 - 1 = omega arith in subst (λ (j : ℕ). Right r i t j own) x s
-  stand-root (unary {b} {m} {p} k l h child e) own other s = let x : m ≡ m + 1 - 1 = omega arith in subst (λ (j : ℕ). Right r i (node k p p) j own) x (s .0)
+  stand-root (leaf {b} {t} l e) own other s = let x : b ≡ b + 1 - 1 = omega arith in subst (λ (j : ℕ). SlotHolds r i t j own) x s
+  stand-root (unary {b} {m} {p} k l h child e) own other s = let x : m ≡ m + 1 - 1 = omega arith in subst (λ (j : ℕ). SlotHolds r i (node k p p) j own) x (s .0)
   stand-root (binary {b} {m} {n} {p} {q} k l h first second e) own other s =
-      let x : n ≡ n + 1 - 1 = omega arith in subst (λ (j : ℕ). Right r i (node k p q) j own) x (s .0)
+      let x : n ≡ n + 1 - 1 = omega arith in subst (λ (j : ℕ). SlotHolds r i (node k p q) j own) x (s .0)
 
-  right-same : (t : Text) (n : ℕ) (x y : List ℕ) → slot y n ≡ slot x n → Right r i t n x → Right r i t n y
+  right-same : (t : Text) (n : ℕ) (x y : List ℕ) → slot y n ≡ slot x n → SlotHolds r i t n x → SlotHolds r i t n y
   right-same t n x y e h = subst (Holds (λ v. val r v t i)) (sym e) h
 
   pub stand-same : {table : List ℕ} {b m : ℕ} {t : Text} (laid : Laid table b m t) (own other own′ other′ : List ℕ) → Same b m own own′ → Same b m other other′

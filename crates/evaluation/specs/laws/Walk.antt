@@ -17,7 +17,7 @@ use Rattle.meaning.specs.inner.Coded.{Coded, coded}
 use Rattle.meaning.specs.inner.Truth.{val, overAt, someBelow, refused8, lastCoded}
 use Rattle.meaning.specs.laws.Overfull.{below-at, below-none}
 use Rattle.evaluation.specs.inner.Slots.{slot, Sized}
-use Rattle.evaluation.specs.inner.Evaluate.{Stand, Fit, Node, Leaves}
+use Rattle.evaluation.specs.inner.Evaluate.{Stand, Fit, Evaluable, NodePromise}
 use Rattle.evaluation.specs.inner.Evaluation.{textOf, Asking, Evaluates}
 use Rattle.evaluation.specs.laws.Stand.{stand-root}
 
@@ -67,7 +67,7 @@ module _ (table : List ℕ) (count : ℕ) (rec : List ℕ) (asking : Asking tabl
       }
 
   node-at : (i : ℕ) (own other : List ℕ) → i < length r → Sized own → Sized other
-      → (i < lastCoded r → temporal text ≡ true → Sets table count rec (suc i) other own) → Node table rec i (count - 1) own other
+      → (i < lastCoded r → temporal text ≡ true → Sets table count rec (suc i) other own) → Evaluable table rec i (count - 1) own other
   node-at i own other h so st ready =
       record {
         base = 0;
@@ -92,7 +92,7 @@ module _ (table : List ℕ) (count : ℕ) (rec : List ℕ) (asking : Asking tabl
   -- what an evaluation of the root leaves
   module _ (i : ℕ) (own other own′ other′ : List ℕ) (h : i < length r) (so : Sized own) (st : Sized other)
       (ready : i < lastCoded r → temporal text ≡ true → Sets table count rec (suc i) other own) (over : Bool)
-      (o : Leaves table rec i (count - 1) own other own′ other′ over) where
+      (o : NodePromise table rec i (count - 1) own other own′ other′ over) where
     sets-of : over ≡ false → Sets table count rec i own′ other′
     sets-of z laid = o 0 count text laid root-is (fit-at i own other laid h so st (λ j t. ready j t laid)) .good z .stand
 
@@ -112,10 +112,10 @@ module _ (table : List ℕ) (count : ℕ) (rec : List ℕ) (asking : Asking tabl
     unfolding refused8
     flat-eight = ap (λ (b : Bool). cond b (someBelow (overAt r text) (length r)) (overAt r text 0)) flat
 
-    pub flat-node : (own other : List ℕ) → Sized own → Sized other → Node table rec 0 (count - 1) own other
+    pub flat-node : (own other : List ℕ) → Sized own → Sized other → Evaluable table rec 0 (count - 1) own other
     flat-node own other so st = node-at 0 own other (asking .record-there) so st (λ j t. none-ahead t)
 
-    module _ (own other own′ other′ : List ℕ) (so : Sized own) (st : Sized other) (over : Bool) (o : Leaves table rec 0 (count - 1) own other own′ other′ over) where
+    module _ (own other own′ other′ : List ℕ) (so : Sized own) (st : Sized other) (over : Bool) (o : NodePromise table rec 0 (count - 1) own other own′ other′ over) where
       pub flat-over : (out : List ℕ) → over ≡ true → Evaluates r text out true
       flat-over out e =
           record {
@@ -164,14 +164,14 @@ module _ (table : List ℕ) (count : ℕ) (rec : List ℕ) (asking : Asking tabl
     ready-b : flip ≡ false → i - 1 < lastCoded r → temporal text ≡ true → Sets table count rec (suc (i - 1)) b a
     ready-b e h t = let x : i ≡ suc (i - 1) = omega arith in subst (λ (j : ℕ). Sets table count rec j b a) x (w .in-b e (omega arith))
 
-    pub into-b : flip ≡ true → Node table rec (i - 1) (count - 1) b a
+    pub into-b : flip ≡ true → Evaluable table rec (i - 1) (count - 1) b a
     into-b e = node-at (i - 1) b a inside (w .size-b) (w .size-a) (ready-a e)
 
-    pub into-a : flip ≡ false → Node table rec (i - 1) (count - 1) a b
+    pub into-a : flip ≡ false → Evaluable table rec (i - 1) (count - 1) a b
     into-a e = node-at (i - 1) a b inside (w .size-a) (w .size-b) (ready-b e)
 
     module _ (a′ b′ : List ℕ) (over : Bool) where
-      pub walked-b : flip ≡ true → Leaves table rec (i - 1) (count - 1) b a b′ a′ over → length a′ ≡ length a → length b′ ≡ length b → over ≡ false
+      pub walked-b : flip ≡ true → NodePromise table rec (i - 1) (count - 1) b a b′ a′ over → length a′ ≡ length a → length b′ ≡ length b → over ≡ false
           → Walked table count rec (i - 1) a′ b′ false
       walked-b e o ea eb z =
           record {
@@ -183,7 +183,7 @@ module _ (table : List ℕ) (count : ℕ) (rec : List ℕ) (asking : Asking tabl
             small = small-more i p (small-of (i - 1) b a b′ a′ inside (w .size-b) (w .size-a) (ready-a e) over o z) (w .small);
           }
 
-      pub walked-a : flip ≡ false → Leaves table rec (i - 1) (count - 1) a b a′ b′ over → length a′ ≡ length a → length b′ ≡ length b → over ≡ false
+      pub walked-a : flip ≡ false → NodePromise table rec (i - 1) (count - 1) a b a′ b′ over → length a′ ≡ length a → length b′ ≡ length b → over ≡ false
           → Walked table count rec (i - 1) a′ b′ true
       walked-a e o ea eb z =
           record {
@@ -200,10 +200,10 @@ module _ (table : List ℕ) (count : ℕ) (rec : List ℕ) (asking : Asking tabl
         large-eight e =
             record { flag = sym (eight-ahead ahead ∙ below-at (overAt r text) (length r) (i - 1) inside e); holds = λ z. absurd (false≢true (sym z)) }
 
-        pub over-b : flip ≡ true → Leaves table rec (i - 1) (count - 1) b a b′ a′ over → over ≡ true → Evaluates r text out true
+        pub over-b : flip ≡ true → NodePromise table rec (i - 1) (count - 1) b a b′ a′ over → over ≡ true → Evaluates r text out true
         over-b e o z = large-eight (large-of (i - 1) b a b′ a′ inside (w .size-b) (w .size-a) (ready-a e) over o z)
 
-        pub over-a : flip ≡ false → Leaves table rec (i - 1) (count - 1) a b a′ b′ over → over ≡ true → Evaluates r text out true
+        pub over-a : flip ≡ false → NodePromise table rec (i - 1) (count - 1) a b a′ b′ over → over ≡ true → Evaluates r text out true
         over-a e o z = large-eight (large-of (i - 1) a b a′ b′ inside (w .size-a) (w .size-b) (ready-b e) over o z)
 
   -- the walk is over

@@ -7,7 +7,7 @@ use lib.ListN.{length}
 use borrow.Author.Tests.{ltb-true, ltb-false}
 use Rattle.number.specs.Axis.{whole}
 use Rattle.recording.specs.Reading.{curveOf}
-use Rattle.listing.specs.Listing.{entryAt, reaches, numbersTo}
+use Rattle.listing.specs.Listing.{entryAt, saidToReach, numbersTo}
 use Rattle.listing.specs.laws.Listing.{count-few}
 use Rattle.listing.specs.laws.Call.{of-short, of-written}
 use borrow.Author.Needs.{needs}
@@ -40,7 +40,7 @@ mul-size c =
     let s = c .before .before .before .before .before .before .before .before in
     let a = s .args in
     record {
-      fits = omega (arith, c .before .before .put-numbers .ensures .0, count-few (λ i. reaches (curveOf (a .curve)) (whole (a .index)) (entryAt (a .summary .now) i)) 0 (a .n), s .pre .1);
+      fits = omega (arith, c .before .before .put-numbers .ensures .0, count-few (λ i. saidToReach (curveOf (a .curve)) (whole (a .index)) (entryAt (a .summary .now) i)) 0 (a .n), s .pre .1);
     }
 
 same-length : tie.Need-same-length

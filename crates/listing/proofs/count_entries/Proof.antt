@@ -5,14 +5,14 @@ use Prim.Native.Nat.{ℕ, _-_}
 use native.Mathlib.Omega.{arith}
 use Rattle.number.specs.Axis.{whole}
 use Rattle.recording.specs.Reading.{curveOf}
-use Rattle.listing.specs.Listing.{entryAt, reaches}
+use Rattle.listing.specs.Listing.{entryAt, saidToReach}
 use Rattle.listing.specs.laws.Listing.{Counting, counting-start, counting-turn, counting-end, count-few}
 use borrow.Author.Needs.{needs}
 use Rattle.listing.proofs.count_entries.Statement.{statement}
 use Rattle.listing.proofs.count_entries.Tie as tie
 
 abbrev says : List ℕ → ℕ → ℕ → ℕ → Bool
-says summary curve index i = reaches (curveOf curve) (whole index) (entryAt summary i)
+says summary curve index i = saidToReach (curveOf curve) (whole index) (entryAt summary i)
 
 abbrev Inv-loop : tie.InvT-loop
 Inv-loop summary n curve index i₀ k₀ i k = Counting (says summary curve index) n i k

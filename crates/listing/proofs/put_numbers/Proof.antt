@@ -5,14 +5,14 @@ use Prim.Native.Nat.{ℕ, _-_}
 use native.Mathlib.Omega.{arith}
 use Rattle.number.specs.Axis.{whole}
 use Rattle.recording.specs.Reading.{curveOf}
-use Rattle.listing.specs.Listing.{entryAt, reaches}
+use Rattle.listing.specs.Listing.{entryAt, saidToReach}
 use Rattle.listing.specs.laws.Listing.{Writing, writing-start, writing-room, writing-turn, writing-end, counting-end, count-few}
 use borrow.Author.Needs.{needs}
 use Rattle.listing.proofs.put_numbers.Statement.{statement}
 use Rattle.listing.proofs.put_numbers.Tie as tie
 
 abbrev says : List ℕ → ℕ → ℕ → ℕ → Bool
-says summary curve index i = reaches (curveOf curve) (whole index) (entryAt summary i)
+says summary curve index i = saidToReach (curveOf curve) (whole index) (entryAt summary i)
 
 abbrev Inv-loop : tie.InvT-loop
 Inv-loop summary n curve index out₀ i₀ k₀ out i k = Writing (says summary curve index) n out₀ i k out

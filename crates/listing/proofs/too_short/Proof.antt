@@ -9,13 +9,13 @@ use borrow.Author.Tests.{le-ltb}
 use borrow.Author.Needs.{needs}
 use Rattle.number.specs.Axis.{whole}
 use Rattle.recording.specs.Reading.{curveOf}
-use Rattle.listing.specs.Listing.{entryAt, reaches}
+use Rattle.listing.specs.Listing.{entryAt, saidToReach}
 use Rattle.listing.specs.laws.Listing.{count-few}
 use Rattle.listing.proofs.too_short.Statement.{statement}
 use Rattle.listing.proofs.too_short.Tie as tie
 
 abbrev says : List ℕ → ℕ → ℕ → ℕ → Bool
-says summary curve index i = reaches (curveOf curve) (whole index) (entryAt summary i)
+says summary curve index i = saidToReach (curveOf curve) (whole index) (entryAt summary i)
 
 mul-if1 : tie.Need-mul-if1
 mul-if1 c = search needs

@@ -22,7 +22,7 @@ use Rattle.recording.specs.declared.Written.the-variants.{Bytes, Refused}
 use Rattle.targets.specs.Target.{offAxis, Placed, badTarget}
 use Rattle.targets.specs.declared.OnAxis.the-variants.{Index, Off}
 use Rattle.entry.specs.Entry.{entryBytes}
-use Rattle.listing.specs.Listing.{mostEntries, entryCount, entryAt, reaches, numbersTo, listing}
+use Rattle.listing.specs.Listing.{mostEntries, entryCount, entryAt, saidToReach, numbersTo, listing}
 use Rattle.listing.specs.laws.Listing.{count-few}
 use Rattle.listing.specs.Call.{badSummary, levelLines, findOf}
 
@@ -105,7 +105,7 @@ module _ (summary : List ℕ) (curve : ℕ) (out : List ℕ) where
 pub listing-short : (c : Curve) (z : ℤ) (summary : List ℕ) → length (listing c z summary) ≤ 4 * entryCount summary
 unfolding listing
 listing-short c z summary =
-    let count = count-few (λ i. reaches c z (entryAt summary i)) 0 (entryCount summary) in
+    let count = count-few (λ i. saidToReach c z (entryAt summary i)) 0 (entryCount summary) in
     omega (arith, length-row (numbersTo c z summary (entryCount summary)))
 
 -- so at most 8,192, where 20 does not refuse the summary

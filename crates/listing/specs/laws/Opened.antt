@@ -18,7 +18,7 @@ use Rattle.recording.specs.Reading.{Reading, Curve, value, nothing}
 use Rattle.recording.specs.Recording.{readings}
 use Rattle.recording.specs.laws.Value.{ltZ-between}
 use Rattle.entry.specs.Entry.{greatestAt, Greatest}
-use Rattle.listing.specs.Listing.{entryCount, entryAt, reaches, numbersFrom, numbersTo, listing}
+use Rattle.listing.specs.Listing.{entryCount, entryAt, saidToReach, numbersFrom, numbersTo, listing}
 use Rattle.listing.specs.Opened.{Exactly, SaidToReach, Reaches, TrueSummary}
 
 -- ---- numbers picked by a test
@@ -109,11 +109,11 @@ le-trans x y z h k = le-so x z .0 (leZ-not-ltZ x z ∙ ap not (off back (not-abo
 -- BY WHAT THE ENTRIES SAY
 pub listing-exactly : (c : Curve) (z : ℤ) (summary : List ℕ)
     → (ns : List ℕ) × (listing c z summary ≡ wordsBytes ns) × Exactly (SaidToReach c z summary) (entryCount summary) ns
-unfolding listing reaches
+unfolding listing saidToReach
 listing-exactly c z summary = (
   numbersTo c z summary (entryCount summary),
   refl,
-  exactly (λ i. reaches c z (entryAt summary i)) (SaidToReach c z summary) (entryCount summary) (λ k h. le-so z (signed (word (entryAt summary k) (greatestAt c)))),
+  exactly (λ i. saidToReach c z (entryAt summary i)) (SaidToReach c z summary) (entryCount summary) (λ k h. le-so z (signed (word (entryAt summary k) (greatestAt c)))),
 )
 
 -- the greatest value is at least z exactly where some value is
@@ -126,12 +126,12 @@ greatest-reaches c z g r t = (
 -- AS WHEN THE RECORDINGS ARE OPENED
 pub listing-opened : (c : Curve) (z : ℤ) (recordings : List (List ℕ)) (summary : List ℕ) → TrueSummary recordings summary
     → (ns : List ℕ) × (listing c z summary ≡ wordsBytes ns) × Exactly (Reaches c z recordings) (length recordings) ns
-unfolding listing reaches
+unfolding listing saidToReach
 listing-opened c z recordings summary s =
     let n : entryCount summary ≡ length recordings = omega (arith, s .size) in (
       numbersTo c z summary (length recordings),
       ap (λ (k : ℕ). wordsBytes (numbersTo c z summary k)) n,
-      exactly (λ i. reaches c z (entryAt summary i)) (Reaches c z recordings) (length recordings)
+      exactly (λ i. saidToReach c z (entryAt summary i)) (Reaches c z recordings) (length recordings)
           (λ k h. then (le-so z (signed (word (entryAt summary k) (greatestAt c))))
           (greatest-reaches c z (signed (word (entryAt summary k) (greatestAt c))) (readings (getD recordings k [])) (s .entries k h .greatest c))),
     )

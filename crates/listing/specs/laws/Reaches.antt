@@ -13,7 +13,7 @@ use Rattle.number.specs.Words.{word, offsetBinary, signed, bits}
 use Rattle.number.specs.laws.Words.{sub-le, bits-whole, signed-bits}
 use Rattle.recording.specs.Reading.{curveOf}
 use Rattle.entry.specs.Entry.{entryBytes, greatestAt}
-use Rattle.listing.specs.Listing.{entryAt, reaches}
+use Rattle.listing.specs.Listing.{entryAt, saidToReach}
 
 -- the four bytes from o on of entry i
 word-of : (s : List ℕ) (i o at : ℕ) → o + 4 ≤ entryBytes → at ≡ i * entryBytes + o → word (entryAt s i) o ≡ word s at
@@ -39,8 +39,8 @@ lifted index h =
     omega arith
 
 pub reaches-index : (s : List ℕ) (i curve index : ℕ) → curve < 2 → index < axis
-    → leb (index + 147483648) (offsetBinary (word s (i * entryBytes + 8 + 8 * curve))) ≡ reaches (curveOf curve) (whole index) (entryAt s i)
-unfolding reaches signed
+    → leb (index + 147483648) (offsetBinary (word s (i * entryBytes + 8 + 8 * curve))) ≡ saidToReach (curveOf curve) (whole index) (entryAt s i)
+unfolding saidToReach signed
 reaches-index s i curve index h k =
     ap₂ (λ (m w : ℕ). leb m (offsetBinary w)) (sym (lifted index k)) (sym (greatest-word s i curve h))
     ∙ sym (sub-le 2147483648 (offsetBinary (bits (whole index))) (offsetBinary (word (entryAt s i) (greatestAt (curveOf curve)))))

@@ -4,7 +4,7 @@ use mathlib.Core.List.{List, [], _∷_}
 use mathlib.Core.Bool.{not}
 use lib.Dec.{T}
 use lib.Ieee.{Float, binary64, add, isNan, fits}
-use Rattle.ratio.specs.Degree.{degreeOf}
+use Rattle.binary64.specs.Degree.{degreeOf}
 use Rattle.mean.specs.Mean.{nought, over}
 use Rattle.mean.specs.declared.Mean.{Mean}
 

@@ -9,9 +9,9 @@ use native.Mathlib.Numerals.{add-one, one-add}
 use lib.ListN.{length}
 use lib.IntN.{pos}
 use lib.Ieee.{Float, nan, inf, fin, binary64, up, down, round, add, ofInt}
-use Rattle.ratio.specs.Apart.{apart}
-use Rattle.ratio.specs.Degree.{one, degreeOf}
-use Rattle.ratio.specs.laws.Degree.{int-exact}
+use Rattle.binary64.specs.Apart.{apart}
+use Rattle.binary64.specs.Degree.{one, degreeOf}
+use Rattle.binary64.specs.laws.Degree.{int-exact}
 use Rattle.mean.specs.Mean.{nought, sumFrom, sumOf, over, meanOf, Fraction, noDegree, plus, totalFrom, total, exactMean, WithinBillionth, AtMost}
 use Rattle.mean.specs.laws.Chain.{Within, within-none, within-longer, within-add, within-over, Billionth, billionth, Close, Ranged, round-close}
 use Rattle.mean.specs.laws.Fractions.{add-fractions, div-fractions}

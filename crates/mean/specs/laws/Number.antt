@@ -12,8 +12,8 @@ use lib.Ieee.{Float, nan, inf, fin, binary64, up, down, round, sum, add, div, of
 use lib.Ieee.Fits.{down-pos, add-fits, div-fits}
 use lib.Ieee.Exact.{HasValue}
 use borrow.Author.Tests.{ne-eqb}
-use Rattle.ratio.specs.Degree.{degreeOf}
-use Rattle.ratio.specs.laws.Degree.{int-exact, round-number}
+use Rattle.binary64.specs.Degree.{degreeOf}
+use Rattle.binary64.specs.laws.Degree.{int-exact, round-number}
 use Rattle.mean.specs.Mean.{AtMost}
 use Rattle.mean.specs.inner.Running.{start, next, runFrom, running, Number, Numbers, Fitting}
 use Rattle.mean.specs.laws.Near.{degree-close}

@@ -9,7 +9,7 @@ use lib.Dec.{lit≤, lit<}
 use lib.ListN.{length}
 use lib.IntN.{negsuc}
 use lib.Ieee.{Float, fin, add, div, ofInt, round}
-use Rattle.ratio.specs.Degree.{one, degreeOf}
+use Rattle.binary64.specs.Degree.{one, degreeOf}
 use Rattle.mean.specs.Mean.{sumFrom, sumOf, over, meanOf, exactMean, WithinBillionth, AtMost}
 use Rattle.mean.specs.inner.Running.{start, next, runFrom, running}
 use Rattle.mean.specs.laws.Near.{shift, mean-near}

@@ -1,15 +1,14 @@
 -- Laws of the calls: the result and the place fit in the low half of what a call returns, so that a reply can be told from another.
-use Prim.Native.Nat.{ℕ, suc, _*_, _/_, _≤_}
+use Prim.Native.Nat.{ℕ, _*_, _/_, _≤_}
 use native.Mathlib.Omega.{arith}
 use mathlib.Core.Path.{_≡_, refl, sym, ap, subst}
-use mathlib.Core.Bool.{Bool, true, false}
 use mathlib.Core.Logic.{⊎-elim}
 use mathlib.Core.List.{List, [], _∷_, _++_}
 use lib.IntN.{ℤ}
 use lib.ListN.{length}
 use borrow.Author.Tests.{ltb-false}
 use Rattle.refusal.specs.Outcome.{Outcome, result, refused, Line}
-use Rattle.recording.specs.Condition.{Condition, pick, pickFrom, when, on}
+use Rattle.recording.specs.Condition.{Condition, pick, on}
 use Rattle.recording.specs.Reading.{curveOf}
 use Rattle.recording.specs.Recording.{Raw, records, reading, readings, recordingLines, noRecord, mostRecords}
 use Rattle.recording.specs.Output.{counted, outputLine}
@@ -45,19 +44,12 @@ use Rattle.lab.specs.Lab.{labQuestionOf, labDegreeOf, labPairOf}
 use Rattle.lab.specs.laws.Plain.{PlainOr14, PlainOr11Or14, question-plain, degree-plain, pair-plain}
 use Rattle.reply.specs.Reply.{InHalf}
 use Rattle.reply.specs.laws.Place.{plain-place, place-below}
+use Rattle.tops.specs.laws.Pick.{few-picked}
 use Rattle.boundary.specs.Boundary.{valueTold, pairTold, bandTold, findingTold}
 use Rattle.boundary.specs.laws.Boundary.{filled-one}
 use Rattle.boundary.specs.inner.Fits.{NumbersIn, EndsIn}
 
 -- ---- bytes written
-
-pick-most : {X : Type 0} (ρ : Condition X) (before xs : List X) → length (pickFrom ρ before xs) ≤ length xs
-pick-most ρ before [] = omega arith
-pick-most {X} ρ before (x ∷ xs) = go (ρ before x xs) (pick-most ρ (x ∷ before) xs)
-  where
-    go : (k : Bool) → length (pickFrom ρ (x ∷ before) xs) ≤ length xs → length (when k x (pickFrom ρ (x ∷ before) xs)) ≤ suc (length xs)
-    go true h = omega arith
-    go false h = omega arith
 
 -- kept readings are no more than the readings
 pub kept-most : (marks bytes : List ℕ) → length (keptBytes marks bytes) ≤ 16 * (length bytes / 16)
@@ -65,7 +57,7 @@ unfolding keptBytes
 kept-most marks bytes =
     let ρ : Condition Raw = on reading (keptFor marks) in
     let a = length-concat (pick ρ (records bytes)) (kept-sixteens marks bytes) in
-    let b = pick-most ρ [] (records bytes) in
+    let b = few-picked ρ [] (records bytes) in
     let c = length-records bytes in
     omega arith
 

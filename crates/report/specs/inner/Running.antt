@@ -9,7 +9,7 @@ use lib.Ieee.{isNan}
 use Rattle.number.specs.Axis.{axis}
 use Rattle.refusal.specs.Outcome.{Outcome, result, refused}
 use Rattle.refusal.specs.Numbers.{numberOf, placeOf}
-use Rattle.ratio.specs.Degree.{degreeOf}
+use Rattle.binary64.specs.Degree.{degreeOf}
 use Rattle.degree.specs.Degree.{Reach, away, nowhere}
 use Rattle.degree.specs.inner.Reach.{reachAt}
 use Rattle.mean.specs.inner.Running.{next, running}

@@ -6,7 +6,7 @@ use mathlib.Core.List.{List, [], _∷_}
 use lib.IntN.{ℤ, negsuc}
 use lib.Ieee.{fin, add, div, ofInt, round}
 use Rattle.refusal.specs.Outcome.{Outcome, result, refused}
-use Rattle.ratio.specs.Degree.{degreeOf}
+use Rattle.binary64.specs.Degree.{degreeOf}
 use Rattle.degree.specs.Degree.{Reach, away, nowhere, reachOf}
 use Rattle.report.specs.Report.{figuresOf, noMean, meanDegree, Naming, Answer, taken, batchAnswer, onward, closed, underWay, startReport, addBatch, named, openedBy, reportAnswers}
 use Rattle.report.specs.inner.Naming.{naming}

@@ -12,7 +12,7 @@ use borrow.Author.Tests.{eq-eqb, ne-eqb, ltb-false, leb-false, lt-ltb, le-ltb, l
 use Rattle.number.specs.laws.Boolean.{none-left, none-right, or-none, or-left, or-right, clash, or-pass}
 use Rattle.number.specs.Axis.{axis}
 use Rattle.refusal.specs.Outcome.{Outcome, result, refused}
-use Rattle.ratio.specs.Degree.{degreeOf}
+use Rattle.binary64.specs.Degree.{degreeOf}
 use Rattle.degree.specs.Degree.{Reach, away, nowhere}
 use Rattle.mean.specs.inner.Running.{start, next, runFrom, running}
 use Rattle.mean.specs.laws.Running.{running-is}

@@ -57,9 +57,6 @@ module _ (words : List ℕ) (h : Valid words) where
   pub valid-short : length (cutsOf words) ≤ sharedWords
   valid-short = omega (arith, cuts-length, h .few)
 
-  pub valid-holds : Holds (member words) words
-  valid-holds = record { valid = h; members = λ v g. refl }
-
 pub holds-ext : (f g : ℕ → Bool) (words : List ℕ) → ((v : ℕ) → v < axis → f v ≡ g v) → Holds f words → Holds g words
 holds-ext f g words e r = record { valid = r .valid; members = λ v h. r .members v h ∙ e v h }
 

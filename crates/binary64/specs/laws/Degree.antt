@@ -12,7 +12,7 @@ use lib.Ieee.Exact.{HasValue}
 use lib.Ieee.Scale.{round-same}
 use lib.Ieee.Back.{round-whole}
 use borrow.Author.Tests.{ne-eqb}
-use Rattle.ratio.specs.Degree.{one, distanceOf, degreeOf}
+use Rattle.binary64.specs.Degree.{one, distanceOf, degreeOf}
 
 -- a whole number of at most 53 binary digits is a float exactly
 pub int-exact : (n : ℕ) → n ≤ 2 ^ 53 → HasValue (ofInt binary64 (pos n)) false n 1

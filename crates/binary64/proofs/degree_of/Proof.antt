@@ -2,10 +2,10 @@
 use mathlib.Core.Path.{ap}
 use lib.Ieee.{Float, binary64, div, ofBits}
 use native.Mathlib.Omega.{arith}
-use Rattle.ratio.specs.Degree.{one, degreeOf}
-use Rattle.ratio.specs.laws.Degree.{sum-exact}
-use Rattle.ratio.proofs.degree_of.Statement.{statement}
-use Rattle.ratio.proofs.degree_of.Tie as tie
+use Rattle.binary64.specs.Degree.{one, degreeOf}
+use Rattle.binary64.specs.laws.Degree.{sum-exact}
+use Rattle.binary64.proofs.degree_of.Statement.{statement}
+use Rattle.binary64.proofs.degree_of.Tie as tie
 
 int-to-float-result : tie.Need-int-to-float-result
 int-to-float-result c = tt

@@ -3,7 +3,7 @@ ghost use mathlib.Core.Path.{_≡_};
 ghost use mathlib.Core.Bool.{not};
 ghost use lib.Dec.{T};
 ghost use lib.Ieee.{binary64, toBits, isNan};
-ghost use Rattle.ratio.specs.Degree.{distanceOf, degreeOf};
+ghost use Rattle.binary64.specs.Degree.{distanceOf, degreeOf};
 
 // A distance in binary64: every `u32` is exact there.
 pub fn distance_of(d: u32) -> f64
