@@ -1,4 +1,4 @@
-//! The same sets in plain Rust, held alike: the ascending cuts in words that are lent, and their number in the last word. One merge for and and not, one for or.
+//! The same sets in plain Rust, held alike: the ascending cuts in words that are lent, and their number in the last word. One loop for each operation.
 
 pub const AXIS: u32 = 4_000_000_001;
 pub const MOST_RUNS: usize = 256;
@@ -14,82 +14,79 @@ fn cuts(a: &[u32]) -> &[u32] {
     &a[..a[CUTS] as usize]
 }
 
-fn merge(f: impl Fn(bool, bool) -> bool, a: &[u32], b: &[u32], out: &mut [u32]) -> Option<usize> {
+/// What two sets share, run by run.
+fn meet(a: &[u32], b: &[u32], out: &mut [u32]) -> Option<usize> {
     let (mut i, mut j, mut n) = (0, 0, 0);
-    let (mut p, mut q) = (false, false);
-    while i < a.len() || j < b.len() {
-        let was = f(p, q);
-        let x = if j == b.len() || (i < a.len() && a[i] < b[j]) {
-            p = !p;
-            i += 1;
-            a[i - 1]
-        } else if i == a.len() || b[j] < a[i] {
-            q = !q;
-            j += 1;
-            b[j - 1]
-        } else {
-            p = !p;
-            q = !q;
-            i += 1;
-            j += 1;
-            a[i - 1]
-        };
-        if was != f(p, q) {
+    while i < a.len() && j < b.len() {
+        let (low, end) = (a[i].max(b[j]), a[i + 1].min(b[j + 1]));
+        if low < end {
             if n == out.len() {
                 return None;
             }
-            out[n] = x;
-            n += 1;
+            out[n] = low;
+            out[n + 1] = end;
+            n += 2;
+        }
+        if a[i + 1] < b[j + 1] {
+            i += 2;
+        } else {
+            j += 2;
         }
     }
     Some(n)
 }
 
-fn limited(f: impl Fn(bool, bool) -> bool, a: &[u32], b: &[u32], set: &mut [u32]) -> bool {
-    match merge(f, a, b, &mut set[..CUTS]) {
-        None => true,
-        Some(n) => {
-            set[CUTS] = n as u32;
-            false
-        }
-    }
-}
-
-/// A merge run by run, as one would write it for joining alone.
+/// A merge run by run, as one would write it for joining alone: what one set has left when the other is used up is copied.
 fn join(a: &[u32], b: &[u32], set: &mut [u32]) -> bool {
     let (mut i, mut j, mut n) = (0, 0, 0);
-    let mut open: Option<(u32, u32)> = None;
-    while i < a.len() || j < b.len() {
-        let (low, end) = if j == b.len() || (i < a.len() && a[i] < b[j]) {
+    let first = match (a, b) {
+        ([], []) => {
+            set[CUTS] = 0;
+            return false;
+        }
+        ([], _) => &b[..2],
+        (_, []) => &a[..2],
+        _ => {
+            if a[0] < b[0] {
+                &a[..2]
+            } else {
+                &b[..2]
+            }
+        }
+    };
+    let (mut low, mut end) = (first[0], first[1]);
+    while i < a.len() && j < b.len() {
+        let run = if a[i] < b[j] {
             i += 2;
-            (a[i - 2], a[i - 1])
+            &a[i - 2..i]
         } else {
             j += 2;
-            (b[j - 2], b[j - 1])
+            &b[j - 2..j]
         };
-        open = match open {
-            Some((l, e)) if low <= e => Some((l, e.max(end))),
-            Some((l, e)) => {
-                if n == CUTS {
-                    return true;
-                }
-                set[n] = l;
-                set[n + 1] = e;
-                n += 2;
-                Some((low, end))
+        if run[0] <= end {
+            end = end.max(run[1]);
+        } else {
+            if n == CUTS {
+                return true;
             }
-            None => Some((low, end)),
-        };
-    }
-    if let Some((l, e)) = open {
-        if n == CUTS {
-            return true;
+            set[n] = low;
+            set[n + 1] = end;
+            n += 2;
+            (low, end) = (run[0], run[1]);
         }
-        set[n] = l;
-        set[n + 1] = e;
-        n += 2;
     }
-    set[CUTS] = n as u32;
+    let mut rest = if i < a.len() { &a[i..] } else { &b[j..] };
+    while !rest.is_empty() && rest[0] <= end {
+        end = end.max(rest[1]);
+        rest = &rest[2..];
+    }
+    if CUTS < n + 2 + rest.len() {
+        return true;
+    }
+    set[n] = low;
+    set[n + 1] = end;
+    set[n + 2..n + 2 + rest.len()].copy_from_slice(rest);
+    set[CUTS] = (n + 2 + rest.len()) as u32;
     false
 }
 
@@ -98,14 +95,35 @@ pub fn or(a: &[u32], b: &[u32], set: &mut [u32]) -> bool {
 }
 
 pub fn and(a: &[u32], b: &[u32], set: &mut [u32]) -> bool {
-    limited(|p, q| p && q, cuts(a), cuts(b), set)
+    match meet(cuts(a), cuts(b), &mut set[..CUTS]) {
+        None => true,
+        Some(n) => {
+            set[CUTS] = n as u32;
+            false
+        }
+    }
 }
 
+/// The same cuts, with one more or less at either end of the axis.
 pub fn not(a: &[u32], set: &mut [u32]) -> bool {
-    limited(|p, q| p != q, &[0, AXIS], cuts(a), set)
+    let a = cuts(a);
+    let low = usize::from(a.first() == Some(&0));
+    let high = usize::from(a.last() == Some(&AXIS));
+    let inner = &a[low..a.len() - high];
+    let (front, n) = (1 - low, inner.len() + 2 - low - high);
+    if CUTS < n {
+        return true;
+    }
+    set[0] = 0;
+    set[front..front + inner.len()].copy_from_slice(inner);
+    if high == 0 {
+        set[n - 1] = AXIS;
+    }
+    set[CUTS] = n as u32;
+    false
 }
 
 pub fn or_and(a: &[u32], p: &[u32], r: &[u32], shared: &mut [u32], set: &mut [u32]) -> bool {
-    let n = merge(|p, q| p && q, cuts(p), cuts(r), shared).unwrap();
+    let n = meet(cuts(p), cuts(r), shared).unwrap();
     join(cuts(a), &shared[..n], set)
 }
