@@ -43,19 +43,19 @@ use Rattle.mill.specs.Calls.{QuestionCall, DegreeCall, PairCall, ThinCall, Band
 use Rattle.promises.specs.CallsMade.{Returned, readOff, CallsMade, PinnedCalls, heldAt, takenFrom}
 use Rattle.promises.specs.Output.{Wrote}
 use Rattle.promises.specs.Summary.{EntryWritten, NumbersWritten, SummaryMade}
-use Rattle.promises.specs.Table.{Row, acceptedRows, questionRefusals, degreeRefusals, pairRefusals, thinRefusals, bandRefusals, orderRefusals, labQuestionRefusals, labDegreeRefusals, labPairRefusals, reportStartRefusals, entryRefusals, findRefusals, NoneMet, FirstMet}
+use Rattle.promises.specs.Table.{TableLine, questionTable, questionRefusals, degreeRefusals, pairRefusals, thinRefusals, bandRefusals, orderRefusals, labQuestionRefusals, labDegreeRefusals, labPairRefusals, reportStartRefusals, entryRefusals, findRefusals, NoneMet, FirstMet}
 
 -- ---- DEMAND 1
 
 -- "either the result or one numbered refusal": r is a result, its high half 0, exactly where none of these lines is met; else its high half is
 -- the number, and its low half the place, of the first that is met
-pub record ByTheTable (refusals : List Row) (r : ℕ) : Type 0 where
+pub record ByTheTable (refusals : List TableLine) (r : ℕ) : Type 0 where
   pub in-64-bits : r < half * half
   pub a-result : (numberIn r ≡ 0) ↔ NoneMet refusals
   pub a-refusal : ¬ (numberIn r ≡ 0) → FirstMet refusals (numberIn r) (lowIn r)
 
 -- "A refusal writes nothing into the caller's memory": its places stand as before
-pub record OneAnswer (refusals : List Row) (r : ℕ) (before after : List ℕ) : Type 0 where
+pub record OneAnswer (refusals : List TableLine) (r : ℕ) (before after : List ℕ) : Type 0 where
   pub result-or-refusal : ByTheTable refusals r
   pub refusal-writes-nothing : ¬ (numberIn r ≡ 0) → after ≡ before
 
@@ -215,7 +215,7 @@ pub record AskedOfKept (marks text : List ℕ) : Type 0 where
 
 -- r and `after` are right as an answer about the recording `full`, of any length, whichever readings were asked: the set that 2 fixes of it, or the
 -- refusal that these lines of the table fix of it
-pub record RightOf (refusals : List Row) (full text out : List ℕ) (r : ℕ) (after : List ℕ) : Type 0 where
+pub record RightOf (refusals : List TableLine) (full text out : List ℕ) (r : ℕ) (after : List ℕ) : Type 0 where
   pub refusal : ByTheTable refusals r
   pub set : numberIn r ≡ 0 → SetWritten full text out r after
 
@@ -276,7 +276,7 @@ pub record Demand3 (marks : List ℕ) : Type 0 where
   pub pinned-cut : AcceptedMarks marks → (cs : List Call) (xs : List Returned) → PinnedCalls marks [] cs xs → Accepted (wholeFrom [] cs) → CutBetween cs
       → LongEnough (marksOf marks) [] cs → CutWhole marks cs xs
   pub beyond : AcceptedMarks marks → (cs : List Call) (xs : List Returned) → CallsMade marks [] cs xs → {text : List ℕ} → AskedOfKept marks text
-      → {out : List ℕ} {r : ℕ} {after : List ℕ} → QuestionCall (heldAt [] xs) text out r after → RightOf (acceptedRows (takenFrom [] cs xs) text (length out)) (takenFrom [] cs xs) text out r after
+      → {out : List ℕ} {r : ℕ} {after : List ℕ} → QuestionCall (heldAt [] xs) text out r after → RightOf (questionTable (takenFrom [] cs xs) text (length out)) (takenFrom [] cs xs) text out r after
   pub bad-marks : marksLine marks .meets ≡ true → (cs : List Call) (xs : List Returned) → CallsMade marks [] cs xs
       → ((x : Returned) → List·Memᴰ x xs → ¬ (numberIn (x .returned) ≡ 0)) × (heldAt [] xs ≡ [])
 

@@ -29,8 +29,8 @@ use Rattle.listing.specs.Listing.{mostEntries, entryCount, listing}
 -- ---- THE CONDITIONS
 
 -- 1: the recording is not in records of 16 bytes
-abbrev pub PartialRecord : List ℕ → Type 0
-PartialRecord recording = ¬ (length recording % 16 ≡ 0)
+abbrev pub NotWholeRecords : List ℕ → Type 0
+NotWholeRecords recording = ¬ (length recording % 16 ≡ 0)
 
 -- 2: it has over 4,096 of them
 abbrev pub RecordsOver : List ℕ → Type 0
@@ -43,16 +43,16 @@ pub record FirstBroken (xs : List Raw) (i : ℕ) : Type 0 where
   pub first : (j : ℕ) → j < i → lawful xs j ≡ true
 
 -- 4: it has no record
-abbrev pub NoRecord : List ℕ → Type 0
-NoRecord recording = length (records recording) ≡ 0
+abbrev pub WithoutRecord : List ℕ → Type 0
+WithoutRecord recording = length (records recording) ≡ 0
 
 -- 5: the text is empty, or over 256 bytes long
 abbrev pub LengthBad : List ℕ → Type 0
 LengthBad text = (length text ≡ 0) ⊎ (mostBytes < length text)
 
 -- 6: it has no reading
-abbrev pub NoReading : List ℕ → Type 0
-NoReading text = (t : Text) → ¬ ReadsWhole text t
+abbrev pub WithoutReading : List ℕ → Type 0
+WithoutReading text = (t : Text) → ¬ ReadsWhole text t
 
 -- the text has a reading of which P holds
 abbrev pub ReadWith : List ℕ → (Text → Type 0) → Type 0
@@ -63,14 +63,14 @@ abbrev pub OpenTooDeep : List ℕ → Type 0
 OpenTooDeep text = (i : ℕ) × (i < length text) × (mostOpen < openAt text i)
 
 -- 7: its reading has over 32 nodes, or it has too many brackets open
-abbrev pub TextTooLarge : List ℕ → Type 0
-TextTooLarge text = ReadWith text (λ t. (mostNodes < nodes t) ⊎ OpenTooDeep text)
+abbrev pub TextOver : List ℕ → Type 0
+TextOver text = ReadWith text (λ t. (mostNodes < nodes t) ⊎ OpenTooDeep text)
 
 -- 8: some node's set at some record has over 256 runs
 abbrev pub RunsOver : (recording text : List ℕ) → Type 0
 RunsOver recording text = ReadWith text (Overfull (readings recording))
 
--- 9: over 256 tops of a curve between whose tops the text takes differences; or the pair call
+-- 9: over 256 tops of a curve between whose tops the text, or the pair call, takes differences
 abbrev pub TopsOver : (recording text : List ℕ) → Type 0
 TopsOver recording text = ReadWith text (TooManyTops (readings recording))
 
@@ -86,8 +86,11 @@ abbrev pub MarksOff : List ℕ → Type 0
 MarksOff marks = ¬ (length marks % 4 ≡ 0) ⊎ ((mostMarks < length marks / 4) ⊎ ((k : ℕ) × List·Memᴰ k (marksOf marks) × (latestMark < k)))
 
 -- 12: the target, or the level, is off the axis, or the curve number is not 0 or 1
+abbrev pub TargetOff : ℤ → Type 0
+TargetOff target = ¬ OfAxis target
+
 abbrev pub TargetBad : ℕ → ℤ → Type 0
-TargetBad curve target = (1 < curve) ⊎ ¬ OfAxis target
+TargetBad curve target = (1 < curve) ⊎ TargetOff target
 
 -- 13: the sheet has an odd length, over 32 lines, or a number that is not 1 to 16
 abbrev pub SheetBad : List ℕ → Type 0
@@ -122,93 +125,94 @@ SummaryBad summary = ¬ (length summary % entryBytes ≡ 0) ⊎ (mostEntries < e
 -- ---- THE TABLE
 
 -- a line of it: the number of a refusal, and its condition, of the place that is told with it
-pub record Row : Type 1 where
+pub record TableLine : Type 1 where
   pub number : ℕ
   pub Met : (place : ℕ) → Type 0
 
-infix 70 _when_
+infix 70 _upon_
 -- every line but that of 3 tells the place 0
-abbrev pub _when_ : ℕ → Type 0 → Row
-n when P = record { number = n; Met = λ place. (place ≡ 0) × P }
+abbrev pub _upon_ : ℕ → Type 0 → TableLine
+n upon P = record { number = n; Met = λ place. (place ≡ 0) × P }
 
 -- 1 to 3 of a recording
-abbrev pub recordingRows : List ℕ → List Row
-recordingRows recording =
-    1 when PartialRecord recording
-    ∷ 2 when RecordsOver recording
+abbrev pub recordingTable : List ℕ → List TableLine
+recordingTable recording =
+    1 upon NotWholeRecords recording
+    ∷ 2 upon RecordsOver recording
     ∷ record { number = 3; Met = FirstBroken (records recording) }
     ∷ []
 
 -- 5 to 7 of a text
-abbrev pub textRows : List ℕ → List Row
-textRows text = 5 when LengthBad text ∷ 6 when NoReading text ∷ 7 when TextTooLarge text ∷ []
+abbrev pub textTable : List ℕ → List TableLine
+textTable text = 5 upon LengthBad text ∷ 6 upon WithoutReading text ∷ 7 upon TextOver text ∷ []
 
 -- 1 to 7 of a recording that is asked a text
-abbrev pub askingRows : (recording text : List ℕ) → List Row
-askingRows recording text = recordingRows recording ++ 4 when NoRecord recording ∷ textRows text
+abbrev pub askingTable : (recording text : List ℕ) → List TableLine
+askingTable recording text = recordingTable recording ++ 4 upon WithoutRecord recording ∷ textTable text
 
 -- 1 to 7, 11 and 14 of a laboratory's text
-abbrev pub labAskingRows : (recording marks text : List ℕ) → List Row
-labAskingRows recording marks text = askingRows recording text ++ 11 when MarksOff marks ∷ 14 when NotLaboratory marks text ∷ []
+abbrev pub labAskingTable : (recording marks text : List ℕ) → List TableLine
+labAskingTable recording marks text = askingTable recording text ++ 11 upon MarksOff marks ∷ 14 upon NotLaboratory marks text ∷ []
 
 -- 4 to 10, in the question call's order: the lines for an accepted recording
-abbrev pub acceptedRows : (recording text : List ℕ) (room : ℕ) → List Row
-acceptedRows recording text room =
-    4 when NoRecord recording ∷ textRows text ++ 9 when TopsOver recording text ∷ 8 when RunsOver recording text ∷ 10 when SetLonger recording text room ∷ []
+abbrev pub questionTable : (recording text : List ℕ) (room : ℕ) → List TableLine
+questionTable recording text room =
+    4 upon WithoutRecord recording ∷ textTable text ++ 9 upon TopsOver recording text ∷ 8 upon RunsOver recording text ∷ 10 upon SetLonger recording text room ∷ []
 
 -- THE REFUSALS OF EACH CALL, in turn; of an output, the room is its length
-abbrev pub questionRefusals : (recording text : List ℕ) (room : ℕ) → List Row
-questionRefusals recording text room = recordingRows recording ++ acceptedRows recording text room
+abbrev pub questionRefusals : (recording text : List ℕ) (room : ℕ) → List TableLine
+questionRefusals recording text room = recordingTable recording ++ questionTable recording text room
 
-abbrev pub degreeRefusals : (recording text : List ℕ) (target : ℤ) → List Row
-degreeRefusals recording text target = askingRows recording text ++ 12 when (¬ OfAxis target) ∷ 9 when TopsOver recording text ∷ 8 when RunsOver recording text ∷ []
+abbrev pub degreeRefusals : (recording text : List ℕ) (target : ℤ) → List TableLine
+degreeRefusals recording text target = askingTable recording text ++ 12 upon TargetOff target ∷ 9 upon TopsOver recording text ∷ 8 upon RunsOver recording text ∷ []
 
-abbrev pub pairRefusals : (recording : List ℕ) (curve : ℕ) (target : ℤ) → List Row
-pairRefusals recording curve target = recordingRows recording ++ 4 when NoRecord recording ∷ 12 when TargetBad curve target ∷ 9 when TopsOfCurveOver recording curve ∷ []
+abbrev pub pairRefusals : (recording : List ℕ) (curve : ℕ) (target : ℤ) → List TableLine
+pairRefusals recording curve target = recordingTable recording ++ 4 upon WithoutRecord recording ∷ 12 upon TargetBad curve target ∷ 9 upon TopsOfCurveOver recording curve ∷ []
 
-abbrev pub thinRefusals : (recording marks : List ℕ) (room : ℕ) → List Row
-thinRefusals recording marks room = recordingRows recording ++ 11 when MarksOff marks ∷ 10 when (room < length (keptBytes (marksOf marks) recording)) ∷ []
+abbrev pub thinRefusals : (recording marks : List ℕ) (room : ℕ) → List TableLine
+thinRefusals recording marks room = recordingTable recording ++ 11 upon MarksOff marks ∷ 10 upon (room < length (keptBytes (marksOf marks) recording)) ∷ []
 
-abbrev pub bandRefusals : (recording text : List ℕ) (e : ℤ) → List Row
-bandRefusals recording text e = askingRows recording text ++ 16 when BandBad e ∷ 17 when NotOneExtreme text ∷ []
+abbrev pub bandRefusals : (recording text : List ℕ) (e : ℤ) → List TableLine
+bandRefusals recording text e = askingTable recording text ++ 16 upon BandBad e ∷ 17 upon NotOneExtreme text ∷ []
 
-abbrev pub orderRefusals : (recording sheet : List ℕ) → List Row
-orderRefusals recording sheet = recordingRows recording ++ 4 when NoRecord recording ∷ 13 when SheetBad sheet ∷ []
+abbrev pub orderRefusals : (recording sheet : List ℕ) → List TableLine
+orderRefusals recording sheet = recordingTable recording ++ 4 upon WithoutRecord recording ∷ 13 upon SheetBad sheet ∷ []
 
-abbrev pub labQuestionRefusals : (recording marks text : List ℕ) (room : ℕ) → List Row
+abbrev pub labQuestionRefusals : (recording marks text : List ℕ) (room : ℕ) → List TableLine
 labQuestionRefusals recording marks text room =
-    labAskingRows recording marks text ++ 9 when TopsOver recording text ∷ 8 when RunsOver recording text ∷ 10 when SetLonger recording text room ∷ []
+    labAskingTable recording marks text ++ 9 upon TopsOver recording text ∷ 8 upon RunsOver recording text ∷ 10 upon SetLonger recording text room ∷ []
 
-abbrev pub labDegreeRefusals : (recording marks text : List ℕ) (target : ℤ) → List Row
+abbrev pub labDegreeRefusals : (recording marks text : List ℕ) (target : ℤ) → List TableLine
 labDegreeRefusals recording marks text target =
-    labAskingRows recording marks text ++ 12 when (¬ OfAxis target) ∷ 9 when TopsOver recording text ∷ 8 when RunsOver recording text ∷ []
+    labAskingTable recording marks text ++ 12 upon TargetOff target ∷ 9 upon TopsOver recording text ∷ 8 upon RunsOver recording text ∷ []
 
-abbrev pub labPairRefusals : (recording : List ℕ) (curve : ℕ) (target : ℤ) → List Row
+abbrev pub labPairRefusals : (recording : List ℕ) (curve : ℕ) (target : ℤ) → List TableLine
 labPairRefusals recording curve target =
-    recordingRows recording ++ 4 when NoRecord recording ∷ 12 when TargetBad curve target ∷ 14 when (curve ≡ 1) ∷ 9 when TopsOfCurveOver recording curve ∷ []
+    recordingTable recording ++ 4 upon WithoutRecord recording ∷ 12 upon TargetBad curve target ∷ 14 upon (curve ≡ 1) ∷ 9 upon TopsOfCurveOver recording curve ∷ []
 
-abbrev pub reportStartRefusals : (count : ℕ) (text : List ℕ) (target : ℤ) (room : ℕ) → List Row
-reportStartRefusals count text target room = 15 when CountBad count ∷ textRows text ++ 12 when (¬ OfAxis target) ∷ 10 when (room < reportBytes) ∷ []
+-- its 10 is ours: fewer bytes than a report under way takes
+abbrev pub reportStartRefusals : (count : ℕ) (text : List ℕ) (target : ℤ) (room : ℕ) → List TableLine
+reportStartRefusals count text target room = 15 upon CountBad count ∷ textTable text ++ 12 upon TargetOff target ∷ 10 upon (room < reportBytes) ∷ []
 
-abbrev pub entryRefusals : (recording : List ℕ) (room : ℕ) → List Row
-entryRefusals recording room = recordingRows recording ++ 4 when NoRecord recording ∷ 10 when (room < entryBytes) ∷ []
+abbrev pub entryRefusals : (recording : List ℕ) (room : ℕ) → List TableLine
+entryRefusals recording room = recordingTable recording ++ 4 upon WithoutRecord recording ∷ 10 upon (room < entryBytes) ∷ []
 
-abbrev pub findRefusals : (summary : List ℕ) (curve : ℕ) (level : ℤ) (room : ℕ) → List Row
+abbrev pub findRefusals : (summary : List ℕ) (curve : ℕ) (level : ℤ) (room : ℕ) → List TableLine
 findRefusals summary curve level room =
-    20 when SummaryBad summary ∷ 12 when TargetBad curve level ∷ 10 when (room < length (listing (curveOf curve) level summary)) ∷ []
+    20 upon SummaryBad summary ∷ 12 upon TargetBad curve level ∷ 10 upon (room < length (listing (curveOf curve) level summary)) ∷ []
 
 -- ---- WHAT IT SAYS
 
 -- the condition of a line is not met, whatever the place
-abbrev pub Unmet : Row → Type 0
+abbrev pub Unmet : TableLine → Type 0
 Unmet w = (place : ℕ) → ¬ w .Met place
 
 -- no line is met
-abbrev pub NoneMet : List Row → Type 0
+abbrev pub NoneMet : List TableLine → Type 0
 NoneMet [] = Unit {0}
 NoneMet (w ∷ ws) = Unmet w × NoneMet ws
 
 -- the first line that is met has this number, and is met with this place
-abbrev pub FirstMet : List Row → (number place : ℕ) → Type 0
+abbrev pub FirstMet : List TableLine → (number place : ℕ) → Type 0
 FirstMet [] n p = ⊥
 FirstMet (w ∷ ws) n p = ((n ≡ w .number) × w .Met p) ⊎ (Unmet w × FirstMet ws n p)

@@ -56,7 +56,7 @@ use Rattle.entry.specs.Call.{entryLines}
 use Rattle.entry.specs.laws.Reckoned.{length-reckoned}
 use Rattle.listing.specs.Listing.{mostEntries, entryCount, listing}
 use Rattle.listing.specs.Call.{badSummary, levelLines}
-use Rattle.promises.specs.Table.{NoRecord, TopsOfCurveOver, recordingRows, ReadWith, OpenTooDeep, TextTooLarge, RunsOver, TopsOver, SetLonger, MarksOff, TargetBad, SheetBad, NotLaboratory, BandBad, OneExtreme, Row, _when_, textRows, askingRows, acceptedRows, questionRefusals, degreeRefusals, pairRefusals, thinRefusals, bandRefusals, orderRefusals, labQuestionRefusals, labDegreeRefusals, labPairRefusals, reportStartRefusals, entryRefusals, findRefusals}
+use Rattle.promises.specs.Table.{WithoutRecord, TopsOfCurveOver, recordingTable, ReadWith, OpenTooDeep, TextOver, RunsOver, TopsOver, SetLonger, MarksOff, TargetBad, SheetBad, NotLaboratory, BandBad, OneExtreme, TableLine, _upon_, textTable, askingTable, questionTable, questionRefusals, degreeRefusals, pairRefusals, thinRefusals, bandRefusals, orderRefusals, labQuestionRefusals, labDegreeRefusals, labPairRefusals, reportStartRefusals, entryRefusals, findRefusals}
 use Rattle.promises.specs.laws.Table.{agrees, Agree, done, next, _⊳_, so-eq, so-lt, so-none, agree-recording}
 
 -- ---- tests by what they decide
@@ -104,10 +104,10 @@ deep-open text = (to, from)
         (less-or-not (least (λ i. ltb mostOpen (openAt text i)) (length text)) (length text))
 
 module _ (text : List ℕ) where
-  seven-told : ReadsWhole text (read text) → So (tooLarge text) ↔ TextTooLarge text
+  seven-told : ReadsWhole text (read text) → So (tooLarge text) ↔ TextOver text
   seven-told r = so-read text r (λ t w. then (seven-means text t w) (either (λ h. h, λ h. h) (deep-open text)))
 
-  pub agree-text : {ls : List Line} {ws : List Row} → (NoneMeets (textLines text) → Agree ls ws) → Agree (textLines text ++ ls) (textRows text ++ ws)
+  pub agree-text : {ls : List Line} {ws : List TableLine} → (NoneMeets (textLines text) → Agree ls ws) → Agree (textLines text ++ ls) (textTable text ++ ws)
   agree-text rest =
       next (agrees 5 refl (so-either (so-eq (length text) 0) (so-lt mostBytes (length text))))
       (λ five. next (agrees 6 refl (six-means text))
@@ -131,7 +131,7 @@ in-its-place bytes text a = record {
 
 module _ (full held text : List ℕ) (place : InPlace full held text) where
   -- 4
-  agree-four : {ls : List Line} {ws : List Row} → (noRecord held .meets ≡ false → Agree ls ws) → Agree (noRecord held ∷ ls) (4 when NoRecord full ∷ ws)
+  agree-four : {ls : List Line} {ws : List TableLine} → (noRecord held .meets ≡ false → Agree ls ws) → Agree (noRecord held ∷ ls) (4 upon WithoutRecord full ∷ ws)
   agree-four rest = next (agrees 4 refl (then (so-eq (length (records held)) 0) (place .empty))) rest
 
   module _ (some : noRecord held .meets ≡ false) (sized : NoneMeets (textLines text)) where
@@ -177,25 +177,25 @@ module _ (full held text : List ℕ) (place : InPlace full held text) where
           lt-ltb room (length (setBytes (answer held text))) (omega (arith, setBytes-length (answer held text))),
     ))
 
-    agree-sets : (room : ℕ) → Agree (setLines held (read text) ++ (outputLine room (setBytes (answer held text)) ∷ [])) (9 when TopsOver full text ∷ 8 when RunsOver full text ∷ 10 when SetLonger full text room ∷ [])
+    agree-sets : (room : ℕ) → Agree (setLines held (read text) ++ (outputLine room (setBytes (answer held text)) ∷ [])) (9 upon TopsOver full text ∷ 8 upon RunsOver full text ∷ 10 upon SetLonger full text room ∷ [])
     agree-sets room = agrees 9 refl nine ⊳ agrees 8 refl eight ⊳ agrees 10 refl (ten room) ⊳ done
 
-    agree-near : Agree (setLines held (read text)) (9 when TopsOver full text ∷ 8 when RunsOver full text ∷ [])
+    agree-near : Agree (setLines held (read text)) (9 upon TopsOver full text ∷ 8 upon RunsOver full text ∷ [])
     agree-near = agrees 9 refl nine ⊳ agrees 8 refl eight ⊳ done
 
   -- THE QUESTION CALL, of what stands in for the recording: 4 to 10
   pub agree-asked : (room : ℕ)
-      → Agree (noRecord held ∷ textLines text ++ (setLines held (read text) ++ (outputLine room (setBytes (answer held text)) ∷ []))) (acceptedRows full text room)
+      → Agree (noRecord held ∷ textLines text ++ (setLines held (read text) ++ (outputLine room (setBytes (answer held text)) ∷ []))) (questionTable full text room)
   agree-asked room = agree-four (λ some. agree-text text (λ sized. agree-sets some sized room))
 
 -- 1 to 7, then the lines that follow, of which the recording is in its own place
-pub agree-asking : (bytes text : List ℕ) {ls : List Line} {ws : List Row}
-    → (InPlace bytes bytes text → noRecord bytes .meets ≡ false → NoneMeets (textLines text) → Agree ls ws) → Agree (askingLines bytes text ++ ls) (askingRows bytes text ++ ws)
+pub agree-asking : (bytes text : List ℕ) {ls : List Line} {ws : List TableLine}
+    → (InPlace bytes bytes text → noRecord bytes .meets ≡ false → NoneMeets (textLines text) → Agree ls ws) → Agree (askingLines bytes text ++ ls) (askingTable bytes text ++ ws)
 agree-asking bytes text rest = agree-recording bytes (λ a.
     let place = in-its-place bytes text a in agree-four bytes bytes text place (λ some. agree-text text (λ sized. rest place some sized)))
 
 -- 1 to 4, then the lines that follow
-agree-records : (bytes : List ℕ) {ls : List Line} {ws : List Row} → Agree ls ws → Agree (recordingLines bytes ++ noRecord bytes ∷ ls) (recordingRows bytes ++ 4 when NoRecord bytes ∷ ws)
+agree-records : (bytes : List ℕ) {ls : List Line} {ws : List TableLine} → Agree ls ws → Agree (recordingLines bytes ++ noRecord bytes ∷ ls) (recordingTable bytes ++ 4 upon WithoutRecord bytes ∷ ws)
 agree-records bytes rest = agree-recording bytes (λ a. agrees 4 refl (so-eq (length (records bytes)) 0) ⊳ rest)
 
 -- ---- the question call
@@ -294,8 +294,8 @@ agree-order bytes sheet = agree-records bytes (agrees 13 refl (off-sheet sheet) 
 -- ---- the laboratory's calls
 
 -- 11 and 14 of a text that was read, then the lines that follow
-agree-asker : (marks text : List ℕ) → NoneMeets (textLines text) → {ls : List Line} {ws : List Row} → Agree ls ws
-    → Agree (askerLines marks (read text) ++ ls) (11 when MarksOff marks ∷ 14 when NotLaboratory marks text ∷ ws)
+agree-asker : (marks text : List ℕ) → NoneMeets (textLines text) → {ls : List Line} {ws : List TableLine} → Agree ls ws
+    → Agree (askerLines marks (read text) ++ ls) (11 upon MarksOff marks ∷ 14 upon NotLaboratory marks text ∷ ws)
 agree-asker marks text sized rest =
     agrees 11 refl (off-marks marks)
     ⊳ agrees 14 refl (so-read text (read-reads text (sized .1 .0)) (of-each text (λ t. ¬ LaboratoryText (marksOf marks) t) (fourteen-text (marksOf marks) (read text))))

@@ -33,7 +33,7 @@ use Rattle.entry.specs.Call.{entryOf}
 use Rattle.listing.specs.Call.{findOf}
 use Rattle.mill.specs.Calls.{BandCall, OrderCall}
 use Rattle.mill.specs.laws.Calls.{thin-in-half, question-in-half, degree-in-half, pair-in-half, band-in-half, order-in-half, lab-question-in-half, lab-degree-in-half, lab-pair-in-half, entry-in-half, find-in-half}
-use Rattle.promises.specs.Table.{Row, FirstMet, questionRefusals, degreeRefusals, pairRefusals, thinRefusals, bandRefusals, orderRefusals, labQuestionRefusals, labDegreeRefusals, labPairRefusals, reportStartRefusals, entryRefusals, findRefusals}
+use Rattle.promises.specs.Table.{TableLine, FirstMet, questionRefusals, degreeRefusals, pairRefusals, thinRefusals, bandRefusals, orderRefusals, labQuestionRefusals, labDegreeRefusals, labPairRefusals, reportStartRefusals, entryRefusals, findRefusals}
 use Rattle.promises.specs.laws.Table.{AsTable, first-met, judged-told}
 use Rattle.promises.specs.laws.CallLines.{agree-question, agree-degree, agree-pair, agree-thin, agree-band, agree-order, agree-lab-question, agree-lab-degree, agree-lab-pair, agree-naming, agree-entry, agree-find}
 use Rattle.promises.specs.Output.{Wrote}
@@ -41,7 +41,7 @@ use Rattle.promises.specs.Demands.{ByTheTable, OneAnswer, Started, Hande
 
 -- ---- DEMAND 1: the number that is returned
 
-module _ (ws : List Row) where
+module _ (ws : List TableLine) where
   -- a packed outcome, judged by the table
   pub judged-number : (o : Outcome ℕ) (r : ℕ) → r ≡ packed o → InHalf o → AsTable ws o → ByTheTable ws r
   judged-number (result n) r e h t =
@@ -105,7 +105,7 @@ unfolding thinOf
 thin-told bytes marks room = judged-told (agree-thin bytes marks room) _
 
 -- a call that writes bytes
-writes-answered : (ws : List Row) (o : Outcome (List ℕ)) (out : List ℕ) (r : ℕ) (after : List ℕ) → AsTable ws o → InHalf (counted o) → Writes o out r after
+writes-answered : (ws : List TableLine) (o : Outcome (List ℕ)) (out : List ℕ) (r : ℕ) (after : List ℕ) → AsTable ws o → InHalf (counted o) → Writes o out r after
     → OneAnswer ws r out after
 writes-answered ws o out r after t h w = record {
   result-or-refusal = judged-number ws (counted o) r (w .returned) h (told-counted ws o t);
@@ -117,7 +117,7 @@ unfolding nearnessOf
 degree-told bytes text target = judged-told (agree-degree bytes text target) _
 
 -- two places, of any call that tells a distance and a degree
-degrees-answered : (ws : List Row) (o : Outcome Value) (distance degree′ r first second : ℕ) → AsTable ws o → InHalf (valueTold o) → Degrees o distance degree′ r first second
+degrees-answered : (ws : List TableLine) (o : Outcome Value) (distance degree′ r first second : ℕ) → AsTable ws o → InHalf (valueTold o) → Degrees o distance degree′ r first second
     → OneAnswer ws r (distance ∷ degree′ ∷ []) (first ∷ second ∷ [])
 degrees-answered ws (result met) distance degree′ r first second t h d = record { result-or-refusal = judged-number ws (result 0) r (d .returned) (omega arith) t; refusal-writes-nothing = λ k. absurd (k (ap numberIn (d .returned))) }
 degrees-answered ws (result (short x y)) distance degree′ r first second t h d = record { result-or-refusal = judged-number ws (result 1) r (d .returned) (omega arith) t; refusal-writes-nothing = λ k. absurd (k (ap numberIn (d .returned))) }
@@ -132,7 +132,7 @@ unfolding pairOf
 pair-told bytes curve target = judged-told (agree-pair bytes curve target) _
 
 -- and of any call that tells a pair
-pairs-answered : (ws : List Row) (o : Outcome Given) (earlier later r first second : ℕ) → AsTable ws o → InHalf (pairTold o) → Pairs o earlier later r first second
+pairs-answered : (ws : List TableLine) (o : Outcome Given) (earlier later r first second : ℕ) → AsTable ws o → InHalf (pairTold o) → Pairs o earlier later r first second
     → OneAnswer ws r (earlier ∷ later ∷ []) (first ∷ second ∷ [])
 pairs-answered ws (result (times t u)) earlier later r first second a h c = record { result-or-refusal = judged-number ws (result 1) r (c .returned) (omega arith) a; refusal-writes-nothing = λ k. absurd (k (ap numberIn (c .returned))) }
 pairs-answered ws (result none) earlier later r first second a h c = record { result-or-refusal = judged-number ws (result 0) r (c .returned) (omega arith) a; refusal-writes-nothing = λ k. absurd (k (ap numberIn (c .returned))) }
@@ -167,7 +167,7 @@ band-answered : (bytes text : List ℕ) (e : ℤ) (certain-low certain-high poss
 band-answered bytes text e certain-low certain-high possible-low possible-high r a b c d w =
     go (bandOf bytes text e) refl (band-judged bytes text e) w
   where
-    ws : List Row
+    ws : List TableLine
     ws = bandRefusals bytes text e
 
     go : (o : Outcome Bands) → bandOf bytes text e ≡ o → AsTable ws o → InBands o certain-low certain-high possible-low possible-high r a b c d
@@ -193,7 +193,7 @@ order-answered : (bytes sheet : List ℕ) (time line r first second : ℕ) → O
     → OneAnswer (orderRefusals bytes sheet) r (time ∷ line ∷ []) (first ∷ second ∷ [])
 order-answered bytes sheet time line r first second w = go (orderOf bytes sheet) refl (order-judged bytes sheet) w
   where
-    ws : List Row
+    ws : List TableLine
     ws = orderRefusals bytes sheet
 
     go : (o : Outcome Finding) → orderOf bytes sheet ≡ o → AsTable ws o → Orders o time line r first second → OneAnswer ws r (time ∷ line ∷ []) (first ∷ second ∷ [])
@@ -206,7 +206,7 @@ order-answered bytes sheet time line r first second w = go (orderOf bytes sheet)
 
 -- ---- the report
 
-told-answer : (ws : List Row) (o : Outcome Answer) → AsTable ws o → AsTable ws (answerTold o)
+told-answer : (ws : List TableLine) (o : Outcome Answer) → AsTable ws o → AsTable ws (answerTold o)
 told-answer ws (result taken) t = t
 told-answer ws (result (given f)) t = t
 told-answer ws (refused n p) t = t

@@ -53,7 +53,7 @@ use Rattle.boundary.specs.Boundary.{Degrees, valueTold, Pairs, pairTold, filled
 use Rattle.boundary.specs.laws.Boundary.{filled-one}
 use Rattle.mill.specs.Calls.{QuestionCall, DegreeCall, PairCall, BandCall, OrderCall}
 use Rattle.mill.specs.laws.Calls.{question-in-half, degree-in-half, band-in-half, order-in-half, pair-in-half}
-use Rattle.promises.specs.Table.{Row, acceptedRows, questionRefusals, degreeRefusals, pairRefusals, bandRefusals, orderRefusals}
+use Rattle.promises.specs.Table.{TableLine, questionTable, questionRefusals, degreeRefusals, pairRefusals, bandRefusals, orderRefusals}
 use Rattle.promises.specs.laws.Table.{AsTable, judged-told}
 use Rattle.promises.specs.laws.CallLines.{InPlace, in-its-place, answer-is, agree-asked}
 use Rattle.promises.specs.Demands.{Fixed, SetWritten, InRun, End, RunTold, BandTold, OrderTold, PairTold}
@@ -81,8 +81,8 @@ module _ (full held text : List ℕ) (place : InPlace full held text) (room : �
   unfolding questionOf
   question-of-held = judged-pass (recordingLines held) (noRecord held ∷ asked) (setBytes (answer held text)) (place .accepted)
 
-  pub stood-told : AsTable (acceptedRows full text room) (questionOf held text room)
-  stood-told = subst (AsTable (acceptedRows full text room)) (sym question-of-held) (judged-told (agree-asked full held text place room) (setBytes (answer held text)))
+  pub stood-told : AsTable (questionTable full text room) (questionOf held text room)
+  stood-told = subst (AsTable (questionTable full text room)) (sym question-of-held) (judged-told (agree-asked full held text place room) (setBytes (answer held text)))
 
   pub stood-fixed : (written : List ℕ) → questionOf held text room ≡ result written → Fixed full text written
   stood-fixed written e =
@@ -109,7 +109,7 @@ module _ (full held text : List ℕ) (place : InPlace full held text) (room : �
 pub written-set : (recording text out : List ℕ) (r : ℕ) (after : List ℕ) → QuestionCall recording text out r after → numberIn r ≡ 0 → SetWritten recording text out r after
 written-set recording text out r after w z =
     let o : Outcome (List ℕ) = questionOf recording text (length out) in
-    let ws : List Row = questionRefusals recording text (length out) in
+    let ws : List TableLine = questionRefusals recording text (length out) in
     let b = wrote o out r after (question-in-half recording text (length out))
     (told-numbered ws (counted o) (told-counted ws o (question-told recording text (length out)))) w z in
     record { written = b .0; set = stood-fixed recording recording text (own recording text (b .0) (b .1)) (length out) (b .0) (b .1); wrote = b .2 }
@@ -127,7 +127,7 @@ degree-meant recording text target distance value r first second d z = go (nearn
         let n = nearness-says recording text target x e in
         (index target, x, n .1, n .2, subst (λ (o : Outcome Value). Degrees o distance value r first second) e d)
     go (refused n p) e =
-        let ws : List Row = degreeRefusals recording text target in
+        let ws : List TableLine = degreeRefusals recording text target in
         let t : AsTable ws {R = Value} (refused n p) = subst (λ (o : Outcome Value). AsTable ws o) e (degree-told recording text target) in
         let b = t .1 .0 in
         let k : numberIn r ≡ n = ap numberIn (d .returned ∙ ap (λ (o : Outcome Value). packed (valueTold o)) e) ∙ number-refused n p (subst (λ (o : Outcome Value). InHalf (valueTold o)) e (degree-in-half recording text target)) in
@@ -179,7 +179,7 @@ band-given recording text e certain-low certain-high possible-low possible-high 
     go : (o : Outcome Bands) → bandOf recording text e ≡ o → InBands o certain-low certain-high possible-low possible-high r a b c d → (x : Bands) × (bandOf recording text e ≡ result x)
     go (result x) h w = (x, h)
     go (refused n p) h w =
-        let ws : List Row = bandRefusals recording text e in
+        let ws : List TableLine = bandRefusals recording text e in
         let t : AsTable ws {R = Bands} (refused n p) = subst (λ (o : Outcome Bands). AsTable ws o) h (band-judged recording text e) in
         let f = t .1 .0 in
         let k : numberIn r ≡ n = ap numberIn (w .returned) ∙ number-refused n p (subst (λ (o : Outcome Bands). InHalf (bandTold o)) h (band-in-half recording text e)) in
@@ -247,7 +247,7 @@ pair-meaning bytes curve target earlier later r first second w z = go (pairOf by
           a-pair = λ h. subst (FirstFitting (readings bytes) (curveOf curve) target) (sym (ap₂ times (w .first-place) (w .second-place))) (given-pair bytes curve target (times t u) e);
         }
     go (refused n i) e w =
-        let ws : List Row = pairRefusals bytes curve target in
+        let ws : List TableLine = pairRefusals bytes curve target in
         let k = number-refused n i (subst (λ (o : Outcome Given). InHalf (pairTold o)) e (pair-in-half bytes curve target)) in
         let b = told-numbered ws (refused n i) (subst (AsTable ws) e (pair-told bytes curve target)) in
         let h = ap numberIn (w .returned) in
@@ -279,7 +279,7 @@ order-meaning bytes sheet time line r first second w z = go (orderOf bytes sheet
           broken = λ h. subst (TrueFinding (readings bytes) (sheetOf sheet)) (sym (ap₂ brokenAt (w .first-place) (w .second-place))) (true-of (brokenAt t k) e);
         }
     go (refused n i) e w =
-        let ws : List Row = orderRefusals bytes sheet in
+        let ws : List TableLine = orderRefusals bytes sheet in
         let k = number-refused n i (subst (λ (o : Outcome Finding). InHalf (findingTold o)) e (order-in-half bytes sheet)) in
         let b = told-numbered ws (refused n i) (subst (AsTable ws) e (order-judged bytes sheet)) in
         let h = ap numberIn (w .returned) in

@@ -10,7 +10,7 @@ use Rattle.thin.specs.laws.Model.{kept-none}
 use Rattle.thin.specs.Cut.{allWritten}
 use Rattle.thin.specs.laws.Cut.{as-the-whole}
 use Rattle.mill.specs.Calls.{QuestionCall}
-use Rattle.promises.specs.Table.{acceptedRows}
+use Rattle.promises.specs.Table.{questionTable}
 use Rattle.thin.specs.laws.Selection.{kept-selection}
 use Rattle.promises.specs.laws.StandIn.{selection-stands}
 use Rattle.promises.specs.CallsMade.{readOff, takenFrom}
@@ -43,7 +43,7 @@ demand-3 marks = record {
       let join : List ℕ = joinAfter ks [] cs in
       let every = list-as-model marks fine cs xs t in
       let same-join : takenFrom [] cs xs ≡ join = taken-join ks [] cs xs [] (every .as-the-model) in
-      subst (λ (j : List ℕ). RightOf (acceptedRows j text (length out)) j text out r after) (sym same-join)
+      subst (λ (j : List ℕ). RightOf (questionTable j text (length out)) j text out r after) (sym same-join)
       (stands-in join (keptBytes ks join) text out (in-place marks join (keptBytes ks join) text (selection-stands ks join (keptBytes ks join) (accepted-after ks cs [] refl (nothing-accepted ks)) (kept-selection ks join)) l) r after
       (subst (λ (h : List ℕ). QuestionCall h text out r after) (every .held ∙ ap (keptBytes ks) same-join) w));
   bad-marks = bad-calls marks;

@@ -22,7 +22,7 @@ use Rattle.reply.specs.Reply.{numberIn, lowIn, unpacked}
 use Rattle.reply.specs.laws.Unpacked.{unpacked-packed}
 use Rattle.mill.specs.Calls.{ThinCall}
 use Rattle.mill.specs.laws.Calls.{thin-in-half}
-use Rattle.promises.specs.Table.{Row, thinRefusals}
+use Rattle.promises.specs.Table.{TableLine, thinRefusals}
 use Rattle.promises.specs.laws.CallLines.{off-marks}
 use Rattle.thin.specs.laws.Selection.{kept-selection, selection-accepted}
 use Rattle.promises.specs.CallsMade.{Returned, readOff, CallsMade, heldAt, takenNext, takenFrom}
@@ -36,7 +36,7 @@ pub read-thinned : (marks held : List ℕ) (c : Call) (x : Returned) → ThinCal
 read-thinned marks held c x w =
     let bytes : List ℕ = held ++ c .piece in
     let room : ℕ = length (c .output) in
-    let ws : List Row = thinRefusals bytes marks room in
+    let ws : List TableLine = thinRefusals bytes marks room in
     let o : Outcome (List ℕ) = thinOf bytes marks room in
     let e : unpacked (x .returned) ≡ counted o = ap unpacked (w .returned)
     ∙ unpacked-packed (counted o) (thin-in-half bytes marks room) (told-numbered ws (counted o) (told-counted ws o (thin-told bytes marks room))) in

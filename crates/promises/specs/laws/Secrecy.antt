@@ -39,7 +39,7 @@ use Rattle.boundary.specs.Boundary.{Degrees, valueTold, distanceAfter, degreeAf
 use Rattle.mill.specs.laws.Calls.{lab-question-in-half}
 use Rattle.promises.specs.StandIn.{StandIn}
 use Rattle.promises.specs.Secrecy.{Public, the-batch, the-additions, AllButB, SamePlaces, SameToLab, Secrecy}
-use Rattle.promises.specs.Table.{Row, labQuestionRefusals, labDegreeRefusals, labPairRefusals}
+use Rattle.promises.specs.Table.{TableLine, labQuestionRefusals, labDegreeRefusals, labPairRefusals}
 use Rattle.promises.specs.laws.Table.{AsTable}
 use Rattle.promises.specs.laws.StandIn.{judged-behind, same-noRecord, stand-same, meant-val, meant-lines}
 use Rattle.promises.specs.laws.KeptAsFull.{selected-stands}
@@ -171,13 +171,13 @@ pairs-alike o h t u t′ u′ r r′ f g f′ g′ w w′ = record {
     go (refused n p) h w w′ e = let a = w .returned in absurd (omega arith)
 
 -- a value, and a pair, told by the table has a number that is not 0
-value-numbered : (ws : List Row) (o : Outcome Value) → AsTable ws o → Numbered (valueTold o)
+value-numbered : (ws : List TableLine) (o : Outcome Value) → AsTable ws o → Numbered (valueTold o)
 value-numbered ws (result met) t = tt
 value-numbered ws (result (short x y)) t = tt
 value-numbered ws (result noValue) t = tt
 value-numbered ws (refused n p) t = t .1 .0
 
-pair-numbered : (ws : List Row) (o : Outcome Given) → AsTable ws o → Numbered (pairTold o)
+pair-numbered : (ws : List TableLine) (o : Outcome Given) → AsTable ws o → Numbered (pairTold o)
 pair-numbered ws (result (times x y)) t = tt
 pair-numbered ws (result none) t = tt
 pair-numbered ws (refused n p) t = t .1 .0
@@ -188,7 +188,7 @@ same-to-lab : (marks recording other held held′ : List ℕ) → AllButB record
     → SameToLab marks held held′
 same-to-lab marks recording other held held′ two s s′ = record {
   question = λ text {out} {out′} e {r} {r′} {after} {after′} w w′.
-      let ws : List Row = labQuestionRefusals held marks text (length out) in
+      let ws : List TableLine = labQuestionRefusals held marks text (length out) in
       let o : Outcome (List ℕ) = labQuestionOf held marks text (length out) in
       let same : o ≡ labQuestionOf held′ marks text (length out′) =
       same-question marks recording other held held′ two s s′ text (length out) ∙ ap (labQuestionOf held′ marks text) e in
@@ -200,11 +200,11 @@ same-to-lab marks recording other held held′ two s s′ = record {
         memory = λ m. w .output ∙ ap₂ outputAfter same m ∙ sym (w′ .output);
       };
   degree = λ text target {distance} {value} {distance′} {value′} {r} {r′} {distance-after = f} {value-after = g} {distance-after′ = f′} {value-after′ = g′} w w′.
-      let ws : List Row = labDegreeRefusals held marks text target in
+      let ws : List TableLine = labDegreeRefusals held marks text target in
       degrees-alike (labDegreeOf held marks text target) (value-numbered ws (labDegreeOf held marks text target) (lab-degree-told held marks text target)) distance value distance′ value′ r r′ f g f′ g′ w
       (subst (λ (o : Outcome Value). Degrees o distance′ value′ r′ f′ g′) (sym (same-degree marks recording other held held′ two s s′ text target)) w′);
   pair = λ number target {earlier} {later} {earlier′} {later′} {r} {r′} {earlier-after = f} {later-after = g} {earlier-after′ = f′} {later-after′ = g′} w w′.
-      let ws : List Row = labPairRefusals held number target in
+      let ws : List TableLine = labPairRefusals held number target in
       pairs-alike (labPairOf held number target) (pair-numbered ws (labPairOf held number target) (lab-pair-told held number target)) earlier later earlier′ later′ r r′ f g f′ g′ w
       (subst (λ (o : Outcome Given). Pairs o earlier′ later′ r′ f′ g′) (sym (same-pair marks recording other held held′ two s s′ number target)) w′);
 }

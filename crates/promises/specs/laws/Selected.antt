@@ -20,7 +20,7 @@ use Rattle.boundary.specs.Boundary.{Writes}
 use Rattle.boundary.specs.laws.Boundary.{degrees-same, pairs-same, bands-same, orders-same}
 use Rattle.mill.specs.Calls.{QuestionCall, ThinCall}
 use Rattle.mill.specs.laws.Calls.{thin-in-half, question-in-half}
-use Rattle.promises.specs.Table.{Row, acceptedRows, questionRefusals}
+use Rattle.promises.specs.Table.{TableLine, questionTable, questionRefusals}
 use Rattle.promises.specs.laws.Table.{AsTable}
 use Rattle.promises.specs.laws.CallLines.{InPlace}
 use Rattle.promises.specs.laws.Operator.{unwritten-propositional}
@@ -49,10 +49,10 @@ in-place marks full held text s l = record {
 }
 
 pub stands-in : (full held text out : List ℕ) → InPlace full held text → (r : ℕ) (after : List ℕ) → QuestionCall held text out r after
-    → RightOf (acceptedRows full text (length out)) full text out r after
+    → RightOf (questionTable full text (length out)) full text out r after
 stands-in full held text out place r after w =
     let o : Outcome (List ℕ) = questionOf held text (length out) in
-    let ws : List Row = acceptedRows full text (length out) in
+    let ws : List TableLine = questionTable full text (length out) in
     let t : AsTable ws (counted o) = told-counted ws o (stood-told full held text place (length out)) in
     let h : InHalf (counted o) = question-in-half held text (length out) in
     record {
@@ -105,7 +105,7 @@ module _ (marks recording held : List ℕ) (fine : AcceptedMarks marks) (a : Acc
 same-written : (recording text : List ℕ) {out out′ : List ℕ} {r r′ : ℕ} {after after′ : List ℕ} → length out ≡ length out′ → QuestionCall recording text out r after
     → QuestionCall recording text out′ r′ after′ → (r ≡ r′) × (numberIn r ≡ 0 → (b : List ℕ) × Wrote b out r after × Wrote b out′ r′ after′)
 same-written recording text {out} e w w′ =
-    let ws : List Row = questionRefusals recording text (length out) in
+    let ws : List TableLine = questionRefusals recording text (length out) in
     let o : Outcome (List ℕ) = questionOf recording text (length out) in
     writes-alike (ap (questionOf recording text) e) (question-in-half recording text (length out))
     (told-numbered ws (counted o) (told-counted ws o (question-told recording text (length out)))) w w′

@@ -35,7 +35,7 @@ use Rattle.reply.specs.laws.Unpacked.{number-result}
 use Rattle.boundary.specs.Boundary.{Writes}
 use Rattle.mill.specs.Calls.{EntryCall, FindCall}
 use Rattle.mill.specs.laws.Calls.{entry-in-half, find-in-half}
-use Rattle.promises.specs.Table.{Row, entryRefusals, findRefusals}
+use Rattle.promises.specs.Table.{TableLine, entryRefusals, findRefusals}
 use Rattle.promises.specs.Output.{Wrote}
 use Rattle.promises.specs.Summary.{EntryWritten, NumbersWritten, EntryMade, SummaryMade}
 use Rattle.promises.specs.laws.CallLines.{on-axis}
@@ -56,7 +56,7 @@ entry-given bytes room e h =
 entry-wrote : (recording out : List ℕ) (r : ℕ) (after : List ℕ) → EntryCall recording out r after → numberIn r ≡ 0
     → (b : List ℕ) × (entryOf recording (length out) ≡ result b) × Wrote b out r after
 entry-wrote recording out r after w z =
-    let ws : List Row = entryRefusals recording (length out) in
+    let ws : List TableLine = entryRefusals recording (length out) in
     let o : Outcome (List ℕ) = entryOf recording (length out) in
     wrote o out r after (entry-in-half recording (length out)) (told-numbered ws (counted o) (told-counted ws o (entry-judged recording (length out)))) w z
 
@@ -72,7 +72,7 @@ module _ (summary : List ℕ) (curve : ℕ) (level : ℤ) (out : List ℕ) (r : 
   find-wrote : numberIn r ≡ 0 → Wrote (listing (curveOf curve) level summary) out r after
   unfolding findOf
   find-wrote z =
-      let ws : List Row = findRefusals summary curve level (length out) in
+      let ws : List TableLine = findRefusals summary curve level (length out) in
       let o : Outcome (List ℕ) = findOf summary curve level (length out) in
       let b = wrote o out r after (find-in-half summary curve level (length out)) (told-numbered ws (counted o) (told-counted ws o (find-judged summary curve level (length out)))) w z in
       let k = result-none (badSummary summary ∷ levelLines summary curve level (length out)) (listing (curveOf curve) level summary) (b .0) (b .1) in

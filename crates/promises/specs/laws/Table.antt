@@ -12,7 +12,7 @@ use Rattle.number.specs.laws.Boolean.{clash, then, and-left, and-right, so-not}
 use Rattle.number.specs.laws.Least.{least-holds, least-first}
 use Rattle.refusal.specs.Outcome.{Outcome, result, refused, Line, line, judged}
 use Rattle.recording.specs.Recording.{Raw, records, lawful, firstBad, mostRecords, recordingLines, Accepted}
-use Rattle.promises.specs.Table.{FirstBroken, Row, _when_, recordingRows, Unmet, NoneMet, FirstMet}
+use Rattle.promises.specs.Table.{FirstBroken, TableLine, _upon_, recordingTable, Unmet, NoneMet, FirstMet}
 
 -- ---- lines that agree with the table
 
@@ -21,14 +21,14 @@ abbrev pub Known : ℕ → Type 0
 Known n = (0 < n) × (n < 21)
 
 -- the line has the number of the table's, and meets exactly where its condition is met
-pub record Agrees (l : Line) (w : Row) : Type 0 where
+pub record Agrees (l : Line) (w : TableLine) : Type 0 where
   pub number : l .number ≡ w .number
   pub known : Known (w .number)
   pub met : l .meets ≡ true → w .Met (l .place)
   pub unmet : l .meets ≡ false → Unmet w
 
 -- a line with the place 0, whose test decides the condition
-pub agrees : (n : ℕ) {b : Bool} {P : Type 0} → (ltb 0 n && ltb n 21) ≡ true → So b ↔ P → Agrees (line n b) (n when P)
+pub agrees : (n : ℕ) {b : Bool} {P : Type 0} → (ltb 0 n && ltb n 21) ≡ true → So b ↔ P → Agrees (line n b) (n upon P)
 agrees n {b} k d = record {
   number = refl;
   known = (ltb-true 0 n (and-left (ltb 0 n) (ltb n 21) k), ltb-true n 21 (and-right (ltb 0 n) (ltb n 21) k));
@@ -37,40 +37,40 @@ agrees n {b} k d = record {
 }
 
 -- each line agrees, where none before it meets
-abbrev Each : List Line → List Row → Type 0
+abbrev Each : List Line → List TableLine → Type 0
 Each [] [] = Unit {0}
 Each [] (w ∷ ws) = ⊥
 Each (l ∷ ls) [] = ⊥
 Each (l ∷ ls) (w ∷ ws) = Agrees l w × (l .meets ≡ false → Each ls ws)
 
-pub record Agree (ls : List Line) (ws : List Row) : Type 0 where
+pub record Agree (ls : List Line) (ws : List TableLine) : Type 0 where
   pub each : Each ls ws
 
 pub done : Agree [] []
 done = record { each = tt }
 
 -- a line agrees, and those behind it do where it does not meet
-pub next : {l : Line} {w : Row} {ls : List Line} {ws : List Row} → Agrees l w → (l .meets ≡ false → Agree ls ws) → Agree (l ∷ ls) (w ∷ ws)
+pub next : {l : Line} {w : TableLine} {ls : List Line} {ws : List TableLine} → Agrees l w → (l .meets ≡ false → Agree ls ws) → Agree (l ∷ ls) (w ∷ ws)
 next a rest = record { each = (a, λ e. rest e .each) }
 
 infixr 50 _⊳_
-pub _⊳_ : {l : Line} {w : Row} {ls : List Line} {ws : List Row} → Agrees l w → Agree ls ws → Agree (l ∷ ls) (w ∷ ws)
+pub _⊳_ : {l : Line} {w : TableLine} {ls : List Line} {ws : List TableLine} → Agrees l w → Agree ls ws → Agree (l ∷ ls) (w ∷ ws)
 a ⊳ rest = next a (λ e. rest)
 
 -- what an outcome says by the table: a result, no line is met; a refusal, it is the first that is
-abbrev pub AsTable : List Row → {R : Type 0} → Outcome R → Type 0
+abbrev pub AsTable : List TableLine → {R : Type 0} → Outcome R → Type 0
 AsTable ws (result r) = NoneMet ws
 AsTable ws (refused n p) = FirstMet ws n p × Known n
 
 -- where a line is met, not none is
-pub first-met : (ws : List Row) (n p : ℕ) → FirstMet ws n p → ¬ NoneMet ws
+pub first-met : (ws : List TableLine) (n p : ℕ) → FirstMet ws n p → ¬ NoneMet ws
 first-met [] n p f none = f
 first-met (w ∷ ws) n p (inl h) none = none .0 p (h .1)
 first-met (w ∷ ws) n p (inr h) none = first-met ws n p (h .1) (none .1)
 
 module _ {R : Type 0} where
   -- what is judged by agreeing lines
-  judged-each : (ls : List Line) (ws : List Row) (r : R) → Each ls ws → AsTable ws (judged ls r)
+  judged-each : (ls : List Line) (ws : List TableLine) (r : R) → Each ls ws → AsTable ws (judged ls r)
   unfolding judged
   judged-each [] [] r a = tt
   judged-each [] (w ∷ ws) r a = absurd a
@@ -85,7 +85,7 @@ module _ {R : Type 0} where
       go true e o t = (inl (a .0 .number, a .0 .met e), subst Known (sym (a .0 .number)) (a .0 .known))
       go false e o t = rest e o (t e)
 
-  pub judged-told : {ls : List Line} {ws : List Row} → Agree ls ws → (r : R) → AsTable ws (judged ls r)
+  pub judged-told : {ls : List Line} {ws : List TableLine} → Agree ls ws → (r : R) → AsTable ws (judged ls r)
   judged-told {ls} {ws} a r = judged-each ls ws r (a .each)
 
 -- ---- tests by what they decide
@@ -117,7 +117,7 @@ module _ (bytes : List ℕ) where
   unfolding firstBad
   none-broken h i f = let k = f .inside in clash (not-false (lawful xs i) (least-first (λ i. not (lawful xs i)) (length xs) i (omega arith))) (f .broken)
 
-  pub agree-recording : {ls : List Line} {ws : List Row} → (Accepted bytes → Agree ls ws) → Agree (recordingLines bytes ++ ls) (recordingRows bytes ++ ws)
+  pub agree-recording : {ls : List Line} {ws : List TableLine} → (Accepted bytes → Agree ls ws) → Agree (recordingLines bytes ++ ls) (recordingTable bytes ++ ws)
   agree-recording rest =
       next (agrees 1 refl (so-none (so-eq (length bytes % 16) 0)))
       (λ one. next (agrees 2 refl (so-lt mostRecords (length bytes / 16)))
