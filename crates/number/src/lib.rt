@@ -26,7 +26,8 @@ pub fn greater(m: u32, n: u32) -> u32
     if m < n { n } else { m }
 }
 
-fn wide(x: u8) -> u32
+// A byte, as a number of 32 bits.
+pub fn wide(x: u8) -> u32
     ensures { λ r. ⌜ (r ≡ x) × (r < 256) ⌝ }
 {
     x as u32

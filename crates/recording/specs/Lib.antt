@@ -6,4 +6,5 @@ pub mod Output
 pub mod R1
 pub mod R2
 pub mod R3
+pub mod inner
 pub mod laws
