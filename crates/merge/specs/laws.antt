@@ -1,5 +1,6 @@
 pub mod Complement
 pub mod Merge
 pub mod OneRun
+pub mod Shared
 pub mod Made
 pub mod Examples

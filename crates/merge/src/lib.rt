@@ -1,4 +1,4 @@
-// What two sets share, by a walk along their cuts; and the complement of a set.
+// What two sets share, run by run; and the complement of a set.
 pub mod complement;
 pub mod run;
 pub mod walk;

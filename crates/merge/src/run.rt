@@ -2,12 +2,14 @@
 ghost use mathlib.Core.Path.{_≡_};
 ghost use mathlib.Core.Bool.{true, false, _&&_};
 ghost use mathlib.Core.List.{[], _∷_};
-ghost use Prim.Native.Nat.{_≤_, _<_, min, max};
+ghost use Prim.Native.Nat.{_≤_, _<_};
 ghost use lib.ListN.{length};
 ghost use Rattle.runs.specs.Set.{sharedWords, Canonical};
 ghost use Rattle.merge.specs.inner.Merge.{mergeCuts, Merged};
 ghost use Rattle.merge.specs.inner.OneRun.{runCuts, OneRun};
 use crate::walk::Filled;
+use crate::walk::greater;
+use crate::walk::lesser;
 
 // The numbers from low on and before end; none where low is not below end. Not known where there may be more runs.
 struct Run {
@@ -24,18 +26,6 @@ fn unknown() -> Run
         low: 0,
         end: 0,
     }
-}
-
-fn lesser(x: u32, y: u32) -> u32
-    ensures { λ r. ⌜ r ≡ min x y ⌝ }
-{
-    if x < y { x } else { y }
-}
-
-fn greater(x: u32, y: u32) -> u32
-    ensures { λ r. ⌜ r ≡ max x y ⌝ }
-{
-    if x < y { y } else { x }
 }
 
 // What two runs share.
@@ -86,5 +76,5 @@ pub fn merge(a: &[u32], b: &[u32], out: &mut [u32]) -> Filled
     if run.known {
         return put(run.low, run.end, out);
     }
-    crate::walk::merge(a, a.len(), b, b.len(), out)
+    crate::walk::merge(a, b, out)
 }

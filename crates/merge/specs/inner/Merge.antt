@@ -1,12 +1,11 @@
--- The cuts of an operation on two sets, by one walk along both lists, and what the functions of the walk promise.
-use Prim.Native.Nat.{ℕ, _+_, _≤_, _<_}
+-- The cuts of an operation on two sets, by both lists from their heads on, and what it is to write them.
+use Prim.Native.Nat.{ℕ}
 use mathlib.Core.Path.{_≡_}
 use mathlib.Core.Bool.{Bool, true, false, not}
 use mathlib.Core.List.{List, [], _∷_, _++_}
 use lib.Dec.{ltb}
 use lib.ListN.{length, drop}
 use Rattle.runs.specs.inner.Emit.{emit}
-use Rattle.merge.specs.declared.walk.Step.{Step}
 use Rattle.merge.specs.declared.walk.Filled.{Filled}
 
 -- the cuts of f of two sets, p and q being the membership before the cuts
@@ -23,13 +22,6 @@ mergeCuts f p q (x ∷ xs) (y ∷ ys) =
             | false ↦ emit (f p q) (f (not p) (not q)) x (mergeCuts f (not p) (not q) xs ys)
           ]
     ]
-
--- one step from i and j on: the next cut of either list
-pub record Stepped (a : List ℕ) (na i : ℕ) (p : Bool) (b : List ℕ) (nb j : ℕ) (q : Bool) (r : Step) : Type 0 where
-  pub left-in : r .i ≤ na
-  pub right-in : r .j ≤ nb
-  pub on : i + j < r .i + r .j
-  pub cut : (f : Bool → Bool → Bool) → mergeCuts f p q (drop i a) (drop j b) ≡ emit (f p q) (f (r .p) (r .q)) (r .x) (mergeCuts f (r .p) (r .q) (drop (r .i) a) (drop (r .j) b))
 
 -- the cuts m take the place of the first elements, if there is room for all
 pub record Merged (m : List ℕ) (before after : List ℕ) (r : Filled) : Type 0 where

@@ -1,4 +1,4 @@
--- What two sets share: from the cuts of the walk to words that hold a set, and to words that are lent for it.
+-- What two sets share: from its cuts to words that hold a set, and to words that are lent for it.
 use Prim.Native.Nat.{ℕ, _+_, _*_, _≤_, _<_}
 use mathlib.Core.Path.{_≡_, refl, sym, ap, ap₂, subst, _∙_}
 use mathlib.Core.Bool.{Bool, true, false, _&&_, true≢false}

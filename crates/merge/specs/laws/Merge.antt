@@ -1,18 +1,18 @@
--- Laws of the walk along two lists of cuts: its cuts ascend, what lies inside them, and its steps.
+-- Laws of the cuts of an operation on two sets: they ascend, what lies inside them, and how many they are.
 use Prim.Native.Nat.{ℕ, _+_, _≤_, _<_}
 use mathlib.Core.Path.{_≡_, refl, sym, ap, ap₂, _∙_}
 use mathlib.Core.Bool.{Bool, true, false, not}
 use mathlib.Core.List.{List, [], _∷_}
 use mathlib.Core.Logic.{⊎-elim}
 use native.Mathlib.Omega.{arith}
-use lib.ListN.{length, take, drop, getD}
+use lib.ListN.{length}
 use borrow.Author.Tests.{lt-ltb, le-ltb}
 use Rattle.number.specs.Axis.{axis}
 use Rattle.number.specs.laws.Order.{less-or-not, less-more-equal}
 use Rattle.runs.specs.Set.{xor, inside, Ascending, Canonical}
 use Rattle.runs.specs.inner.Emit.{emit}
 use Rattle.merge.specs.inner.Merge.{mergeCuts}
-use Rattle.runs.specs.laws.Cuts.{xor-false, xor-not, outside, inside-ge, weaken, none, emit-ge, emit-lt, emit-asc, emit-longer, front, all-passed}
+use Rattle.runs.specs.laws.Cuts.{xor-false, xor-not, outside, inside-ge, weaken, none, emit-ge, emit-lt, emit-asc, emit-longer}
 
 -- mergeCuts, by the heads
 module _ (f : Bool → Bool → Bool) (p q : Bool) where
@@ -110,23 +110,6 @@ merge-inside f p q lo hi (x ∷ xs) (y ∷ ys) v a b =
     (merge-inside f (not p) (not q) (x + 1) hi xs ys v (a .2) (weaken (x + 1) (y + 1) hi ys (omega arith) (b .2))))))
     (less-more-equal x y)
 
--- the walk at what is left of two lists
-module _ (f : Bool → Bool → Bool) (p q : Bool) (a : List ℕ) (na i : ℕ) (b : List ℕ) (nb j : ℕ) (la : na ≤ length a) (lb : nb ≤ length b) where
-  pub next-right : i ≡ na → j < nb → mergeCuts f p q (drop i (take na a)) (drop j (take nb b)) ≡ emit (f p q) (f p (not q)) (getD b j 0) (mergeCuts f p (not q) (drop i (take na a)) (drop (j + 1) (take nb b)))
-  next-right h g = cc (all-passed a na i la h, front b nb j lb g, merge-right f p q (getD b j 0) (drop (j + 1) (take nb b)))
-
-  pub next-left : i < na → j ≡ nb → mergeCuts f p q (drop i (take na a)) (drop j (take nb b)) ≡ emit (f p q) (f (not p) q) (getD a i 0) (mergeCuts f (not p) q (drop (i + 1) (take na a)) (drop j (take nb b)))
-  next-left h g = cc (front a na i la h, all-passed b nb j lb g, merge-left f p q (getD a i 0) (drop (i + 1) (take na a)))
-
-  pub next-lt : i < na → j < nb → getD a i 0 < getD b j 0 → mergeCuts f p q (drop i (take na a)) (drop j (take nb b)) ≡ emit (f p q) (f (not p) q) (getD a i 0) (mergeCuts f (not p) q (drop (i + 1) (take na a)) (drop j (take nb b)))
-  next-lt h g k = cc (front a na i la h, front b nb j lb g, merge-lt f p q (getD a i 0) (drop (i + 1) (take na a)) (getD b j 0) (drop (j + 1) (take nb b)) k)
-
-  pub next-gt : i < na → j < nb → getD b j 0 < getD a i 0 → mergeCuts f p q (drop i (take na a)) (drop j (take nb b)) ≡ emit (f p q) (f p (not q)) (getD b j 0) (mergeCuts f p (not q) (drop i (take na a)) (drop (j + 1) (take nb b)))
-  next-gt h g k = cc (front a na i la h, front b nb j lb g, merge-gt f p q (getD a i 0) (drop (i + 1) (take na a)) (getD b j 0) (drop (j + 1) (take nb b)) k)
-
-  pub next-eq : i < na → j < nb → getD a i 0 ≡ getD b j 0 → mergeCuts f p q (drop i (take na a)) (drop j (take nb b)) ≡ emit (f p q) (f (not p) (not q)) (getD a i 0) (mergeCuts f (not p) (not q) (drop (i + 1) (take na a)) (drop (j + 1) (take nb b)))
-  next-eq h g k = cc (front a na i la h, front b nb j lb g, merge-eq f p q (getD a i 0) (drop (i + 1) (take na a)) (getD b j 0) (drop (j + 1) (take nb b)) k)
-
 -- no more cuts than both lists have
 pub merge-length : (f : Bool → Bool → Bool) (p q : Bool) (xs ys : List ℕ) → length (mergeCuts f p q xs ys) ≤ length xs + length ys
 merge-length f p q [] [] = rw merge-nil (omega arith)
@@ -140,7 +123,7 @@ merge-length f p q (x ∷ xs) (y ∷ ys) =
     (λ h. rw (merge-eq f p q x xs y ys h) (omega (arith, emit-longer (f p q) (f (not p) (not q)) x (mergeCuts f (not p) (not q) xs ys), merge-length f (not p) (not q) xs ys))))
     (less-more-equal x y)
 
--- THE WALK IS THE OPERATION: of two sets with an end, and of an f that leaves out what is in neither
+-- THE CUTS ARE THOSE OF THE OPERATION: of two sets with an end, and of an f that leaves out what is in neither
 module _ (f : Bool → Bool → Bool) (quiet : f false false ≡ false) (a b : List ℕ) (ca : Canonical a) (cb : Canonical b) where
   pub merged-inside : (v : ℕ) → inside (mergeCuts f false false a b) v ≡ f (inside a v) (inside b v)
   merged-inside v = ap (λ (k : Bool). xor k (inside (mergeCuts f false false a b) v)) (sym quiet) ∙ merge-inside f false false 0 axis a b v (ca .ascending) (cb .ascending)

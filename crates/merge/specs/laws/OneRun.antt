@@ -5,8 +5,7 @@ use mathlib.Core.Bool.{Bool, true, false, cond, _&&_, true≢false}
 use mathlib.Core.List.{List, [], _∷_, _++_}
 use mathlib.Core.Logic.{⊎-elim}
 use native.Mathlib.Omega.{arith}
-use lib.ListN.{length, take, drop, getD, set}
-use lib.Seq.{take-length}
+use lib.ListN.{length, drop, getD, set}
 use borrow.Author.Tests.{lt-ltb, le-ltb}
 use Rattle.number.specs.laws.Order.{less-or-not}
 use Rattle.runs.specs.Set.{xor, inside, Ascending, Canonical}
@@ -119,7 +118,3 @@ of-cuts f a b r la lb w = record { cuts = λ z. ap₂ (mergeCuts f false false) 
 -- the same cuts, written
 pub merged-is : (m l before after : List ℕ) (w : Filled) → m ≡ l → Merged l before after w → Merged m before after w
 merged-is m l before after w e r = subst (λ (k : List ℕ). Merged k before after w) (sym e) r
-
-pub merged-whole : (f : Bool → Bool → Bool) (a b before after : List ℕ) (w : Filled)
-    → Merged (mergeCuts f false false (take (length a) a) (take (length b) b)) before after w → Merged (mergeCuts f false false a b) before after w
-merged-whole f a b before after w r = merged-is _ _ before after w (sym (ap₂ (mergeCuts f false false) (take-length a) (take-length b))) r

@@ -204,14 +204,6 @@ emit-asc true false lo hi x r h g s = (h, g, s)
 emit-asc false true lo hi x r h g s = (h, g, s)
 emit-asc false false lo hi x r h g s = weaken lo (x + 1) hi r (omega arith) s
 
-pub emitted : (a b : Bool) (x : ℕ) (r : List ℕ) → xor a b ≡ true → emit a b x r ≡ x ∷ r
-unfolding emit
-emitted a b x r e = rw (e, emit)
-
-pub passed : (a b : Bool) (x : ℕ) (r : List ℕ) → xor a b ≡ false → emit a b x r ≡ r
-unfolding emit
-passed a b x r e = rw (e, emit)
-
 pub emit-longer : (a b : Bool) (x : ℕ) (r : List ℕ) → length (emit a b x r) ≤ suc (length r)
 unfolding emit
 emit-longer true true x r = omega arith

@@ -1,5 +1,5 @@
--- One run at once, or the walk along both lists, whole.
-use Rattle.merge.specs.laws.OneRun.{merged-is, merged-whole}
+-- One run at once, or the walk along both lists.
+use Rattle.merge.specs.laws.OneRun.{merged-is}
 use borrow.Author.Needs.{needs}
 use Rattle.merge.proofs.run.merge.Statement.{statement}
 use Rattle.merge.proofs.run.merge.Tie as tie
@@ -24,9 +24,7 @@ same-length-2 : tie.Need-same-length-2
 same-length-2 c = search needs
 
 returns-2 : tie.Need-returns-2
-returns-2 c =
-    let g = c .before .before .before .before .before .before .before .before .before .args in
-    merged-whole _ (g .a .now) (g .b .now) _ _ _ (c .before .before .merge .ensures)
+returns-2 c = search needs
 
 pub merge-spec : {M : Type 1} → statement M
 merge-spec =
