@@ -1,7 +1,7 @@
 // Joining two sets: each run of the result is stored once, where it belongs, when it closes.
 ghost use mathlib.Core.Path.{_≡_};
 ghost use mathlib.Core.Bool.{true, false, _||_};
-ghost use Prim.Native.Nat.{_+_, _*_, _≤_, _<_, max};
+ghost use Prim.Native.Nat.{_+_, _*_, _≤_, _<_};
 ghost use lib.ListN.{length};
 ghost use Rattle.number.specs.Axis.{axis};
 ghost use Rattle.runs.specs.Runs.{mostRuns};
@@ -67,12 +67,6 @@ fn next(a: &[u32], i: usize, b: &[u32], j: usize) -> Head
     }
 }
 
-fn greater(x: u32, y: u32) -> u32
-    ensures { λ r. ⌜ r ≡ max x y ⌝ }
-{
-    if x < y { y } else { x }
-}
-
 // Stores a run as run number `at`, and counts the store: no other function writes a run of the result. `at` runs were stored before it.
 fn store(set: &mut [u32], at: usize, low: u32, end: u32, stores: &mut usize)
     requires { ⌜ (length (now set) ≡ slotWords) × (at < mostRuns) × (now stores ≡ at) ⌝ }
@@ -102,7 +96,7 @@ fn extend(l: &[u32], i: usize, end: u32) -> Reach
         if far < l[at] {
             return Reach { end: far, i: at };
         }
-        far = greater(far, l[at + 1]);
+        far = number::greater(far, l[at + 1]);
         at += 2;
     }
     Reach { end: far, i: at }
@@ -172,7 +166,7 @@ pub fn join(a: &[u32], b: &[u32], set: &mut [u32]) -> Joined
         let r = next(a, run.i, b, run.j);
         if r.low <= run.end {
             let low = run.low;
-            let end = greater(run.end, r.end);
+            let end = number::greater(run.end, r.end);
             run = Head {
                 low,
                 end,
@@ -200,7 +194,13 @@ pub fn of_two(a: &[u32], b: &[u32], set: &mut [u32]) -> Joined
     let r = next(a, run.i, b, run.j);
     let mut stores: usize = 0;
     if r.low <= run.end {
-        store(set, 0, run.low, greater(run.end, r.end), &mut stores);
+        store(
+            set,
+            0,
+            run.low,
+            number::greater(run.end, r.end),
+            &mut stores,
+        );
         set[CUTS] = 2;
         return Joined {
             over: false,

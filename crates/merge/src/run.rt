@@ -8,8 +8,6 @@ ghost use Rattle.runs.specs.Set.{sharedWords, Canonical};
 ghost use Rattle.merge.specs.inner.Merge.{mergeCuts, Merged};
 ghost use Rattle.merge.specs.inner.OneRun.{runCuts, OneRun};
 use crate::walk::Filled;
-use crate::walk::greater;
-use crate::walk::lesser;
 
 // The numbers from low on and before end; none where low is not below end. Not known where there may be more runs.
 struct Run {
@@ -35,8 +33,8 @@ fn shared(la: u32, ea: u32, lb: u32, eb: u32) -> Run
 {
     Run {
         known: true,
-        low: greater(la, lb),
-        end: lesser(ea, eb),
+        low: number::greater(la, lb),
+        end: number::lesser(ea, eb),
     }
 }
 

@@ -1,7 +1,7 @@
 // One walk along the runs of two sets.
 ghost use mathlib.Core.Path.{_≡_};
 ghost use mathlib.Core.Bool.{true, false, _&&_};
-ghost use Prim.Native.Nat.{_≤_, min, max};
+ghost use Prim.Native.Nat.{_≤_};
 ghost use lib.ListN.{length};
 ghost use Rattle.runs.specs.Set.{xor, sharedWords, Canonical};
 ghost use Rattle.merge.specs.inner.Merge.{mergeCuts, Merged};
@@ -16,18 +16,6 @@ pub fn differ(a: bool, b: bool) -> bool
     ensures { λ r. ⌜ r ≡ xor a b ⌝ }
 {
     if a { !b } else { b }
-}
-
-pub fn lesser(x: u32, y: u32) -> u32
-    ensures { λ r. ⌜ r ≡ min x y ⌝ }
-{
-    if x < y { x } else { y }
-}
-
-pub fn greater(x: u32, y: u32) -> u32
-    ensures { λ r. ⌜ r ≡ max x y ⌝ }
-{
-    if x < y { y } else { x }
 }
 
 // Writes the cuts of what two sets share: of the runs at i and j what both hold, then on behind the one that ends first.
@@ -55,8 +43,8 @@ pub fn merge(a: &[u32], b: &[u32], out: &mut [u32]) -> Filled
             if room < n + 2 {
                 return Filled { over: true, n };
             }
-            out[n] = greater(la, lb);
-            out[n + 1] = lesser(ea, eb);
+            out[n] = number::greater(la, lb);
+            out[n + 1] = number::lesser(ea, eb);
             n += 2;
             if ea < eb {
                 i += 2;
