@@ -11,7 +11,7 @@ use Rattle.number.specs.Axis.{origin}
 use Rattle.number.specs.laws.Boolean.{same, or-left, or-right, or-cases, and-left, and-right, and-make}
 use Rattle.meaning.specs.inner.Truth.{somePair, apart}
 use Rattle.differences.specs.inner.Times.{Times, lagsOf, gapsOf}
-use Rattle.differences.specs.inner.Search.{from}
+use Rattle.differences.specs.inner.Sweep.{from}
 use Rattle.recording.specs.Condition.{someOf}
 
 -- all over lo, and ascending

@@ -8,12 +8,16 @@ use mathlib.Core.List.{List}
 use lib.Dec.{leb, ltb}
 use borrow.Author.Tests.{le-leb, lt-leb, lt-ltb, le-ltb, ltb-true}
 use Rattle.number.specs.Axis.{axis}
-use Rattle.number.specs.laws.Boolean.{clash, and-left, and-make}
+use Rattle.number.specs.laws.Boolean.{and-left}
 use Rattle.runs.specs.Runs.{runCount, mostRuns}
 use Rattle.runs.specs.Set.{member, Holds, Makes}
 use Rattle.runs.specs.laws.Runs.{runCount-ext, fewer-below}
 use Rattle.runs.specs.laws.Set.{holds-ext, holds-makes}
-use Rattle.differences.specs.inner.Search.{Least, Past, from}
+use Rattle.differences.specs.inner.Sweep.{Least}
+
+pub or-false : (b : Bool) → (b || false) ≡ b
+or-false true = refl
+or-false false = refl
 
 -- the words hold the part of f below x
 pub record Gathered (f : ℕ → Bool) (x : ℕ) (words : List ℕ) : Type 0 where
@@ -32,6 +36,22 @@ gathered-none f x words h none w =
     by v (yes a) = ap (λ (b : Bool). ltb v x && b) (none v a) ∙ off (ltb v x)
     by v (no a) = ap (λ (b : Bool). b && f v) (le-ltb v x (omega arith))
 
+-- g is the part of f below e
+module _ (f : ℕ → Bool) (e : ℕ) (end : e ≤ axis) (g : ℕ → Bool) (part : (v : ℕ) → v < axis → g v ≡ (ltb v e && f v)) (after : List ℕ) (over : Bool) (m : Makes g after over) where
+  pub gathered-more : over ≡ false → Gathered f e after
+  gathered-more o = record { end = end; held = holds-ext g (λ v. ltb v e && f v) after part (m .holds o) }
+
+  -- it has no more runs than f
+  pub gathered-many : over ≡ true → Makes f after true
+  gathered-many o =
+      record {
+        flag = sym (lt-ltb mostRuns (runCount f) (omega (arith, many, runCount-ext g (λ v. ltb v e && f v) part, fewer-below f e)));
+        holds = λ z. absurd (true≢false z);
+      }
+    where
+      many : mostRuns < runCount g
+      many = ltb-true mostRuns (runCount g) (sym (m .flag) ∙ o)
+
 module _ (f : ℕ → Bool) (x : ℕ) (words : List ℕ) (g : Gathered f x words) where
   -- nothing comes from x on
   pub gathered-end : ((w : ℕ) → x ≤ w → w < axis → f w ≡ false) → Makes f words false
@@ -41,13 +61,27 @@ module _ (f : ℕ → Bool) (x : ℕ) (words : List ℕ) (g : Gathered f x words
       by v k (yes a) = rw (lt-ltb v x a)
       by v k (no a) = rw (le-ltb v x (omega arith)) (sym (gap v (omega arith) k))
 
+  -- all members lie below x
+  pub gathered-below : (v : ℕ) → v < axis → member words v ≡ true → v < x
+  gathered-below v h m = ltb-true v x (and-left (ltb v x) (f v) (sym (g .held .members v h) ∙ m))
+
+  -- the number x, where it is one
+  pub one-part : (k : Bool) → f x ≡ k → (v : ℕ) → v < axis → (member words v || (k && (leb x v && leb v x))) ≡ (ltb v (x + 1) && f v)
+  one-part k e v h = ap (λ (b : Bool). b || (k && (leb x v && leb v x))) (g .held .members v h) ∙ by k e (decLt v x) (ℕ-discrete v x)
+    where
+      by : (k : Bool) → f x ≡ k → Dec (v < x) → Dec (v ≡ x) → ((ltb v x && f v) || (k && (leb x v && leb v x))) ≡ (ltb v (x + 1) && f v)
+      by true e (yes a) b = rw (lt-ltb v x a, lt-leb x v a, lt-ltb v (x + 1) (omega arith)) (or-false (f v))
+      by false e (yes a) b = rw (lt-ltb v x a, lt-ltb v (x + 1) (omega arith)) (or-false (f v))
+      by true e (no a) (yes b) = rw (le-ltb v x (omega arith), le-leb x v (omega arith), le-leb v x (omega arith), lt-ltb v (x + 1) (omega arith)) (sym (ap f b ∙ e))
+      by false e (no a) (yes b) = rw (le-ltb v x (omega arith), lt-ltb v (x + 1) (omega arith)) (sym (ap f b ∙ e))
+      by true e (no a) (no b) = rw (le-ltb v x (omega arith), le-leb x v (omega arith), lt-leb v x (omega arith), le-ltb v (x + 1) (omega arith))
+      by false e (no a) (no b) = rw (le-ltb v x (omega arith), le-ltb v (x + 1) (omega arith))
+
   -- a run from d up to high, d being the least from x on, and e the number behind it
   module _ (d high e : ℕ) (behind : e ≡ high + 1) (s : Least f x d) (grows : d < e) (end : e ≤ axis) (full : (v : ℕ) → d ≤ v → v < e → f v ≡ true) where
     -- all members lie below it
     pub gathered-behind : (v : ℕ) → v < axis → member words v ≡ true → v < d
-    gathered-behind v h m =
-        let t = ltb-true v x (and-left (ltb v x) (f v) (sym (g .held .members v h) ∙ m)) in
-        omega (arith, s .low)
+    gathered-behind v h m = omega (arith, gathered-below v h m, s .low)
 
     run-more : (v : ℕ) → v < axis → (member words v || (leb d v && leb v high)) ≡ (ltb v e && f v)
     run-more v h = ap (λ (b : Bool). b || (leb d v && leb v high)) (g .held .members v h) ∙ by (decLt v x) (decLt v d) (decLt v e)
@@ -55,10 +89,6 @@ module _ (f : ℕ → Bool) (x : ℕ) (words : List ℕ) (g : Gathered f x words
         by : Dec (v < x) → Dec (v < d) → Dec (v < e) → ((ltb v x && f v) || (leb d v && leb v high)) ≡ (ltb v e && f v)
         by (yes a) b c =
             let low = s .low in rw (lt-ltb v x a, lt-leb d v (omega arith), lt-ltb v e (omega arith)) (or-false (f v))
-          where
-            or-false : (b : Bool) → (b || false) ≡ b
-            or-false true = refl
-            or-false false = refl
         by (no a) (yes b) c = rw (le-ltb v x (omega arith), lt-leb d v b, lt-ltb v e (omega arith)) (sym (s .gap v (omega arith) b))
         by (no a) (no b) (yes c) =
             rw (le-ltb v x (omega arith), le-leb d v (omega arith), le-leb v high (omega arith), lt-ltb v e c) (sym (full v (omega arith) c))
@@ -66,42 +96,7 @@ module _ (f : ℕ → Bool) (x : ℕ) (words : List ℕ) (g : Gathered f x words
 
     module _ (after : List ℕ) (over : Bool) (m : Makes (λ v. member words v || (leb d v && leb v high)) after over) where
       pub gathered-run : over ≡ false → Gathered f e after
-      gathered-run o = record { end = end; held = holds-ext _ (λ v. ltb v e && f v) after run-more (m .holds o) }
+      gathered-run = gathered-more f e end _ run-more after over m
 
-      -- the part below e has no more runs than f
       pub gathered-over : over ≡ true → Makes f after true
-      gathered-over o =
-          record {
-            flag = sym (lt-ltb mostRuns (runCount f) (omega (arith, many, runCount-ext _ (λ v. ltb v e && f v) run-more, fewer-below f e)));
-            holds = λ z. absurd (true≢false z);
-          }
-        where
-          many : mostRuns < runCount (λ v. member words v || (leb d v && leb v high))
-          many = ltb-true mostRuns (runCount (λ v. member words v || (leb d v && leb v high))) (sym (m .flag) ∙ o)
-
--- ---- the part of f from low on
-
--- a run is not empty
-pub run-grows : (f : ℕ → Bool) (x d e : ℕ) → Least f x d → d < axis → Past f d e → d < e
-run-grows f x d e g here p = by (ℕ-discrete d e)
-  where
-    by : Dec (d ≡ e) → d < e
-    by (yes q) = absurd (clash (g .here here) (ap f q ∙ p .out (omega arith)))
-    by (no q) = omega (arith, p .low)
-
-module _ (f : ℕ → Bool) (low x : ℕ) (h : low ≤ x) where
-  pub least-from : (d : ℕ) → Least f x d → Least (from low f) x d
-  least-from d g = record {
-    low = g .low;
-    end = g .end;
-    here = λ k. and-make (leb low d) (f d) (le-leb low d (omega (arith, g .low))) (g .here k);
-    gap = λ w u v. let z = g .gap w u v in let y = le-leb low w (omega arith) in rw (y, z);
-  }
-
-  pub past-from : (e : ℕ) → Past f x e → Past (from low f) x e
-  past-from e g = record {
-    low = g .low;
-    end = g .end;
-    out = λ k. let z = g .out k in let y = le-leb low e (omega (arith, g .low)) in rw (y, z);
-    full = λ w u v. and-make (leb low w) (f w) (le-leb low w (omega arith)) (g .full w u v);
-  }
+      gathered-over = gathered-many f e end _ run-more after over m

@@ -1,6 +1,7 @@
-pub mod SearchLaws
-pub mod WindowLaws
-pub mod StepLaws
 pub mod GatherLaws
 pub mod TimeLaws
+pub mod WalkLaws
+pub mod RowLaws
+pub mod SweepLaws
+pub mod TurnLaws
 pub mod GapLaws

@@ -1,6 +1,7 @@
 -- Ascending times, one after another: each is the least from the times passed on.
 use Prim.Native.Nat.{ℕ, _+_, _≤_, _<_}
 use native.Mathlib.Omega.{arith}
+use native.Mathlib.Nat.{eq-or-lt-of-le}
 use native.Mathlib.Decide.{decLt}
 use mathlib.Core.Path.{_≡_, refl, sym, ap, _∙_}
 use mathlib.Core.Bool.{Bool, true, false}
@@ -12,8 +13,10 @@ use borrow.Author.Tests.{eqb-true, eq-eqb}
 use Rattle.number.specs.Axis.{axis}
 use Rattle.meaning.specs.laws.Pick.{some-at, some-find}
 use Rattle.differences.specs.inner.Times.{Times, timeSet}
-use Rattle.differences.specs.inner.Search.{Least}
-use Rattle.differences.proofs.SearchLaws.{times-up}
+use Rattle.differences.specs.inner.Sweep.{Least}
+
+pub times-up : (l : List ℕ) → Times l → (i j : ℕ) → i ≤ j → j < length l → getD l i 0 ≤ getD l j 0
+times-up l t i j h k = ⊎-elim (λ e. let q = ap (λ (i : ℕ). getD l i 0) e in omega arith) (λ g. omega (arith, t .ascending i j g k)) (eq-or-lt-of-le h)
 
 -- the times before place i lie below x, the others do not
 pub record Parted (l : List ℕ) (i x : ℕ) : Type 0 where

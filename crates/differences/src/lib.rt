@@ -1,30 +1,213 @@
 // The sets of differences between times: of all pairs, of neighbours, of a later and an earlier one; and the set of the times themselves.
-// A time, like every number here, is carried as its index on the axis. Runs are found in ascending order, so that one too many is seen when it starts.
+// A time, like every number here, is carried as its index on the axis. Runs are found in ascending order, so that one too many is seen when it comes.
 ghost use mathlib.Core.Path.{_≡_};
-ghost use mathlib.Core.Bool.{true};
-ghost use Prim.Native.Nat.{_+_, _-_, _<_, _≤_};
+ghost use mathlib.Core.Bool.{true, false, _&&_, _||_};
+ghost use Prim.Native.Nat.{ℕ, _+_, _-_, _<_, _≤_};
+ghost use lib.Dec.{leb};
 ghost use lib.ListN.{length};
 ghost use Rattle.number.specs.Axis.{origin, axis};
 ghost use Rattle.differences.specs.inner.Times.{Times, lagsOf, gapsOf, stepsOf, timeSet};
-ghost use Rattle.differences.specs.inner.Search.{Least, Past, Follows, chosen, from, Better, Marked, Lead};
-ghost use Rattle.runs.specs.Set.{slotWords, Makes};
+ghost use Rattle.differences.specs.inner.Sweep.{windowSize, Time, rowOf, chosen, from, shown, Least, Under, Parts, Behind, Beyond, Marked, Found, Extends, Begins};
+ghost use Rattle.runs.specs.Set.{slotWords, member, Valid, Makes};
 use runset::RunSet;
 
-// How many numbers are looked at in one sweep over the times.
-const WINDOW: usize = 256;
+// How many numbers one sweep over the times marks.
+const WINDOW: usize = 1024;
 
-// Where a run ends, and where the next one starts.
-struct Run {
+// How far off the next difference may lie for a sweep to pay.
+const REACH: u32 = 32;
+
+// A mark for each of the WINDOW numbers from some x on.
+type Marks = [bool; WINDOW];
+
+// What a sweep from some x on found: no difference lies from `end` up to before `next`.
+struct Swept {
     end: u32,
+    next: u32,
+}
+
+// The same of one time of a; and the first place of b where the difference is not under x.
+struct Row {
+    start: usize,
+    end: u32,
+    next: u32,
+}
+
+// Whether there are too many runs, and where the next turn starts.
+struct Added {
+    over: bool,
     next: u32,
 }
 
 // The index of t - s.
 fn difference(s: u32, t: u32) -> u32
-    requires { ⌜ (origin ≤ s) × (s ≤ origin + origin) × (origin ≤ t) × (t ≤ origin + origin) ⌝ }
+    requires { ⌜ Time s × Time t ⌝ }
     ensures { λ r. ⌜ s + r ≡ t + origin ⌝ }
 {
     (t - number::ORIGIN) + (2 * number::ORIGIN - s)
+}
+
+// d - x, as a place among marks.
+fn place(d: u32, x: u32) -> usize
+    requires { ⌜ x ≤ d ⌝ }
+    ensures { λ r. ⌜ r ≡ d - x ⌝ }
+{
+    (d - x) as usize
+}
+
+// The first place of b, from a known one on, whose time minus s is not under x.
+fn first(s: u32, b: &[u32], start: usize, x: u32) -> usize
+    requires { ⌜ Time s × Times (now b) × (start ≤ length (now b)) × Under (now b) s x start ⌝ }
+    ensures { λ r. ⌜ Parts (now (b .entry)) s x r ⌝ }
+{
+    let mut j = start;
+    while j < b.len() {
+        if x <= difference(s, b[j]) {
+            return j;
+        }
+        j += 1;
+    }
+    j
+}
+
+// Marks the times of b minus s, from the first that is not under x up to the last in the window. Gives the place behind that.
+fn mark(s: u32, b: &[u32], start: usize, x: u32, w: &mut Marks) -> usize
+    requires { ⌜ Time s × Times (now b) × Parts (now b) s x start × (length (now w) ≡ windowSize) ⌝ }
+    ensures { λ r. ⌜ Parts (now (b .entry)) s (x + windowSize) r × Marked (rowOf s (now (b .entry))) x (now (w .entry)) (now (w .exit)) ⌝ }
+{
+    let mut j = start;
+    while j < b.len() {
+        let t = place(difference(s, b[j]), x);
+        if WINDOW <= t {
+            return j;
+        }
+        w[t] = true;
+        j += 1;
+    }
+    j
+}
+
+// The number behind the last of those that are marked, or x.
+fn behind(s: u32, b: &[u32], start: usize, stop: usize, x: u32) -> u32
+    requires { ⌜ Time s × Times (now b) × Parts (now b) s x start × Parts (now b) s (x + windowSize) stop × (x < axis) ⌝ }
+    ensures { λ r. ⌜ Behind (now (b .entry)) s x stop r ⌝ }
+{
+    if stop <= start {
+        return x;
+    }
+    difference(s, b[stop - 1]) + 1
+}
+
+// The time at a place of b minus s, or AXIS.
+fn beyond(s: u32, b: &[u32], stop: usize) -> u32
+    requires { ⌜ Time s × Times (now b) ⌝ }
+    ensures { λ r. ⌜ Beyond (now (b .entry)) s stop r ⌝ }
+{
+    if stop < b.len() {
+        return difference(s, b[stop]);
+    }
+    number::AXIS
+}
+
+// The times of b minus s.
+fn sweep_row(s: u32, b: &[u32], start: usize, x: u32, w: &mut Marks) -> Row
+    requires { ⌜ Time s × Times (now b) × (start ≤ length (now b)) × Under (now b) s x start × (x < axis) × (length (now w) ≡ windowSize) ⌝ }
+    ensures { λ r. ⌜ Parts (now (b .entry)) s x (r .start) × Found (rowOf s (now (b .entry))) x (r .end) (r .next) × Marked (rowOf s (now (b .entry))) x (now (w .entry)) (now (w .exit)) ⌝ }
+{
+    let from = first(s, b, start, x);
+    let stop = mark(s, b, from, x, w);
+    Row {
+        start: from,
+        end: behind(s, b, from, stop, x),
+        next: beyond(s, b, stop),
+    }
+}
+
+// One sweep over the times of a, each with those of b. No row starts at an earlier place of b than the row before.
+fn sweep(a: &[u32], b: &[u32], x: u32, w: &mut Marks) -> Swept
+    requires { ⌜ Times (now a) × Times (now b) × (x < axis) × (length (now w) ≡ windowSize) ⌝ }
+    ensures { λ r. ⌜ Found (lagsOf (now (a .entry)) (now (b .entry))) x (r .end) (r .next) × Marked (lagsOf (now (a .entry)) (now (b .entry))) x (now (w .entry)) (now (w .exit)) ⌝ }
+{
+    let mut i: usize = 0;
+    let mut start: usize = 0;
+    let mut end = x;
+    let mut next = number::AXIS;
+    while i < a.len() {
+        let r = sweep_row(a[i], b, start, x, w);
+        start = r.start;
+        end = number::greater(end, r.end);
+        next = number::lesser(next, r.next);
+        i += 1;
+    }
+    Swept { end, next }
+}
+
+// One sweep over the neighbours.
+fn sweep_steps(t: &[u32], x: u32, w: &mut Marks) -> Swept
+    requires { ⌜ Times (now t) × (x < axis) × (length (now w) ≡ windowSize) ⌝ }
+    ensures { λ r. ⌜ Found (stepsOf (now (t .entry))) x (r .end) (r .next) × Marked (stepsOf (now (t .entry))) x (now (w .entry)) (now (w .exit)) ⌝ }
+{
+    let mut i: usize = 1;
+    let mut end = x;
+    let mut next = number::AXIS;
+    while i < t.len() {
+        let r = sweep_row(t[i - 1], &t[i..i + 1], 0, x, w);
+        end = number::greater(end, r.end);
+        next = number::lesser(next, r.next);
+        i += 1;
+    }
+    Swept { end, next }
+}
+
+// Of the neighbours of a alone where `near` is set, else of all of b with all of a.
+fn sweep_of(near: bool, a: &[u32], b: &[u32], x: u32, w: &mut Marks) -> Swept
+    requires { ⌜ Times (now a) × Times (now b) × (x < axis) × (length (now w) ≡ windowSize) ⌝ }
+    ensures { λ r. ⌜ Found (chosen near (now (a .entry)) (now (b .entry))) x (r .end) (r .next) × Marked (chosen near (now (a .entry)) (now (b .entry))) x (now (w .entry)) (now (w .exit)) ⌝ }
+{
+    if near {
+        return sweep_steps(a, x, w);
+    }
+    sweep(a, b, x, w)
+}
+
+// The number d more, where it is marked. This and the functions below say whether there are too many runs.
+fn add_marked(marked: bool, d: u32, set: &mut [u32]) -> bool
+    requires { ⌜ Valid (now set) × ((v : ℕ) → v < axis → member (now set) v ≡ true → v < d) × (d < axis) ⌝ }
+    ensures { λ r. ⌜ Makes (λ v. member (now (set .entry)) v || (marked && (leb d v && leb v d))) (now (set .exit)) r ⌝ }
+{
+    if marked {
+        return RunSet::add(set, d, d);
+    }
+    false
+}
+
+// The marked numbers from x up to before `end` more.
+fn add_all(w: &Marks, x: u32, end: u32, set: &mut [u32]) -> bool
+    requires { ⌜ Valid (now set) × ((v : ℕ) → v < axis → member (now set) v ≡ true → v < x) × (x ≤ end) × (end ≤ x + windowSize) × (end ≤ axis) ⌝ }
+    ensures { λ r. ⌜ Makes (λ v. member (now (set .entry)) v || shown (now (w .entry)) x end v) (now (set .exit)) r ⌝ }
+{
+    let mut d = x;
+    while d < end {
+        let t = place(d, x);
+        if add_marked(w[t], d, set) {
+            return true;
+        }
+        d += 1;
+    }
+    false
+}
+
+// The differences from x up to before `next` more: one sweep.
+fn add_window(near: bool, a: &[u32], b: &[u32], x: u32, set: &mut [u32]) -> Added
+    requires { ⌜ Times (now a) × Times (now b) × (x < axis) × Valid (now set) × ((v : ℕ) → v < axis → member (now set) v ≡ true → v < x) ⌝ }
+    ensures { λ r. ⌜ Extends (chosen near (now (a .entry)) (now (b .entry))) x (r .next) (now (set .entry)) (now (set .exit)) (r .over) ⌝ }
+{
+    let mut w = [false; WINDOW];
+    let s = sweep_of(near, a, b, x, &mut w);
+    Added {
+        over: add_all(&w, x, s.end, set),
+        next: s.next,
+    }
 }
 
 // The least difference from x on of a time of b and one of a, or AXIS where there is none: one walk along both arrays.
@@ -50,167 +233,48 @@ fn least(a: &[u32], b: &[u32], x: u32) -> u32
     best
 }
 
-// d - x, as a place in a window.
-fn place(d: u32, x: u32) -> usize
-    requires { ⌜ x ≤ d ⌝ }
-    ensures { λ r. ⌜ r ≡ d - x ⌝ }
-{
-    (d - x) as usize
-}
-
-// Which of the WINDOW numbers from x on are differences: one sweep over the rows, each from the first column that can still matter.
-fn window(a: &[u32], b: &[u32], x: u32) -> [bool; WINDOW]
-    requires { ⌜ Times (now a) × Times (now b) ⌝ }
-    ensures { λ r. ⌜ Marked (lagsOf (now (a .entry)) (now (b .entry))) x r ⌝ }
-{
-    let mut w = [false; WINDOW];
-    let mut i: usize = 0;
-    let mut j: usize = 0;
-    let mut lo: usize = 0;
-    while i < a.len() {
-        if b.len() <= j {
-            i += 1;
-            j = lo;
-        } else {
-            let d = difference(a[i], b[j]);
-            if d < x {
-                j += 1;
-                lo = j;
-            } else {
-                let t = place(d, x);
-                if t < WINDOW {
-                    w[t] = true;
-                    j += 1;
-                } else {
-                    i += 1;
-                    j = lo;
-                }
-            }
-        }
-    }
-    w
-}
-
-// How many of a window are in before the first that is out.
-fn lead(w: &[bool; WINDOW]) -> usize
-    ensures { λ r. ⌜ Lead (now (w .entry)) r ⌝ }
-{
-    let mut n: usize = 0;
-    while n < WINDOW {
-        if !w[n] {
-            return n;
-        }
-        n += 1;
-    }
-    n
-}
-
-// The least number from x on that is no such difference, or AXIS.
-fn past(a: &[u32], b: &[u32], x: u32) -> u32
-    requires { ⌜ Times (now a) × Times (now b) × (x ≤ axis) ⌝ }
-    ensures { λ r. ⌜ Past (lagsOf (now (a .entry)) (now (b .entry))) x r ⌝ }
-{
-    let mut e = x;
-    while e < number::AXIS {
-        let w = window(a, b, e);
-        let n = lead(&w);
-        if n < WINDOW {
-            return e + n as u32;
-        }
-        e += WINDOW as u32;
-    }
-    e
-}
-
-// The lesser of best and d, where d is not under x.
-fn better(best: u32, d: u32, x: u32) -> u32
-    ensures { λ r. ⌜ Better best d x r ⌝ }
-{
-    if d < x { best } else { number::lesser(best, d) }
-}
-
-// The least difference of neighbours from x on, or AXIS.
-fn least_step(t: &[u32], x: u32) -> u32
-    requires { ⌜ Times (now t) × (x ≤ axis) ⌝ }
-    ensures { λ r. ⌜ Least (stepsOf (now (t .entry))) x r ⌝ }
-{
-    let mut best = number::AXIS;
-    let mut i: usize = 1;
-    while i < t.len() {
-        let d = difference(t[i - 1], t[i]);
-        best = better(best, d, x);
-        i += 1;
-    }
-    best
-}
-
-// The least number from x on that is no difference of neighbours, or AXIS.
-fn past_step(t: &[u32], x: u32) -> u32
-    requires { ⌜ Times (now t) × (x ≤ axis) ⌝ }
-    ensures { λ r. ⌜ Past (stepsOf (now (t .entry))) x r ⌝ }
-{
-    let mut e = x;
-    while e < number::AXIS {
-        let d = least_step(t, e);
-        if e < d {
-            return e;
-        }
-        e += 1;
-    }
-    e
-}
-
-// Of the neighbours of a alone where `near` is set, else of all of b with all of a.
-fn least_of(near: bool, a: &[u32], b: &[u32], x: u32) -> u32
-    requires { ⌜ Times (now a) × Times (now b) × (x ≤ axis) ⌝ }
-    ensures { λ r. ⌜ Least (chosen near (now (a .entry)) (now (b .entry))) x r ⌝ }
+// The same, by one walk where the next difference lies far off.
+fn add_from(near: bool, a: &[u32], b: &[u32], x: u32, set: &mut [u32]) -> Added
+    requires { ⌜ Times (now a) × Times (now b) × (x < axis) × Valid (now set) × ((v : ℕ) → v < axis → member (now set) v ≡ true → v < x) × (near ≡ false → chosen near (now a) (now b) x ≡ true) ⌝ }
+    ensures { λ r. ⌜ Extends (chosen near (now (a .entry)) (now (b .entry))) x (r .next) (now (set .entry)) (now (set .exit)) (r .over) ⌝ }
 {
     if near {
-        return least_step(a, x);
+        return add_window(near, a, b, x, set);
     }
-    least(a, b, x)
+    let next = least(a, b, x + 1);
+    if next <= x + REACH {
+        return add_window(near, a, b, x, set);
+    }
+    Added {
+        over: RunSet::add(set, x, x),
+        next,
+    }
 }
 
-fn past_of(near: bool, a: &[u32], b: &[u32], x: u32) -> u32
-    requires { ⌜ Times (now a) × Times (now b) × (x ≤ axis) ⌝ }
-    ensures { λ r. ⌜ Past (chosen near (now (a .entry)) (now (b .entry))) x r ⌝ }
+// Where the first turn starts: of all pairs at the least difference from `low` on, of neighbours at `low`.
+fn begin(near: bool, a: &[u32], b: &[u32], low: u32) -> u32
+    requires { ⌜ Times (now a) × Times (now b) × (low ≤ axis) ⌝ }
+    ensures { λ r. ⌜ Begins near (chosen near (now (a .entry)) (now (b .entry))) low r ⌝ }
 {
     if near {
-        return past_step(a, x);
+        return low;
     }
-    past(a, b, x)
+    least(a, b, low)
 }
 
-// The run that starts at the difference d: most often d alone, which one walk shows.
-fn run_from(near: bool, a: &[u32], b: &[u32], d: u32) -> Run
-    requires { ⌜ Times (now a) × Times (now b) × (d < axis) × (chosen near (now a) (now b) d ≡ true) ⌝ }
-    ensures { λ r. ⌜ Follows (chosen near (now (a .entry)) (now (b .entry))) d (r .end) (r .next) ⌝ }
-{
-    let up = least_of(near, a, b, d + 1);
-    if d + 1 < up {
-        return Run {
-            end: d + 1,
-            next: up,
-        };
-    }
-    let end = past_of(near, a, b, d);
-    let next = least_of(near, a, b, end);
-    Run { end, next }
-}
-
-// The set of the differences from `low` on, run by run. This and the functions below say whether there are too many runs.
+// The set of the differences from `low` on, turn by turn.
 fn collect(near: bool, a: &[u32], b: &[u32], low: u32, set: &mut [u32]) -> bool
     requires { ⌜ Times (now a) × Times (now b) × (low ≤ axis) × (length (now set) ≡ slotWords) ⌝ }
     ensures { λ r. ⌜ Makes (from low (chosen near (now (a .entry)) (now (b .entry)))) (now (set .exit)) r ⌝ }
 {
     RunSet::empty(set);
-    let mut d = least_of(near, a, b, low);
-    while d < number::AXIS {
-        let r = run_from(near, a, b, d);
-        if RunSet::add(set, d, r.end - 1) {
+    let mut x = begin(near, a, b, low);
+    while x < number::AXIS {
+        let r = add_from(near, a, b, x, set);
+        if r.over {
             return true;
         }
-        d = r.next;
+        x = r.next;
     }
     false
 }

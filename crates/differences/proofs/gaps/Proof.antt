@@ -2,7 +2,7 @@
 use Prim.Native.Nat.{suc}
 use Rattle.number.specs.Axis.{origin}
 use Rattle.runs.specs.laws.Set.{makes-ext}
-use Rattle.differences.specs.inner.Search.{from}
+use Rattle.differences.specs.inner.Sweep.{from}
 use Rattle.differences.specs.inner.Times.{lagsOf, gapsOf}
 use Rattle.differences.proofs.GapLaws.{gaps-are}
 use borrow.Author.Needs.{needs}

@@ -4,7 +4,7 @@ use native.Mathlib.Omega.{arith}
 use native.Mathlib.Numerals.{add-one}
 use mathlib.Core.Logic.{inl, inr}
 use lib.ListN.{length}
-use Rattle.differences.proofs.SearchLaws.{Passed, passed-start, passed-column, passed-row, passed-end}
+use Rattle.differences.proofs.WalkLaws.{Passed, passed-start, passed-column, passed-row, passed-end}
 use borrow.Author.Needs.{needs}
 use Rattle.differences.proofs.least.Statement.{statement}
 use Rattle.differences.proofs.least.Tie as tie
@@ -42,7 +42,9 @@ difference-requires : tie.Need-difference-requires Inv-loop μ-loop
 difference-requires c κs =
     let h = c .before .before .before .before in
     let s = h .before .before .before in
-    (s .pre .0 .least (h .loop .i) (c .before .before .before .loop-test .taken), s .pre .0 .most (h .loop .i) (c .before .before .before .loop-test .taken), s .pre .1 .least (h .loop .j) (c .before .before .if1 .left), s .pre .1 .most (h .loop .j) (c .before .before .if1 .left))
+    let t = c .before .before .before .loop-test .taken in
+    let u = c .before .before .if1 .left in
+    ((s .pre .0 .least (h .loop .i) t, s .pre .0 .most (h .loop .i) t), (s .pre .1 .least (h .loop .j) u, s .pre .1 .most (h .loop .j) u))
 
 add-j : tie.Need-add-j Inv-loop μ-loop
 add-j c = search needs

@@ -8,7 +8,7 @@ use lib.Dec.{leb}
 use lib.ListN.{length, getD}
 use Rattle.number.specs.Axis.{axis}
 use Rattle.runs.specs.Set.{member, Holds, Makes}
-use Rattle.differences.specs.inner.Search.{Least}
+use Rattle.differences.specs.inner.Sweep.{Least}
 use Rattle.differences.specs.inner.Times.{Times, timeSet}
 use Rattle.differences.proofs.GatherLaws.{Gathered, gathered-none, gathered-end, gathered-behind, gathered-run, gathered-over}
 use Rattle.differences.proofs.TimeLaws.{Parted, parted-start, nothing-left, on-axis, time-least, alone, parted-on}

@@ -1,11 +1,10 @@
--- The walk along two arrays, turn by turn, and the walk to the end of a run. A pair of places is weighed if its row or its column is passed.
+-- The walk along two arrays, turn by turn. A pair of places is weighed if its row or its column is passed.
 use Prim.Native.Nat.{ℕ, suc, _+_, _≤_, _<_, min}
 use native.Mathlib.Omega.{arith}
-use native.Mathlib.Nat.{eq-or-lt-of-le}
 use native.Mathlib.Decide.{decLt, decLe}
 use mathlib.Core.Path.{_≡_, refl, sym, ap, _∙_, subst}
 use mathlib.Core.Bool.{Bool, true, false}
-use mathlib.Core.Logic.{_⊎_, inl, inr, ⊎-elim}
+use mathlib.Core.Logic.{_⊎_, inl, inr}
 use mathlib.Core.List.{List}
 use lib.ListN.{length, getD}
 use borrow.Author.Tests.{eqb-true, eq-eqb}
@@ -13,8 +12,9 @@ use Rattle.number.specs.Axis.{origin, axis}
 use Rattle.meaning.specs.inner.Truth.{apart}
 use Rattle.meaning.specs.laws.Pick.{some-at, some-find}
 use Rattle.differences.specs.inner.Times.{Times, lagsOf}
-use Rattle.differences.specs.inner.Search.{Least, Past, Follows}
+use Rattle.differences.specs.inner.Sweep.{Least}
 use Rattle.recording.specs.Condition.{someOf}
+use Rattle.differences.proofs.TimeLaws.{times-up}
 
 -- ---- membership by index
 
@@ -36,16 +36,13 @@ pub record Passed (a b : List ℕ) (x i j best : ℕ) : Type 0 where
   pub here : best < axis → Diff a b best
   pub least : (k l : ℕ) → k < length a → l < length b → (k < i) ⊎ (l < j) → (w : ℕ) → At a b k l w → x ≤ w → best ≤ w
 
-pub times-up : (l : List ℕ) → Times l → (i j : ℕ) → i ≤ j → j < length l → getD l i 0 ≤ getD l j 0
-times-up l t i j h k = ⊎-elim (λ e. let q = ap (λ (i : ℕ). getD l i 0) e in omega arith) (λ g. omega (arith, t .ascending i j g k)) (eq-or-lt-of-le h)
-
-pub lags-diff : (a b : List ℕ) (w : ℕ) → lagsOf a b w ≡ true → Diff a b w
+lags-diff : (a b : List ℕ) (w : ℕ) → lagsOf a b w ≡ true → Diff a b w
 lags-diff a b w e =
     let f = some-find 0 (λ s. someOf (apart w s) b) a e in
     let g = some-find 0 (apart w (getD a (f .0) 0)) b (f .2) in
     record { i = f .0; j = g .0; in-a = f .1; in-b = g .1; at = eqb-true (getD a (f .0) 0 + w) (getD b (g .0) 0 + origin) (g .2) }
 
-pub diff-lags : (a b : List ℕ) (w : ℕ) → Diff a b w → lagsOf a b w ≡ true
+diff-lags : (a b : List ℕ) (w : ℕ) → Diff a b w → lagsOf a b w ≡ true
 diff-lags a b w d =
     some-at 0 (λ s. someOf (apart w s) b) a (d .i) (d .in-a)
     (some-at 0 (apart w (getD a (d .i) 0)) b (d .j) (d .in-b) (eq-eqb _ _ (d .at)))
@@ -123,40 +120,3 @@ passed-end a b x i j best p s = record {
     out w h k true e =
         let d = lags-diff a b w e in
         absurd (omega (arith, p .least (d .i) (d .j) (d .in-a) (d .in-b) (side (d .i) (d .j) (d .in-a) (d .in-b) s) w (d .at) h))
-
--- ---- the walk to the end of a run
-
-pub record Full (f : ℕ → Bool) (x e : ℕ) : Type 0 where
-  pub low : x ≤ e
-  pub end : e ≤ axis
-  pub full : (w : ℕ) → x ≤ w → w < e → f w ≡ true
-
-pub full-start : (f : ℕ → Bool) (x : ℕ) → x ≤ axis → Full f x x
-full-start f x h = record { low = omega arith; end = h; full = λ w a b. absurd (omega arith) }
-
-pub full-more : (f : ℕ → Bool) (x e d : ℕ) → Full f x e → e < axis → Least f e d → d ≤ e → Full f x (suc e)
-full-more f x e d p h g k = record { low = omega (arith, p .low); end = h; full = λ w a b. by w a b (decLt w e) }
-  where
-    by : (w : ℕ) → x ≤ w → w < suc e → Dec (w < e) → f w ≡ true
-    by w a b (yes c) = p .full w a c
-    by w a b (no c) = let t : w ≡ d = omega (arith, g .low) in ap f t ∙ g .here (omega arith)
-
-pub full-out : (f : ℕ → Bool) (x e d : ℕ) → Full f x e → Least f e d → e < d → Past f x e
-full-out f x e d p g k = record { low = p .low; end = p .end; out = λ h. g .gap e (omega arith) k; full = p .full }
-
-pub full-end : (f : ℕ → Bool) (x e : ℕ) → Full f x e → axis ≤ e → Past f x e
-full-end f x e p k = record { low = p .low; end = p .end; out = λ h. absurd (omega arith); full = p .full }
-
--- ---- a run
-
--- the number d alone
-pub alone : (f : ℕ → Bool) (d up : ℕ) → f d ≡ true → d < axis → Least f (d + 1) up → d + 1 < up → Follows f d (d + 1) up
-alone f d up e h l k = record {
-  past = record {
-    low = omega arith;
-    end = omega arith;
-    out = λ z. l .gap (d + 1) (omega arith) k;
-    full = λ v a b. let q : v ≡ d = omega arith in ap f q ∙ e;
-  };
-  least = l;
-}
