@@ -15,11 +15,14 @@ ghost use Rattle.evaluation.specs.inner.Slots.{Sized};
 ghost use Rattle.evaluation.specs.inner.Evaluate.{Evaluable, NodePromise};
 ghost use Rattle.evaluation.specs.inner.Evaluation.{textOf, Asking, Evaluates};
 use grammar::kinds;
+use rows::ROWS;
 use runset::RunSet;
 use runset::SHARED;
 use slots::TABLE;
 
-// A slot to each node, and the words that joining is lent. References to them fit in a register, where a slice does not.
+// The rows of a text, a slot to each node, and the words that joining is lent. References to them fit in a register, where a slice does not.
+type Rows = [u32; ROWS];
+
 type Sets = [u32; TABLE];
 
 type Shared = [u32; SHARED];
@@ -27,7 +30,7 @@ type Shared = [u32; SHARED];
 // Evaluates node n of a text at record i, and the nodes under it: its set goes to its slot in `own`, its children's to theirs in `other`, and so on by turns.
 // Says whether one has too many runs.
 fn eval(
-    table: &[u32],
+    table: &Rows,
     rec: &[u8],
     i: usize,
     n: usize,
@@ -60,7 +63,7 @@ fn eval(
 }
 
 // The set of a text without F, G, X, U and W: the first record is enough.
-fn at_first(table: &[u32], count: usize, rec: &[u8], out: &mut [u32]) -> bool
+fn at_first(table: &Rows, count: usize, rec: &[u8], out: &mut [u32]) -> bool
     requires { ⌜ Asking (now table) count (now rec) × (temporal (textOf (now table) count) ≡ false) × (length (now out) ≡ slotWords) ⌝ }
     ensures { λ r. ⌜ Evaluates (coded (now (rec .entry))) (textOf (now (table .entry)) count) (now (out .exit)) r ⌝ }
 {
@@ -76,7 +79,7 @@ fn at_first(table: &[u32], count: usize, rec: &[u8], out: &mut [u32]) -> bool
 }
 
 // The set of a text with F, G, X, U or W: all records, from the last to the first. The root's set of the record before lies in `a` where `flip` is set.
-fn walk(table: &[u32], count: usize, rec: &[u8], out: &mut [u32]) -> bool
+fn walk(table: &Rows, count: usize, rec: &[u8], out: &mut [u32]) -> bool
     requires { ⌜ Asking (now table) count (now rec) × (temporal (textOf (now table) count) ≡ true) × (length (now out) ≡ slotWords) ⌝ }
     ensures { λ r. ⌜ Evaluates (coded (now (rec .entry))) (textOf (now (table .entry)) count) (now (out .exit)) r ⌝ }
 {
@@ -113,12 +116,14 @@ pub fn evaluate(table: &[u32], count: usize, ahead: bool, rec: &[u8], out: &mut 
     requires { ⌜ Asking (now table) count (now rec) × (temporal (textOf (now table) count) ≡ ahead) × (length (now out) ≡ slotWords) ⌝ }
     ensures { λ r. ⌜ Evaluates (coded (now (rec .entry))) (textOf (now (table .entry)) count) (now (out .exit)) r ⌝ }
 {
-    if ahead {
-        return walk(table, count, rec, out);
-    }
     let root = rows::row_at(table, count - 1);
     if root.kind < kinds::NOT {
         return leaves::leaf(rec, 0, root, out);
     }
-    at_first(table, count, rec, out)
+    let mut rows = [0u32; ROWS];
+    rows::copy(table, count, &mut rows);
+    if ahead {
+        return walk(&rows, count, rec, out);
+    }
+    at_first(&rows, count, rec, out)
 }
