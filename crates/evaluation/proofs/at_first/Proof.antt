@@ -14,7 +14,7 @@ sub-root c =
 
 eval-requires : tie.Need-eval-requires
 eval-requires c κs =
-    (flat-node (c .before .before .before .before .before .args .table .now) (c .before .before .before .before .before .args .count) (c .before .before .before .before .before .args .rec .now) (c .before .before .before .before .before .pre .0) (c .before .before .before .before .before .pre .1) _ _ refl refl, refl)
+    (flat-node (c .before .before .before .before .before .args .table .now) (c .before .before .before .before .before .args .count) (c .before .before .before .before .before .args .rec .now) (c .before .before .before .before .before .pre .0) (c .before .before .before .before .before .pre .1) _ _ refl refl, refl, c .before .before .before .before .before .pre .3)
 
 returns : tie.Need-returns
 returns c =

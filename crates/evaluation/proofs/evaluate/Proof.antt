@@ -4,7 +4,7 @@ use mathlib.Core.Path.{_∙_}
 use borrow.Author.Needs.{needs}
 use Rattle.parser.specs.laws.Rows.{laid-above}
 use Rattle.evaluation.specs.laws.Alone.{alone-asked, alone-evaluates}
-use Rattle.evaluation.specs.laws.Rows.{same-asking, same-temporal, same-evaluates}
+use Rattle.evaluation.specs.laws.Rows.{same-asking, same-temporal, same-child, same-evaluates}
 use Rattle.evaluation.proofs.evaluate.Statement.{statement}
 use Rattle.evaluation.proofs.evaluate.Tie as tie
 
@@ -38,10 +38,13 @@ copy-requires c κs = let s = c .before .before .before .before .before .before 
 walk-requires : tie.Need-walk-requires
 walk-requires c κs =
     let s = c .before .before .before .before .before .before .before .before .before .before .before .before in
-    let copy = c .before .before .before .before .copy in
-    (same-asking (s .args .table .now) _ (s .args .count) (s .args .rec .now) (copy .ensures) (s .pre .0) (omega (arith, copy .kept .1 .1 .0, s .pre .0 .few)),
-    same-temporal (s .args .table .now) _ (s .args .count) (s .args .rec .now) (copy .ensures) (s .pre .0) _ (s .pre .1 ∙ c .before .before .if2 .taken),
-    s .pre .2)
+    let at = c .before .before .before .before .before .before .before .before .row-at in
+    let copy = c .before .before .before .before .copy in (
+      same-asking (s .args .table .now) _ (s .args .count) (s .args .rec .now) (copy .ensures) (s .pre .0) (omega (arith, copy .kept .1 .1 .0, s .pre .0 .few)),
+      same-temporal (s .args .table .now) _ (s .args .count) (s .args .rec .now) (copy .ensures) (s .pre .0) _ (s .pre .1 ∙ c .before .before .if2 .taken),
+      s .pre .2,
+      same-child (s .args .table .now) _ (s .args .count) (s .args .rec .now) (copy .ensures) (s .pre .0) (at .result) (at .ensures) (c .before .before .before .before .before .before .if1 .left),
+    )
 
 same-length-2 : tie.Need-same-length-2
 same-length-2 c = search needs
@@ -54,10 +57,13 @@ returns-2 c =
 at-first-requires : tie.Need-at-first-requires
 at-first-requires c κs =
     let s = c .before .before .before .before .before .before .before .before .before .before .before .before in
-    let copy = c .before .before .before .before .copy in
-    (same-asking (s .args .table .now) _ (s .args .count) (s .args .rec .now) (copy .ensures) (s .pre .0) (omega (arith, copy .kept .1 .1 .0, s .pre .0 .few)),
-    same-temporal (s .args .table .now) _ (s .args .count) (s .args .rec .now) (copy .ensures) (s .pre .0) _ (s .pre .1 ∙ c .before .before .if2 .left),
-    s .pre .2)
+    let at = c .before .before .before .before .before .before .before .before .row-at in
+    let copy = c .before .before .before .before .copy in (
+      same-asking (s .args .table .now) _ (s .args .count) (s .args .rec .now) (copy .ensures) (s .pre .0) (omega (arith, copy .kept .1 .1 .0, s .pre .0 .few)),
+      same-temporal (s .args .table .now) _ (s .args .count) (s .args .rec .now) (copy .ensures) (s .pre .0) _ (s .pre .1 ∙ c .before .before .if2 .left),
+      s .pre .2,
+      same-child (s .args .table .now) _ (s .args .count) (s .args .rec .now) (copy .ensures) (s .pre .0) (at .result) (at .ensures) (c .before .before .before .before .before .before .if1 .left),
+    )
 
 same-length-3 : tie.Need-same-length-3
 same-length-3 c = search needs

@@ -31,7 +31,7 @@ sub-i c = search needs
 
 eval-requires : tie.Need-eval-requires Inv-loop μ-loop
 eval-requires c κs =
-    (into-b (c .before .before .before .before .before .before .before .before .args .table .now) (c .before .before .before .before .before .before .before .before .args .count) (c .before .before .before .before .before .before .before .before .args .rec .now) (c .before .before .before .before .before .before .before .before .pre .0) (c .before .before .before .before .before .loop .i) (c .before .before .before .before .before .loop .a) (c .before .before .before .before .before .loop .b) (c .before .before .before .before .before .loop .flip) (c .before .before .before .before .before .loop .inv .0) (c .before .before .before .before .loop-test .taken) (c .before .before .before .if1 .taken), c .before .before .before .before .before .loop .inv .1)
+    (into-b (c .before .before .before .before .before .before .before .before .args .table .now) (c .before .before .before .before .before .before .before .before .args .count) (c .before .before .before .before .before .before .before .before .args .rec .now) (c .before .before .before .before .before .before .before .before .pre .0) (c .before .before .before .before .before .loop .i) (c .before .before .before .before .before .loop .a) (c .before .before .before .before .before .loop .b) (c .before .before .before .before .before .loop .flip) (c .before .before .before .before .before .loop .inv .0) (c .before .before .before .before .loop-test .taken) (c .before .before .before .if1 .taken), c .before .before .before .before .before .loop .inv .1, c .before .before .before .before .before .before .before .before .pre .3)
 
 returns : tie.Need-returns Inv-loop μ-loop
 returns c =
@@ -46,7 +46,7 @@ loop-again c =
 
 eval-requires-2 : tie.Need-eval-requires-2 Inv-loop μ-loop
 eval-requires-2 c κs =
-    (into-a (c .before .before .before .before .before .before .before .before .args .table .now) (c .before .before .before .before .before .before .before .before .args .count) (c .before .before .before .before .before .before .before .before .args .rec .now) (c .before .before .before .before .before .before .before .before .pre .0) (c .before .before .before .before .before .loop .i) (c .before .before .before .before .before .loop .a) (c .before .before .before .before .before .loop .b) (c .before .before .before .before .before .loop .flip) (c .before .before .before .before .before .loop .inv .0) (c .before .before .before .before .loop-test .taken) (c .before .before .before .if1 .left), c .before .before .before .before .before .loop .inv .1)
+    (into-a (c .before .before .before .before .before .before .before .before .args .table .now) (c .before .before .before .before .before .before .before .before .args .count) (c .before .before .before .before .before .before .before .before .args .rec .now) (c .before .before .before .before .before .before .before .before .pre .0) (c .before .before .before .before .before .loop .i) (c .before .before .before .before .before .loop .a) (c .before .before .before .before .before .loop .b) (c .before .before .before .before .before .loop .flip) (c .before .before .before .before .before .loop .inv .0) (c .before .before .before .before .loop-test .taken) (c .before .before .before .if1 .left), c .before .before .before .before .before .loop .inv .1, c .before .before .before .before .before .before .before .before .pre .3)
 
 returns-2 : tie.Need-returns-2 Inv-loop μ-loop
 returns-2 c =
