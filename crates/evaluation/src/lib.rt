@@ -28,7 +28,7 @@ type Sets = [u32; TABLE];
 
 type Shared = [u32; SHARED];
 
-// Evaluates node n of a text at record i, which is no leaf, and the nodes under it: its set goes to its slot in `own`, its children's to theirs in `other`, and so on by turns.
+// Evaluates node n of a text, which is no leaf, and the nodes under it at record i: its set goes to its slot in `own`, its children's to theirs in `other`, and so on by turns.
 // Says whether one has too many runs.
 fn eval(
     table: &Rows,
@@ -60,7 +60,7 @@ fn eval(
     node::two_at(kind, last, n, first, second, own, other, shared)
 }
 
-// The same of any node: a leaf at once.
+// The same of any node: a leaf is evaluated at once.
 fn child(
     table: &Rows,
     rec: &[u8],

@@ -21,7 +21,7 @@ module _ (table rows : List ℕ) (count : ℕ) (rec : List ℕ) (same : Same cou
   there : Laid rows 0 count (textOf table count)
   there = laid-stays count (omega arith) same (asking .laid)
 
-  pub same-text : textOf rows count ≡ textOf table count
+  same-text : textOf rows count ≡ textOf table count
   same-text = decoded there
 
   pub same-asking : 4 * count ≤ length rows → Asking rows count rec
