@@ -2,6 +2,7 @@ pub mod Leaf
 pub mod Slots
 pub mod Step
 pub mod Tree
+pub mod Rows
 pub mod Node
 pub mod Laid
 pub mod Stand

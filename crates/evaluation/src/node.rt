@@ -19,13 +19,17 @@ use grammar::kinds;
 use runset::RunSet;
 use runset::SLOT;
 
-// A leaf.
+// A leaf. An atom, the common one, is called apart from the listed questions, which take room on the stack.
 pub fn leaf_at(rec: &[u8], i: usize, row: Row, n: usize, own: &mut [u32]) -> bool
     requires { ⌜ Asked (now rec) i row × (n < mostNodes) × Sized (now own) ⌝ }
     ensures { λ r. ⌜ Puts (λ v. val (coded (now (rec .entry))) v (leafOf row) i) (now (own .entry)) (now (own .exit)) n r ⌝ }
 {
     let from = SLOT * n;
     let end = from + SLOT;
+    if row.kind < kinds::HIGH {
+        leaves::atom(rec, i, row, &mut own[from..end]);
+        return false;
+    }
     leaves::leaf(rec, i, row, &mut own[from..end])
 }
 

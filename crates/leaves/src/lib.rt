@@ -53,8 +53,8 @@ fn holds(rec: &[u8], i: usize, row: Row) -> bool
     atoms::adding(rec, i, row.number)
 }
 
-// Atoms: the numbers to which a field is related; and, of an atom without v, the whole axis or nothing.
-fn atom(rec: &[u8], i: usize, row: Row, set: &mut [u32])
+// THE SET OF AN ATOM at record i: the numbers to which a field is related; and, of an atom without v, the whole axis or nothing.
+pub fn atom(rec: &[u8], i: usize, row: Row, set: &mut [u32])
     requires { ⌜ Asked (now rec) i row × (row .kind < HIGH) × (length (now set) ≡ slotWords) ⌝ }
     ensures { λ r. ⌜ Holds (λ v. val (coded (now (rec .entry))) v (leafOf row) i) (now (set .exit)) ⌝ }
 {

@@ -16,7 +16,7 @@ use Rattle.grammar.specs.inner.Table.{row, unaryFrom, binaryFrom, kinds}
 use Rattle.grammar.specs.inner.Lexer.{byte, leafAt}
 use Rattle.grammar.specs.inner.Parse.{Joiner, bars, ampersands, sign, chain, more, not-at, prim-at, argument, part, joinKind, rowText, node, Out, got, unread, after, closed, parse, rank}
 use Rattle.parser.specs.inner.Rows.{Put, Same, Laid, leaf, unary, binary, Room, Ahead, Onward, Within, Fits, Parses, AnswersMore, AnswersOpened}
-use Rattle.parser.specs.laws.Rows.{ahead-of, laid-above}
+use Rattle.parser.specs.laws.Rows.{ahead-of, laid-stays}
 use Rattle.grammar.specs.laws.Word.{inside, bound}
 use Rattle.grammar.specs.laws.Leaf.{Opening, round, single, double, open-held, leaf-held, leaf-low}
 use Rattle.grammar.specs.laws.Unique.{longer, rank-part, rank-low, rank-high}
@@ -37,21 +37,12 @@ further-ahead : (size at n e : ℕ) (r : Got) → at ≤ e → Ahead size e n r 
 further-ahead size at n e (Upto f k) a o = (omega arith, omega arith, omega arith, omega arith)
 further-ahead size at n e Unread a o = tt
 
--- ROWS that stay, and the trees in them
+-- ROWS that stay
 same-on : {T U Y : List ℕ} (n m : ℕ) → n ≤ m → Same n T U → Same m U Y → Same n T Y
 same-on n m l x y = record { row-at = λ j h. y .row-at j (omega arith) ∙ x .row-at j h }
 
 put-same : {T U : List ℕ} {r : Row} (n : ℕ) → Put T n r U → Same n T U
 put-same n p = record { row-at = λ j h. p .others j (λ e. omega arith) }
-
-pub stays : {T U : List ℕ} {b m : ℕ} {t : Text} (n : ℕ) → m ≤ n → Same n T U → Laid T b m t → Laid U b m t
-stays {U = U} {b = b} n l x (leaf k e) =
-    let r = x .row-at b (omega arith) in
-    leaf (subst (λ (y : Row). y .kind < unaryFrom) (sym r) k) (ap rowText r ∙ e)
-stays n l x (unary {m = m} k a c h e) = unary k a c (stays n (omega arith) x h) (x .row-at m (omega arith) ∙ e)
-stays n l x (binary {m = m} {n = j} k a c h g e) =
-    let y = laid-above g in
-    binary k a c (stays n (omega arith) x h) (stays n (omega arith) x g) (x .row-at j (omega arith) ∙ e)
 
 -- PARTS read one after the other
 then-fits : (T : List ℕ) (b e m : ℕ) (F : Out → Type 0) (p : Out) (k : Text → ℕ → Out) → Fits T b (Upto e m) p → ((t : Text) → Laid T b m t → F (k t e)) → F (after p k)
@@ -101,11 +92,11 @@ module _ (s : List ℕ) (at n : ℕ) {e m c : ℕ} {T U Y Z : List ℕ} {q r : G
       let a = ahead-of x p in
       let d = rank-high s o (at + 1) in
       let k = joined o in
-      let g1 = stays n (omega arith) (x .same) g in
-      let g2 = stays m (omega arith) (put-same m z) g1 in
+      let g1 = laid-stays n (omega arith) (x .same) g in
+      let g2 = laid-stays m (omega arith) (put-same m z) g1 in
       rw (eq-eqb (byte s at) (sign o) (sym i ∙ j))
       (then-fits U n e m (Fits Z b r) (parse s f (part o (at + 1))) (λ u l. parse s f (more o (node (joinKind o) t u) l)) (rw p at (x .fits f (omega arith)))
-      (λ u v. y .fits (node (joinKind o) t u) b (binary (joinKind o) (k .0) (k .1) g2 (stays m (omega arith) (put-same m z) v) (z .here)) f (omega arith)))
+      (λ u v. y .fits (node (joinKind o) t u) b (binary (joinKind o) (k .0) (k .1) g2 (laid-stays m (omega arith) (put-same m z) v) (z .here)) f (omega arith)))
 
   pub more-some : AnswersMore s o at n T Z r
   more-some =
@@ -147,7 +138,7 @@ module _ (s : List ℕ) (at n : ℕ) {e m c : ℕ} {T U Y : List ℕ} {q : Got} 
       let a = ahead-of x p in
       rw (eq-eqb (byte s at) 33 (sym i ∙ j))
       (then-fits U n e m (Fits Y n (Upto e (m + 1))) (parse s f (not-at (at + 1))) (λ t k. got (node NOT t t) k) (rw p at (x .fits f (omega arith)))
-      (λ t g. (refl, unary NOT (omega arith) (omega arith) (stays m (omega arith) (put-same m z) g) (z .here))))
+      (λ t g. (refl, unary NOT (omega arith) (omega arith) (laid-stays m (omega arith) (put-same m z) g) (z .here))))
 
   pub not-some : Parses s (not-at at) at n T Y (Upto e (m + 1))
   not-some =
@@ -218,7 +209,7 @@ module _ (s : List ℕ) (k at n : ℕ) {T U : List ℕ} {q : Got} (l : unaryFrom
         fits = λ f h.
             rw (ne-eqb k BRACKET (omega arith), lt-ltb k binaryFrom u)
             (then-fits U n e m (Fits Y n (Upto e (m + 1))) (parse s f (argument 41 at)) (λ t j. got (node k t t) j) (rw p at (x .fits f h))
-            (λ t g. (refl, unary k l u (stays m (omega arith) (put-same m z) g) (z .here))));
+            (λ t g. (refl, unary k l u (laid-stays m (omega arith) (put-same m z) g) (z .here))));
       }
 
   pub unary-none : q ≡ Unread → AnswersOpened s k at n T U Unread
@@ -268,7 +259,7 @@ module _ (s : List ℕ) (k at n : ℕ) {T U : List ℕ} {q : Got} (l : binaryFro
               (then-fits U n e m (Fits Z n (Upto d (w + 1))) (parse s f (argument 44 at)) (λ t j. after (parse s f (argument 41 j)) (λ v i. got (node k t v) i)) (rw p at (x .fits f h))
               (λ t g.
               then-fits Y m d w (Fits Z n (Upto d (w + 1))) (parse s f (argument 41 e)) (λ v i. got (node k t v) i) (rw o at (y .fits f (omega arith)))
-              (λ v c. (refl, binary k l u (stays w (omega arith) (put-same w z) (stays m (omega arith) (y .same) g)) (stays w (omega arith) (put-same w z) c) (z .here)))));
+              (λ v c. (refl, binary k l u (laid-stays w (omega arith) (put-same w z) (laid-stays m (omega arith) (y .same) g)) (laid-stays w (omega arith) (put-same w z) c) (z .here)))));
         }
 
 -- A PRIMARY TEXT

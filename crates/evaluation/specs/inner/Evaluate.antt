@@ -9,6 +9,7 @@ use Rattle.recording.specs.Recording.{Accepted}
 use Rattle.runs.specs.Set.{Holds}
 use Rattle.grammar.specs.Syntax.{Text}
 use Rattle.grammar.specs.Size.{temporal, mostNodes}
+use Rattle.grammar.specs.inner.Table.{rowAt, unaryFrom}
 use Rattle.grammar.specs.inner.Parse.{node}
 use Rattle.parser.specs.inner.Rows.{Laid, leaf, unary, binary}
 use Rattle.meaning.specs.inner.Coded.{Coded, coded}
@@ -45,6 +46,10 @@ pub record Evaluable (table rec : List ℕ) (i n : ℕ) (own other : List ℕ) :
   pub laid : Laid table base end text
   pub root : end ≡ n + 1
   pub fit : Fit rec i laid own other
+
+-- node n is no leaf
+abbrev pub HasChild : List ℕ → ℕ → Type 0
+HasChild table n = unaryFrom ≤ rowAt table n .kind
 
 -- what is left where nothing is over: the sets of the text; every slot of another node, and the root's in `other`, is as it was
 pub record Evaluated {table : List ℕ} {b m : ℕ} {t : Text} (r : List Coded) (i : ℕ) (laid : Laid table b m t) (own other own′ other′ : List ℕ) : Type 0 where
