@@ -17,38 +17,55 @@ pub fn add(out: &mut Set, run: (i32, i32)) {
 
 pub fn or(p: &[(i32, i32)], q: &[(i32, i32)], out: &mut Set) {
     let (mut i, mut j) = (0, 0);
+    // The run under way, which is written when it ends.
+    let mut open: Option<(i32, i32)> = None;
     while i < p.len() && j < q.len() {
-        if p[i].0 <= q[j].0 {
-            add(out, p[i]);
+        let next = if p[i].0 <= q[j].0 {
             i += 1;
+            p[i - 1]
         } else {
-            add(out, q[j]);
             j += 1;
-        }
+            q[j - 1]
+        };
+        open = match open {
+            Some(run) if next.0 - 1 <= run.1 => Some((run.0, run.1.max(next.1))),
+            Some(run) => {
+                out.push(run);
+                Some(next)
+            }
+            None => Some(next),
+        };
     }
-    // Of what one list has left, the runs that touch what is there join it, the rest is copied.
+    // Of what one list has left, the runs that touch the one under way join it, the rest is copied.
     let mut left = if i < p.len() { &p[i..] } else { &q[j..] };
-    let end = out.last().map_or(LOW - 2, |last| last.1);
-    while let [run, rest @ ..] = left {
-        if run.0 > end + 1 {
-            return out.extend_from_slice(left);
+    if let Some(mut run) = open {
+        while let [next, rest @ ..] = left {
+            if next.0 - 1 > run.1 {
+                break;
+            }
+            run.1 = run.1.max(next.1);
+            left = rest;
         }
-        add(out, *run);
-        left = rest;
+        out.push(run);
     }
+    out.extend_from_slice(left);
 }
 
 pub fn and(p: &[(i32, i32)], q: &[(i32, i32)], out: &mut Set) {
     let (mut i, mut j) = (0, 0);
     while i < p.len() && j < q.len() {
-        let run = (p[i].0.max(q[j].0), p[i].1.min(q[j].1));
-        if run.0 <= run.1 {
-            out.push(run);
-        }
-        if p[i].1 < q[j].1 {
+        let (a, b) = (p[i], q[j]);
+        if a.1 < b.0 {
             i += 1;
-        } else {
+        } else if b.1 < a.0 {
             j += 1;
+        } else {
+            out.push((a.0.max(b.0), a.1.min(b.1)));
+            if a.1 < b.1 {
+                i += 1;
+            } else {
+                j += 1;
+            }
         }
     }
 }

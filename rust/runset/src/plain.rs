@@ -18,19 +18,23 @@ fn cuts(a: &[u32]) -> &[u32] {
 fn meet(a: &[u32], b: &[u32], out: &mut [u32]) -> Option<usize> {
     let (mut i, mut j, mut n) = (0, 0, 0);
     while i < a.len() && j < b.len() {
-        let (low, end) = (a[i].max(b[j]), a[i + 1].min(b[j + 1]));
-        if low < end {
+        let ((low_a, end_a), (low_b, end_b)) = ((a[i], a[i + 1]), (b[j], b[j + 1]));
+        if end_a <= low_b {
+            i += 2;
+        } else if end_b <= low_a {
+            j += 2;
+        } else {
             if n == out.len() {
                 return None;
             }
-            out[n] = low;
-            out[n + 1] = end;
+            out[n] = low_a.max(low_b);
+            out[n + 1] = end_a.min(end_b);
             n += 2;
-        }
-        if a[i + 1] < b[j + 1] {
-            i += 2;
-        } else {
-            j += 2;
+            if end_a < end_b {
+                i += 2;
+            } else {
+                j += 2;
+            }
         }
     }
     Some(n)
