@@ -97,7 +97,7 @@ fn at_first(table: &Rows, count: usize, rec: &[u8], out: &mut [u32]) -> bool
     false
 }
 
-// The set of a text with F, G, X, U or W: all records, from the last to the first. The root's set of the record before lies in `a` where `flip` is set.
+// The set of a text with F, G, X, U or W: all records, from the last to the first. The root's set of the record that was evaluated before lies in `a` where `flip` is set.
 fn walk(table: &Rows, count: usize, rec: &[u8], out: &mut [u32]) -> bool
     requires { ⌜ Asking (now table) count (now rec) × (temporal (textOf (now table) count) ≡ true) × (length (now out) ≡ slotWords) × HasChild (now table) (count - 1) ⌝ }
     ensures { λ r. ⌜ Evaluates (coded (now (rec .entry))) (textOf (now (table .entry)) count) (now (out .exit)) r ⌝ }
