@@ -13,7 +13,7 @@ use Rattle.number.specs.laws.Boolean.{same, or-left, or-right, or-cases}
 use Rattle.meaning.specs.inner.Truth.{apart}
 use Rattle.meaning.specs.laws.Pick.{some-at, some-find}
 use Rattle.differences.specs.inner.Times.{Times}
-use Rattle.differences.specs.inner.Sweep.{windowSize, Time, rowOf, Under, Parts, Behind, Beyond, Marked, Found}
+use Rattle.differences.specs.inner.Sweep.{windowSize, Time, rowOf, Under, Parts, Behind, Beyond, Seen, Found}
 use Rattle.differences.proofs.TimeLaws.{times-up}
 
 -- ---- where the differences reach x
@@ -36,18 +36,18 @@ module _ (b : List ℕ) (tb : Times b) (s x j : ℕ) (u : Under b s x j) where
             let g = ap (λ (l : ℕ). getD b l 0) q in
             omega (arith, e, g)
 
--- ---- the marks
+-- ---- the sees
 
--- the differences before place j have their marks
-pub record Marking (b : List ℕ) (s x j : ℕ) (v w : List Bool) : Type 0 where
+-- the differences before place j have their sees
+pub record Seeing (b : List ℕ) (s x j : ℕ) (v w : List Bool) : Type 0 where
   pub long : length w ≡ windowSize
   pub under : Under b s (x + windowSize) j
   pub kept : (t : ℕ) → t < windowSize → getD v t false ≡ true → getD w t false ≡ true
   pub sound : (t : ℕ) → t < windowSize → getD w t false ≡ true → (getD v t false || rowOf s b (x + t)) ≡ true
   pub done : (l t : ℕ) → l < j → l < length b → t < windowSize → s + (x + t) ≡ getD b l 0 + origin → getD w t false ≡ true
 
-pub marking-start : (b : List ℕ) (s x j : ℕ) (v : List Bool) → length v ≡ windowSize → Parts b s x j → Marking b s x j v v
-marking-start b s x j v h p = record {
+pub seeing-start : (b : List ℕ) (s x j : ℕ) (v : List Bool) → length v ≡ windowSize → Parts b s x j → Seeing b s x j v v
+seeing-start b s x j v h p = record {
   long = h;
   under = λ l m n. omega (arith, p .under l m n);
   kept = λ t m q. q;
@@ -55,7 +55,7 @@ marking-start b s x j v h p = record {
   done = λ l t m n k q. absurd (omega (arith, q, p .under l m n));
 }
 
-module _ (b : List ℕ) (s x j : ℕ) (v w : List Bool) (m : Marking b s x j v w) where
+module _ (b : List ℕ) (s x j : ℕ) (v w : List Bool) (m : Seeing b s x j v w) where
   -- the difference at place j is in the window
   module _ (h : j < length b) (d : ℕ) (e : s + d ≡ getD b j 0 + origin) (low : x ≤ d) (high : d - x < windowSize) where
     fits : d - x < length w
@@ -77,8 +77,8 @@ module _ (b : List ℕ) (s x j : ℕ) (v w : List Bool) (m : Marking b s x j v w
         let z : t ≡ d - x = omega (arith, q, e, a) in
         ap (λ (t : ℕ). getD (set w (d - x) true) t false) z ∙ getD-set-same w (d - x) true false fits
 
-    pub marking-more : Times b → Marking b s x (j + 1) v (set w (d - x) true)
-    marking-more tb = record {
+    pub seeing-more : Times b → Seeing b s x (j + 1) v (set w (d - x) true)
+    seeing-more tb = record {
       long = length-set w (d - x) true ∙ m .long;
       under = under-more b tb s (x + windowSize) j (m .under) h d e (omega arith);
       kept = λ t k q. stays t (m .kept t k q) (ℕ-discrete t (d - x));
@@ -87,8 +87,8 @@ module _ (b : List ℕ) (s x j : ℕ) (v w : List Bool) (m : Marking b s x j v w
     }
 
   -- from place j on they lie beyond the window
-  pub marking-end : Parts b s (x + windowSize) j → Marked (rowOf s b) x v w
-  marking-end p = record {
+  pub seeing-end : Parts b s (x + windowSize) j → Seen (rowOf s b) x v w
+  seeing-end p = record {
     long = m .long;
     is = λ t k. same _ _ (m .sound t k) (λ e. or-cases (getD v t false) (rowOf s b (x + t)) e (m .kept t k) (at t k));
   }

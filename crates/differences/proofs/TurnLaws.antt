@@ -1,4 +1,4 @@
--- From the marks of a window to the members of a set, and from turn to turn.
+-- From the sees of a window to the members of a set, and from turn to turn.
 use Prim.Native.Nat.{ℕ, _+_, _-_, _≤_, _<_}
 use native.Mathlib.Omega.{arith}
 use native.Mathlib.Decide.{decLt}
@@ -13,10 +13,10 @@ use Rattle.number.specs.laws.Boolean.{or-pass}
 use Rattle.runs.specs.Set.{member, Valid, Holds, Makes}
 use Rattle.runs.specs.laws.Set.{holds-makes, makes-ext}
 use Rattle.differences.specs.inner.Times.{lagsOf}
-use Rattle.differences.specs.inner.Sweep.{windowSize, chosen, from, shown, Least, Marked, Found, Extends, Begins}
+use Rattle.differences.specs.inner.Sweep.{windowSize, chosen, from, shown, Least, Seen, Found, Extends, Begins}
 use Rattle.differences.proofs.GatherLaws.{Gathered, gathered-none, gathered-end, gathered-more, gathered-many, one-part, or-false}
 
--- ---- the marked numbers
+-- ---- the seen numbers
 
 -- one more, where k is set
 pub one-more : (words after : List ℕ) (d : ℕ) (k over : Bool) → k ≡ true → Makes (λ v. member words v || (leb d v && leb v d)) after over
@@ -29,7 +29,7 @@ pub none-more : (words : List ℕ) (d : ℕ) (k : Bool) → k ≡ false → Vali
 none-more words d true e h = absurd (true≢false e)
 none-more words d false e h = holds-makes (λ v. member words v || false) words (record { valid = h; members = λ v k. sym (or-false (member words v)) })
 
--- the members of the words, and the marked numbers
+-- the members of the words, and the seen numbers
 abbrev pub withShown : List ℕ → List Bool → ℕ → ℕ → ℕ → Bool
 withShown words w x end v = member words v || shown w x end v
 
@@ -51,7 +51,7 @@ module _ (words : List ℕ) (w : List Bool) (x end : ℕ) (valid : Valid words) 
   shown-at : (d : ℕ) → x ≤ d → d < end → d < axis → withShown words w x end d ≡ getD w (d - x) false
   shown-at d a b c = rw (not-yet d c a, le-leb x d a, lt-ltb d end b)
 
-  -- the number d, whose mark is at place t
+  -- the number d, whose see is at place t
   module _ (d t : ℕ) (now after : List ℕ) (over : Bool) (g : Gathered (withShown words w x end) d now) (low : x ≤ d) (high : d < end) (fits : end ≤ axis)
       (at : t ≡ d - x) (m : Makes (λ v. member now v || (getD w t false && (leb d v && leb v d))) after over) where
     here : withShown words w x end d ≡ getD w t false
@@ -71,8 +71,8 @@ module _ (words : List ℕ) (w : List Bool) (x end : ℕ) (valid : Valid words) 
 
 -- ---- one turn
 
--- the marks show the members of f up to the next sweep
-module _ (f : ℕ → Bool) (x end next : ℕ) (u w : List Bool) (found : Found f x end next) (marked : Marked f x u w) (clear : u ≡ replicate windowSize false) where
+-- the sees show the members of f up to the next sweep
+module _ (f : ℕ → Bool) (x end next : ℕ) (u w : List Bool) (found : Found f x end next) (seen : Seen f x u w) (clear : u ≡ replicate windowSize false) where
   shown-is : (v : ℕ) → shown w x end v ≡ (leb x v && (ltb v next && f v))
   shown-is v = by (decLt v x) (decLt v end) (decLt v next)
     where
@@ -80,7 +80,7 @@ module _ (f : ℕ → Bool) (x end next : ℕ) (u w : List Bool) (found : Found 
       at a b =
           let few : v - x < windowSize = omega (arith, found .few) in
           let e : x + (v - x) ≡ v = omega arith in
-          marked .is (v - x) few ∙ or-pass (getD u (v - x) false) (f (x + (v - x))) (ap (λ (u : List Bool). getD u (v - x) false) clear ∙ getD-replicate windowSize (v - x) false false few) ∙ ap f e
+          seen .is (v - x) few ∙ or-pass (getD u (v - x) false) (f (x + (v - x))) (ap (λ (u : List Bool). getD u (v - x) false) clear ∙ getD-replicate windowSize (v - x) false false few) ∙ ap f e
 
       by : Dec (v < x) → Dec (v < end) → Dec (v < next) → shown w x end v ≡ (leb x v && (ltb v next && f v))
       by (yes a) b c = rw (lt-leb x v a)

@@ -1,5 +1,5 @@
 // The sets of differences between times: of all pairs, of neighbours, of a later and an earlier one; and the set of the times themselves.
-// A time, like every number here, is carried as its index on the axis. Runs are found in ascending order, so that one too many is seen when it comes.
+// A time, like every number here, is carried as its index on the axis. Differences are added in ascending order, so that a run too many is known when it comes.
 ghost use mathlib.Core.Path.{_≡_};
 ghost use mathlib.Core.Bool.{true, false, _&&_, _||_};
 ghost use Prim.Native.Nat.{ℕ, _+_, _-_, _<_, _≤_};
@@ -7,18 +7,18 @@ ghost use lib.Dec.{leb};
 ghost use lib.ListN.{length};
 ghost use Rattle.number.specs.Axis.{origin, axis};
 ghost use Rattle.differences.specs.inner.Times.{Times, lagsOf, gapsOf, stepsOf, timeSet};
-ghost use Rattle.differences.specs.inner.Sweep.{windowSize, Time, rowOf, chosen, from, shown, Least, Under, Parts, Behind, Beyond, Marked, Found, Extends, Begins};
+ghost use Rattle.differences.specs.inner.Sweep.{windowSize, Time, rowOf, chosen, from, shown, Least, Under, Parts, Behind, Beyond, Seen, Found, Extends, Begins};
 ghost use Rattle.runs.specs.Set.{slotWords, member, Valid, Makes};
 use runset::RunSet;
 
-// How many numbers one sweep over the times marks.
+// How many numbers one sweep over the times sees.
 const WINDOW: usize = 1024;
 
 // How far off the next difference may lie for a sweep to pay.
 const REACH: u32 = 32;
 
-// A mark for each of the WINDOW numbers from some x on.
-type Marks = [bool; WINDOW];
+// Which of the WINDOW numbers from some x on are seen.
+type Window = [bool; WINDOW];
 
 // What a sweep from some x on found: no difference lies from `end` up to before `next`.
 struct Swept {
@@ -27,7 +27,7 @@ struct Swept {
 }
 
 // The same of one time of a; and the first place of b where the difference is not under x.
-struct Row {
+struct SweptRow {
     start: usize,
     end: u32,
     next: u32,
@@ -47,7 +47,7 @@ fn difference(s: u32, t: u32) -> u32
     (t - number::ORIGIN) + (2 * number::ORIGIN - s)
 }
 
-// d - x, as a place among marks.
+// d - x, as a place in the window.
 fn place(d: u32, x: u32) -> usize
     requires { ⌜ x ≤ d ⌝ }
     ensures { λ r. ⌜ r ≡ d - x ⌝ }
@@ -70,10 +70,10 @@ fn first(s: u32, b: &[u32], start: usize, x: u32) -> usize
     j
 }
 
-// Marks the times of b minus s, from the first that is not under x up to the last in the window. Gives the place behind that.
-fn mark(s: u32, b: &[u32], start: usize, x: u32, w: &mut Marks) -> usize
+// Sees the times of b minus s, from the first that is not under x up to the last in the window. Gives the place behind that.
+fn see(s: u32, b: &[u32], start: usize, x: u32, w: &mut Window) -> usize
     requires { ⌜ Time s × Times (now b) × Parts (now b) s x start × (length (now w) ≡ windowSize) ⌝ }
-    ensures { λ r. ⌜ Parts (now (b .entry)) s (x + windowSize) r × Marked (rowOf s (now (b .entry))) x (now (w .entry)) (now (w .exit)) ⌝ }
+    ensures { λ r. ⌜ Parts (now (b .entry)) s (x + windowSize) r × Seen (rowOf s (now (b .entry))) x (now (w .entry)) (now (w .exit)) ⌝ }
 {
     let mut j = start;
     while j < b.len() {
@@ -87,7 +87,7 @@ fn mark(s: u32, b: &[u32], start: usize, x: u32, w: &mut Marks) -> usize
     j
 }
 
-// The number behind the last of those that are marked, or x.
+// The number behind the last of those that are seen, or x.
 fn behind(s: u32, b: &[u32], start: usize, stop: usize, x: u32) -> u32
     requires { ⌜ Time s × Times (now b) × Parts (now b) s x start × Parts (now b) s (x + windowSize) stop × (x < axis) ⌝ }
     ensures { λ r. ⌜ Behind (now (b .entry)) s x stop r ⌝ }
@@ -110,23 +110,23 @@ fn beyond(s: u32, b: &[u32], stop: usize) -> u32
 }
 
 // The times of b minus s.
-fn sweep_row(s: u32, b: &[u32], start: usize, x: u32, w: &mut Marks) -> Row
+fn sweep_row(s: u32, b: &[u32], start: usize, x: u32, w: &mut Window) -> SweptRow
     requires { ⌜ Time s × Times (now b) × (start ≤ length (now b)) × Under (now b) s x start × (x < axis) × (length (now w) ≡ windowSize) ⌝ }
-    ensures { λ r. ⌜ Parts (now (b .entry)) s x (r .start) × Found (rowOf s (now (b .entry))) x (r .end) (r .next) × Marked (rowOf s (now (b .entry))) x (now (w .entry)) (now (w .exit)) ⌝ }
+    ensures { λ r. ⌜ Parts (now (b .entry)) s x (r .start) × Found (rowOf s (now (b .entry))) x (r .end) (r .next) × Seen (rowOf s (now (b .entry))) x (now (w .entry)) (now (w .exit)) ⌝ }
 {
-    let from = first(s, b, start, x);
-    let stop = mark(s, b, from, x, w);
-    Row {
-        start: from,
-        end: behind(s, b, from, stop, x),
+    let head = first(s, b, start, x);
+    let stop = see(s, b, head, x, w);
+    SweptRow {
+        start: head,
+        end: behind(s, b, head, stop, x),
         next: beyond(s, b, stop),
     }
 }
 
 // One sweep over the times of a, each with those of b. No row starts at an earlier place of b than the row before.
-fn sweep(a: &[u32], b: &[u32], x: u32, w: &mut Marks) -> Swept
+fn sweep(a: &[u32], b: &[u32], x: u32, w: &mut Window) -> Swept
     requires { ⌜ Times (now a) × Times (now b) × (x < axis) × (length (now w) ≡ windowSize) ⌝ }
-    ensures { λ r. ⌜ Found (lagsOf (now (a .entry)) (now (b .entry))) x (r .end) (r .next) × Marked (lagsOf (now (a .entry)) (now (b .entry))) x (now (w .entry)) (now (w .exit)) ⌝ }
+    ensures { λ r. ⌜ Found (lagsOf (now (a .entry)) (now (b .entry))) x (r .end) (r .next) × Seen (lagsOf (now (a .entry)) (now (b .entry))) x (now (w .entry)) (now (w .exit)) ⌝ }
 {
     let mut i: usize = 0;
     let mut start: usize = 0;
@@ -143,9 +143,9 @@ fn sweep(a: &[u32], b: &[u32], x: u32, w: &mut Marks) -> Swept
 }
 
 // One sweep over the neighbours.
-fn sweep_steps(t: &[u32], x: u32, w: &mut Marks) -> Swept
+fn sweep_steps(t: &[u32], x: u32, w: &mut Window) -> Swept
     requires { ⌜ Times (now t) × (x < axis) × (length (now w) ≡ windowSize) ⌝ }
-    ensures { λ r. ⌜ Found (stepsOf (now (t .entry))) x (r .end) (r .next) × Marked (stepsOf (now (t .entry))) x (now (w .entry)) (now (w .exit)) ⌝ }
+    ensures { λ r. ⌜ Found (stepsOf (now (t .entry))) x (r .end) (r .next) × Seen (stepsOf (now (t .entry))) x (now (w .entry)) (now (w .exit)) ⌝ }
 {
     let mut i: usize = 1;
     let mut end = x;
@@ -160,9 +160,9 @@ fn sweep_steps(t: &[u32], x: u32, w: &mut Marks) -> Swept
 }
 
 // Of the neighbours of a alone where `near` is set, else of all of b with all of a.
-fn sweep_of(near: bool, a: &[u32], b: &[u32], x: u32, w: &mut Marks) -> Swept
+fn sweep_of(near: bool, a: &[u32], b: &[u32], x: u32, w: &mut Window) -> Swept
     requires { ⌜ Times (now a) × Times (now b) × (x < axis) × (length (now w) ≡ windowSize) ⌝ }
-    ensures { λ r. ⌜ Found (chosen near (now (a .entry)) (now (b .entry))) x (r .end) (r .next) × Marked (chosen near (now (a .entry)) (now (b .entry))) x (now (w .entry)) (now (w .exit)) ⌝ }
+    ensures { λ r. ⌜ Found (chosen near (now (a .entry)) (now (b .entry))) x (r .end) (r .next) × Seen (chosen near (now (a .entry)) (now (b .entry))) x (now (w .entry)) (now (w .exit)) ⌝ }
 {
     if near {
         return sweep_steps(a, x, w);
@@ -170,26 +170,26 @@ fn sweep_of(near: bool, a: &[u32], b: &[u32], x: u32, w: &mut Marks) -> Swept
     sweep(a, b, x, w)
 }
 
-// The number d more, where it is marked. This and the functions below say whether there are too many runs.
-fn add_marked(marked: bool, d: u32, set: &mut [u32]) -> bool
+// The number d more, where it is seen. This and the functions below say whether there are too many runs.
+fn add_seen(seen: bool, d: u32, set: &mut [u32]) -> bool
     requires { ⌜ Valid (now set) × ((v : ℕ) → v < axis → member (now set) v ≡ true → v < d) × (d < axis) ⌝ }
-    ensures { λ r. ⌜ Makes (λ v. member (now (set .entry)) v || (marked && (leb d v && leb v d))) (now (set .exit)) r ⌝ }
+    ensures { λ r. ⌜ Makes (λ v. member (now (set .entry)) v || (seen && (leb d v && leb v d))) (now (set .exit)) r ⌝ }
 {
-    if marked {
+    if seen {
         return RunSet::add(set, d, d);
     }
     false
 }
 
-// The marked numbers from x up to before `end` more.
-fn add_all(w: &Marks, x: u32, end: u32, set: &mut [u32]) -> bool
+// The seen numbers from x up to before `end` more.
+fn add_all(w: &Window, x: u32, end: u32, set: &mut [u32]) -> bool
     requires { ⌜ Valid (now set) × ((v : ℕ) → v < axis → member (now set) v ≡ true → v < x) × (x ≤ end) × (end ≤ x + windowSize) × (end ≤ axis) ⌝ }
     ensures { λ r. ⌜ Makes (λ v. member (now (set .entry)) v || shown (now (w .entry)) x end v) (now (set .exit)) r ⌝ }
 {
     let mut d = x;
     while d < end {
         let t = place(d, x);
-        if add_marked(w[t], d, set) {
+        if add_seen(w[t], d, set) {
             return true;
         }
         d += 1;
@@ -233,7 +233,7 @@ fn least(a: &[u32], b: &[u32], x: u32) -> u32
     best
 }
 
-// The same, by one walk where the next difference lies far off.
+// The same, by one walk where the next difference lies far off. Of all pairs, x is a difference.
 fn add_from(near: bool, a: &[u32], b: &[u32], x: u32, set: &mut [u32]) -> Added
     requires { ⌜ Times (now a) × Times (now b) × (x < axis) × Valid (now set) × ((v : ℕ) → v < axis → member (now set) v ≡ true → v < x) × (near ≡ false → chosen near (now a) (now b) x ≡ true) ⌝ }
     ensures { λ r. ⌜ Extends (chosen near (now (a .entry)) (now (b .entry))) x (r .next) (now (set .entry)) (now (set .exit)) (r .over) ⌝ }

@@ -1,4 +1,4 @@
--- `add_all` meets its contract. The invariant: the set holds the part below d of its members and the marked numbers.
+-- `add_all` meets its contract. The invariant: the set holds the part below d of its members and the seen numbers.
 use Prim.Native.Nat.{_≤_, _-_}
 use native.Mathlib.Omega.{arith}
 use mathlib.Core.Path.{sym, _∙_}
@@ -22,11 +22,11 @@ loop-holds c =
 place-requires : tie.Need-place-requires Inv-loop μ-loop
 place-requires c κs = c .before .loop .inv .0
 
-element-copy-out-add-marked : tie.Need-element-copy-out-add-marked Inv-loop μ-loop
-element-copy-out-add-marked c = omega (arith, c .place .ensures, c .before .loop-test .taken, c .before .before .loop .inv .0, c .before .before .before .before .pre .3)
+element-copy-out-add-seen : tie.Need-element-copy-out-add-seen Inv-loop μ-loop
+element-copy-out-add-seen c = omega (arith, c .place .ensures, c .before .loop-test .taken, c .before .before .loop .inv .0, c .before .before .before .before .pre .3)
 
-add-marked-requires : tie.Need-add-marked-requires Inv-loop μ-loop
-add-marked-requires c κs =
+add-seen-requires : tie.Need-add-seen-requires Inv-loop μ-loop
+add-seen-requires c κs =
     let h = c .before .before .before .before in
     let s = h .before .before in
     let f = withShown (s .args .set .now) (s .args .w .now) (s .args .x) (s .args .end) in
@@ -36,14 +36,14 @@ same-length : tie.Need-same-length Inv-loop μ-loop
 same-length c =
     let h = c .before .before .before .before .before .before .before .before in
     let s = h .before .before in
-    c .before .before .before .add-marked .kept .1 .1 .0 ∙ h .loop .inv .2 .held .valid .size ∙ sym (s .pre .0 .size)
+    c .before .before .before .add-seen .kept .1 .1 .0 ∙ h .loop .inv .2 .held .valid .size ∙ sym (s .pre .0 .size)
 
 returns : tie.Need-returns Inv-loop μ-loop
 returns c =
     let h = c .before .before .before .before .before .before .before .before in
     let s = h .before .before in
-    shown-many (s .args .set .now) (s .args .w .now) (s .args .x) (s .args .end) (s .pre .0) (s .pre .1) (h .loop .d) (c .before .before .before .before .before .before .place .result) (h .loop .set) _ (c .before .before .before .add-marked .result) (h .loop .inv .2)
-    (h .loop .inv .0) (c .before .before .before .before .before .before .before .loop-test .taken) (s .pre .4) (c .before .before .before .before .before .before .place .ensures) (c .before .before .before .add-marked .ensures) (c .if1 .taken)
+    shown-many (s .args .set .now) (s .args .w .now) (s .args .x) (s .args .end) (s .pre .0) (s .pre .1) (h .loop .d) (c .before .before .before .before .before .before .place .result) (h .loop .set) _ (c .before .before .before .add-seen .result) (h .loop .inv .2)
+    (h .loop .inv .0) (c .before .before .before .before .before .before .before .loop-test .taken) (s .pre .4) (c .before .before .before .before .before .before .place .ensures) (c .before .before .before .add-seen .ensures) (c .if1 .taken)
 
 add-d : tie.Need-add-d Inv-loop μ-loop
 add-d c = search needs
@@ -57,8 +57,8 @@ loop-again c =
     let s = h .before .before in (
       omega (arith, h .loop .inv .0),
       omega (arith, c .before .before .before .before .before .before .before .loop-test .taken),
-      shown-more (s .args .set .now) (s .args .w .now) (s .args .x) (s .args .end) (s .pre .0) (s .pre .1) (h .loop .d) (c .before .before .before .before .before .before .place .result) (h .loop .set) _ (c .before .before .before .add-marked .result) (h .loop .inv .2)
-          (h .loop .inv .0) (c .before .before .before .before .before .before .before .loop-test .taken) (s .pre .4) (c .before .before .before .before .before .before .place .ensures) (c .before .before .before .add-marked .ensures) (c .if1 .left),
+      shown-more (s .args .set .now) (s .args .w .now) (s .args .x) (s .args .end) (s .pre .0) (s .pre .1) (h .loop .d) (c .before .before .before .before .before .before .place .result) (h .loop .set) _ (c .before .before .before .add-seen .result) (h .loop .inv .2)
+          (h .loop .inv .0) (c .before .before .before .before .before .before .before .loop-test .taken) (s .pre .4) (c .before .before .before .before .before .before .place .ensures) (c .before .before .before .add-seen .ensures) (c .if1 .left),
     )
 
 same-length-2 : tie.Need-same-length-2 Inv-loop μ-loop
@@ -81,8 +81,8 @@ add-all-spec =
     μ-loop
     loop-holds
     place-requires
-    element-copy-out-add-marked
-    add-marked-requires
+    element-copy-out-add-seen
+    add-seen-requires
     same-length
     returns
     add-d

@@ -1,4 +1,4 @@
--- `behind` meets its contract. The last difference of those that are marked is the greatest.
+-- `behind` meets its contract. The last difference of those that are seen is the greatest.
 use Prim.Native.Nat.{_-_}
 use native.Mathlib.Omega.{arith}
 use Rattle.differences.proofs.RowLaws.{behind-none, behind-last}

@@ -32,7 +32,7 @@ sweep-row-requires c κs =
     let i = h .loop .i in
     let r = h .loop .inv .1 in
     let t = c .before .before .loop-test .taken in
-    ((s .pre .0 .least i t, s .pre .0 .most i t), s .pre .1, r .placed, r .under i (omega arith) t, s .pre .2, r .marked .long)
+    ((s .pre .0 .least i t, s .pre .0 .most i t), s .pre .1, r .placed, r .under i (omega arith) t, s .pre .2, r .seen .long)
 
 greater-requires : tie.Need-greater-requires Inv-loop μ-loop
 greater-requires c κs = search needs

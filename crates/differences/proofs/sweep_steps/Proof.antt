@@ -49,7 +49,7 @@ sweep-row-requires c κs =
     let s = h .before .before in
     let i = h .loop .i in
     let t = c .before .before .before .loop-test .taken in
-    ((s .pre .0 .least (i - 1) (omega (arith, t)), s .pre .0 .most (i - 1) (omega (arith, t))), single-times (s .args .t .now) (s .pre .0) i t, omega arith, (λ l m n. absurd (omega arith)), s .pre .1, h .loop .inv .1 .marked .long)
+    ((s .pre .0 .least (i - 1) (omega (arith, t)), s .pre .0 .most (i - 1) (omega (arith, t))), single-times (s .args .t .now) (s .pre .0) i t, omega arith, (λ l m n. absurd (omega arith)), s .pre .1, h .loop .inv .1 .seen .long)
 
 greater-requires : tie.Need-greater-requires Inv-loop μ-loop
 greater-requires c κs = search needs

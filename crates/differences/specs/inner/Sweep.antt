@@ -1,4 +1,4 @@
--- What the searches for differences promise: a sweep, which marks those of a window and finds the next, and a walk, which finds the next alone.
+-- What the searches for differences promise: a sweep, which sees those of a window and finds the next, and a walk, which finds the next alone.
 use Prim.Native.Nat.{ℕ, _+_, _-_, _≤_, _<_, min}
 use mathlib.Core.Path.{_≡_}
 use mathlib.Core.Bool.{Bool, true, false, _&&_, _||_}
@@ -11,11 +11,11 @@ use Rattle.recording.specs.Condition.{someOf}
 use Rattle.runs.specs.Set.{member, Makes}
 use Rattle.differences.specs.inner.Times.{lagsOf, stepsOf}
 
--- how many numbers one sweep marks
+-- how many numbers one sweep sees
 abbrev pub windowSize : ℕ
 windowSize = 1024
 
--- s is a time, 0 to 2,000,000,000
+-- s is the index of a time, 0 to 2,000,000,000
 abbrev pub Time : ℕ → Type 0
 Time s = (origin ≤ s) × (s ≤ origin + origin)
 
@@ -34,7 +34,7 @@ chosen false a b = lagsOf a b
 abbrev pub from : ℕ → (ℕ → Bool) → ℕ → Bool
 from low f v = leb low v && f v
 
--- v has a mark, w being those from x on, and lies before `end`
+-- v has a see, w being those from x on, and lies before `end`
 abbrev pub shown : List Bool → ℕ → ℕ → ℕ → Bool
 shown w x end v = leb x v && (ltb v end && getD w (v - x) false)
 
@@ -71,8 +71,8 @@ pub record Beyond (b : List ℕ) (s j r : ℕ) : Type 0 where
 
 -- ---- a sweep
 
--- w has the marks of v, and one at each member of f, from x on
-pub record Marked (f : ℕ → Bool) (x : ℕ) (v w : List Bool) : Type 0 where
+-- w has the sees of v, and one at each member of f, from x on
+pub record Seen (f : ℕ → Bool) (x : ℕ) (v w : List Bool) : Type 0 where
   pub long : length w ≡ windowSize
   pub is : (t : ℕ) → t < windowSize → getD w t false ≡ (getD v t false || f (x + t))
 

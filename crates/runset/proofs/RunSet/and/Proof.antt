@@ -1,4 +1,4 @@
--- The operation on the members, by the walk along the cuts.
+-- The operation on the members, by the cuts of what both sets share.
 use mathlib.Core.Path.{sym, subst}
 use mathlib.Core.Bool.{_&&_}
 use Prim.Native.Nat.{_≤_}

@@ -1,15 +1,15 @@
--- `mark` meets its contract. The invariant: the differences before place j have their marks.
+-- `see` meets its contract. The invariant: the differences before place j have their sees.
 use Prim.Native.Nat.{_≤_, _+_, _-_}
 use native.Mathlib.Omega.{arith}
 use lib.ListN.{length}
 use Rattle.differences.specs.inner.Sweep.{windowSize}
-use Rattle.differences.proofs.RowLaws.{parts-end, parts-here, Marking, marking-start, marking-more, marking-end}
+use Rattle.differences.proofs.RowLaws.{parts-end, parts-here, Seeing, seeing-start, seeing-more, seeing-end}
 use borrow.Author.Needs.{needs}
-use Rattle.differences.proofs.mark.Statement.{statement}
-use Rattle.differences.proofs.mark.Tie as tie
+use Rattle.differences.proofs.see.Statement.{statement}
+use Rattle.differences.proofs.see.Tie as tie
 
 abbrev Inv-loop : tie.InvT-loop
-Inv-loop s b start x w₀ j₀ w j = (start ≤ j) × (j ≤ length b) × Marking b s x j w₀ w
+Inv-loop s b start x w₀ j₀ w j = (start ≤ j) × (j ≤ length b) × Seeing b s x j w₀ w
 
 abbrev μ-loop : tie.MeasureT-loop
 μ-loop s b start x w₀ j₀ w j = length b - j
@@ -17,7 +17,7 @@ abbrev μ-loop : tie.MeasureT-loop
 loop-holds : tie.Need-loop-holds Inv-loop μ-loop
 loop-holds c =
     let s = c .before in
-    (omega arith, s .pre .2 .within, marking-start (s .args .b .now) (s .args .s) (s .args .x) (s .args .start) (s .args .w .now) (s .pre .3) (s .pre .2))
+    (omega arith, s .pre .2 .within, seeing-start (s .args .b .now) (s .args .s) (s .args .x) (s .args .start) (s .args .w .now) (s .pre .3) (s .pre .2))
 
 mul-difference : tie.Need-mul-difference Inv-loop μ-loop
 mul-difference c = search needs
@@ -44,7 +44,7 @@ returns c =
     let m = h .loop .inv .2 in
     let p = parts-here (s .args .b .now) (s .pre .1) (s .args .s) (s .args .x + windowSize) (h .loop .j) (m .under) (c .before .before .before .before .loop-test .taken)
     (c .before .before .difference .result) (c .before .before .difference .ensures) (omega (arith, c .before .place .ensures, c .if1 .taken)) in
-    (p, marking-end (s .args .b .now) (s .args .s) (s .args .x) (h .loop .j) (s .args .w .now) (h .loop .w) m p)
+    (p, seeing-end (s .args .b .now) (s .args .s) (s .args .x) (h .loop .j) (s .args .w .now) (h .loop .w) m p)
 
 element-write-w : tie.Need-element-write-w Inv-loop μ-loop
 element-write-w c = omega (arith, c .before .before .before .before .before .loop .inv .2 .long, c .if1 .left)
@@ -62,7 +62,7 @@ loop-again c =
     let d = c .before .before .difference in (
       omega arith,
       omega arith,
-      rw (c .before .place .ensures) (marking-more (s .args .b .now) (s .args .s) (s .args .x) (h .loop .j) (s .args .w .now) (h .loop .w) (h .loop .inv .2)
+      rw (c .before .place .ensures) (seeing-more (s .args .b .now) (s .args .s) (s .args .x) (h .loop .j) (s .args .w .now) (h .loop .w) (h .loop .inv .2)
           (c .before .before .before .before .loop-test .taken) (d .result) (d .ensures) (omega (arith, d .ensures, s .pre .2 .over (h .loop .j) (h .loop .inv .0) (c .before .before .before .before .loop-test .taken)))
           (omega (arith, c .before .place .ensures, c .if1 .left)) (s .pre .1)),
     )
@@ -73,10 +73,10 @@ returns-2 c =
     let s = h .before .before in
     let m = h .loop .inv .2 in
     let p = parts-end (s .args .b .now) (s .pre .1) (s .args .s) (s .args .x + windowSize) (h .loop .j) (m .under) (h .loop .inv .1) (c .loop-test .left) in
-    (p, marking-end (s .args .b .now) (s .args .s) (s .args .x) (h .loop .j) (s .args .w .now) (h .loop .w) m p)
+    (p, seeing-end (s .args .b .now) (s .args .s) (s .args .x) (h .loop .j) (s .args .w .now) (h .loop .w) m p)
 
-pub mark-spec : {M : Type 1} → statement M
-mark-spec =
+pub see-spec : {M : Type 1} → statement M
+see-spec =
     tie.close
     (tie.spec
     Inv-loop
