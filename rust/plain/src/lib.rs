@@ -111,7 +111,11 @@ pub fn order(recording: &[u8], sheet: &[u8]) -> Result<Option<(u32, u32)>, Refus
         needed[usize::from(*pigment)] |= 1 << before;
     }
     let mut broken = None;
-    scan::<true>(records, |_, record| {
+    scan::<true>(records, |_, record, new| {
+        // The pigment of the record before is in, and was judged.
+        if !new {
+            return;
+        }
         let pigment = record.pigment();
         if needed[usize::from(pigment)] & !added != 0 && broken.is_none() {
             let line = lines.iter().position(|line| line[1] == pigment && added >> line[0] & 1 == 0);

@@ -28,7 +28,7 @@ pub fn set<const CHECK: bool>(records: &[[u8; 16]], listed: Op) -> Result<Set, R
         Op::Cross => crossings::<CHECK>(records, false, &mut out)?,
         Op::Crossup => crossings::<CHECK>(records, true, &mut out)?,
         // Neighbours among these times join.
-        Op::Dose(k) => scan::<CHECK>(records, |_, record| {
+        Op::Dose(k) => scan::<CHECK>(records, |_, record, _| {
             if record.pigment() == k {
                 add(&mut out, (record.time(), record.time()));
             }
@@ -67,7 +67,7 @@ pub fn few(tops: Vec<i32>) -> Result<Vec<i32>, Refused> {
 /// The times of the records with A above B where `up`, else of those with A not above B, each after one of the other kind.
 fn crossings<const CHECK: bool>(records: &[[u8; 16]], up: bool, out: &mut Set) -> Result<(), Refused> {
     let mut before = true;
-    scan::<CHECK>(records, |_, record| {
+    scan::<CHECK>(records, |_, record, _| {
         let there = record.above() == up;
         if there && !before {
             out.push((record.time(), record.time()));
@@ -78,7 +78,7 @@ fn crossings<const CHECK: bool>(records: &[[u8; 16]], up: bool, out: &mut Set) -
 
 /// Hands over the curve's values. They lie within LOW and HIGH, and are neither.
 fn values<const CHECK: bool>(records: &[[u8; 16]], curve: usize, mut each: impl FnMut(i32)) -> Result<(), Refused> {
-    scan::<CHECK>(records, |_, record| each(record.value(curve)))
+    scan::<CHECK>(records, |_, record, _| each(record.value(curve)))
 }
 
 /// Those in the records after a time.
@@ -88,7 +88,7 @@ fn values_after<const CHECK: bool>(
     after: i32,
     mut each: impl FnMut(i32),
 ) -> Result<(), Refused> {
-    scan::<CHECK>(records, |_, record| {
+    scan::<CHECK>(records, |_, record, _| {
         if record.time() > after {
             each(record.value(curve));
         }
