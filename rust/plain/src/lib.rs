@@ -178,7 +178,10 @@ fn pair_or(recording: &[u8], curve: u32, target: i64, open: Result<(), Refused>)
         while place < tops.len() && i64::from(tops[place]) < later {
             place += 1;
         }
-        if place < tops.len() && i64::from(tops[place]) == later {
+        if place == tops.len() {
+            break;
+        }
+        if i64::from(tops[place]) == later {
             return Ok(Some((*earlier as u32, tops[place] as u32)));
         }
     }

@@ -10,7 +10,7 @@ pub type Set = Vec<(i32, i32)>;
 /// Adds a run that begins at or after the last one's begin.
 pub fn add(out: &mut Set, run: (i32, i32)) {
     match out.last_mut() {
-        Some(last) if run.0 <= last.1 || run.0 - 1 == last.1 => last.1 = last.1.max(run.1),
+        Some(last) if run.0 - 1 <= last.1 => last.1 = last.1.max(run.1),
         _ => out.push(run),
     }
 }

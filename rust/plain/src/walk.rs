@@ -62,6 +62,9 @@ fn judge(record: Record, nodes: &[Op], place: usize, done: &[Set], next: Option<
             std::mem::swap(out, &mut next[place])
         }
         (Op::Sometime(p), Some(next)) => or(&done[p], &next[place], out),
+        (Op::Always(p), Some(next)) if done[p][..] == [(LOW, HIGH)] && !is_below_next(nodes, place) => {
+            std::mem::swap(out, &mut next[place])
+        }
         (Op::Always(p), Some(next)) => and(&done[p], &next[place], out),
         (Op::Until(p, q) | Op::WeakUntil(p, q), Some(next)) => {
             scratch.clear();
