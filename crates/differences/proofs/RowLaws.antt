@@ -36,9 +36,9 @@ module _ (b : List ℕ) (tb : Times b) (s x j : ℕ) (u : Under b s x j) where
             let g = ap (λ (l : ℕ). getD b l 0) q in
             omega (arith, e, g)
 
--- ---- the sees
+-- ---- what is seen
 
--- the differences before place j have their sees
+-- the differences before place j are seen
 pub record Seeing (b : List ℕ) (s x j : ℕ) (v w : List Bool) : Type 0 where
   pub long : length w ≡ windowSize
   pub under : Under b s (x + windowSize) j

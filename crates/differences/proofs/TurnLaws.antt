@@ -1,4 +1,4 @@
--- From the sees of a window to the members of a set, and from turn to turn.
+-- From what is seen of a window to the members of a set, and from turn to turn.
 use Prim.Native.Nat.{ℕ, _+_, _-_, _≤_, _<_}
 use native.Mathlib.Omega.{arith}
 use native.Mathlib.Decide.{decLt}
@@ -51,7 +51,7 @@ module _ (words : List ℕ) (w : List Bool) (x end : ℕ) (valid : Valid words) 
   shown-at : (d : ℕ) → x ≤ d → d < end → d < axis → withShown words w x end d ≡ getD w (d - x) false
   shown-at d a b c = rw (not-yet d c a, le-leb x d a, lt-ltb d end b)
 
-  -- the number d, whose see is at place t
+  -- the number d, which is at place t of the window
   module _ (d t : ℕ) (now after : List ℕ) (over : Bool) (g : Gathered (withShown words w x end) d now) (low : x ≤ d) (high : d < end) (fits : end ≤ axis)
       (at : t ≡ d - x) (m : Makes (λ v. member now v || (getD w t false && (leb d v && leb v d))) after over) where
     here : withShown words w x end d ≡ getD w t false
@@ -71,7 +71,7 @@ module _ (words : List ℕ) (w : List Bool) (x end : ℕ) (valid : Valid words) 
 
 -- ---- one turn
 
--- the sees show the members of f up to the next sweep
+-- what is seen are the members of f up to the next sweep
 module _ (f : ℕ → Bool) (x end next : ℕ) (u w : List Bool) (found : Found f x end next) (seen : Seen f x u w) (clear : u ≡ replicate windowSize false) where
   shown-is : (v : ℕ) → shown w x end v ≡ (leb x v && (ltb v next && f v))
   shown-is v = by (decLt v x) (decLt v end) (decLt v next)

@@ -233,7 +233,7 @@ fn least(a: &[u32], b: &[u32], x: u32) -> u32
     best
 }
 
-// The same, by one walk where the next difference lies far off. Of all pairs, x is a difference.
+// The same, but x alone where one walk shows that the next difference lies far off. Of all pairs, x is a difference.
 fn add_from(near: bool, a: &[u32], b: &[u32], x: u32, set: &mut [u32]) -> Added
     requires { ⌜ Times (now a) × Times (now b) × (x < axis) × Valid (now set) × ((v : ℕ) → v < axis → member (now set) v ≡ true → v < x) × (near ≡ false → chosen near (now a) (now b) x ≡ true) ⌝ }
     ensures { λ r. ⌜ Extends (chosen near (now (a .entry)) (now (b .entry))) x (r .next) (now (set .entry)) (now (set .exit)) (r .over) ⌝ }

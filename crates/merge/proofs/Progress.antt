@@ -12,7 +12,8 @@ use Rattle.number.specs.laws.Order.{less-or-not}
 use Rattle.runs.specs.Set.{Canonical}
 use Rattle.runs.specs.laws.Added.{put-two}
 use Rattle.merge.specs.inner.Merge.{Merged}
-use Rattle.merge.specs.laws.Shared.{shared, none-left, none-right, apart, apart-right, meeting, meeting-right, two-left, first-run, run-ascends, behind-first}
+use Rattle.merge.specs.laws.Shared.{shared, none-left, none-right, apart, apart-right, meeting, meeting-right}
+use Rattle.runs.specs.laws.Place.{two-left, first-run, run-ascends, behind-first}
 
 -- n cuts of m are written over `before`, and `left` is to come
 pub record Progress (m before out : List ℕ) (n : ℕ) (left : List ℕ) : Type 0 where

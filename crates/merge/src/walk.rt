@@ -3,19 +3,13 @@ ghost use mathlib.Core.Path.{_≡_};
 ghost use mathlib.Core.Bool.{false, _&&_};
 ghost use Prim.Native.Nat.{_≤_};
 ghost use lib.ListN.{length};
-ghost use Rattle.runs.specs.Set.{xor, sharedWords, Canonical};
+ghost use Rattle.runs.specs.Set.{sharedWords, Canonical};
 ghost use Rattle.merge.specs.inner.Merge.{mergeCuts, Merged};
 
 // How many cuts were written; over where there was no room for all.
 pub struct Filled {
     pub over: bool,
     pub n: usize,
-}
-
-pub fn differ(a: bool, b: bool) -> bool
-    ensures { λ r. ⌜ r ≡ xor a b ⌝ }
-{
-    if a { !b } else { b }
 }
 
 // Writes the cuts of what two sets share: of the runs at i and j what both hold, then on behind the one that ends first.

@@ -1,4 +1,5 @@
 pub mod Cuts
+pub mod Place
 pub mod Runs
 pub mod Set
 pub mod Added

@@ -16,8 +16,15 @@ ghost use lib.Dec.{leb};
 ghost use lib.ListN.{length, getD, drop};
 ghost use Rattle.number.specs.Axis.{axis};
 ghost use Rattle.runs.specs.Runs.{runCount, lows, highs, setBytes};
-ghost use Rattle.runs.specs.Set.{member, slotWords, sharedWords, Valid, Holds, Makes, nearestOf};
+ghost use Rattle.runs.specs.Set.{xor, member, slotWords, sharedWords, Valid, Holds, Makes, nearestOf};
 ghost use Rattle.join.specs.inner.Join.{Joins};
+
+// Whether just one of two holds.
+fn differ(a: bool, b: bool) -> bool
+    ensures { λ r. ⌜ r ≡ xor a b ⌝ }
+{
+    if a { !b } else { b }
+}
 
 // The sets of this crate, by what can be done with them.
 pub struct RunSet {}
@@ -143,7 +150,7 @@ impl RunSet {
         let mut inside = false;
         let mut i: usize = 0;
         while i < n {
-            inside = merge::walk::differ(inside, set[i] <= v);
+            inside = differ(inside, set[i] <= v);
             i += 1;
         }
         inside

@@ -1,4 +1,4 @@
--- `see` meets its contract. The invariant: the differences before place j have their sees.
+-- `see` meets its contract. The invariant: the differences before place j are seen.
 use Prim.Native.Nat.{_≤_, _+_, _-_}
 use native.Mathlib.Omega.{arith}
 use lib.ListN.{length}

@@ -34,7 +34,7 @@ chosen false a b = lagsOf a b
 abbrev pub from : ℕ → (ℕ → Bool) → ℕ → Bool
 from low f v = leb low v && f v
 
--- v has a see, w being those from x on, and lies before `end`
+-- v is seen, w saying which numbers from x on are, and lies before `end`
 abbrev pub shown : List Bool → ℕ → ℕ → ℕ → Bool
 shown w x end v = leb x v && (ltb v end && getD w (v - x) false)
 
@@ -71,7 +71,7 @@ pub record Beyond (b : List ℕ) (s j r : ℕ) : Type 0 where
 
 -- ---- a sweep
 
--- w has the sees of v, and one at each member of f, from x on
+-- of the numbers from x on, w says that those are seen that v says, and the members of f
 pub record Seen (f : ℕ → Bool) (x : ℕ) (v w : List Bool) : Type 0 where
   pub long : length w ≡ windowSize
   pub is : (t : ℕ) → t < windowSize → getD w t false ≡ (getD v t false || f (x + t))

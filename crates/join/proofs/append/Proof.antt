@@ -4,7 +4,8 @@ use mathlib.Core.Path.{_≡_, sym, subst}
 use native.Mathlib.Omega.{arith}
 use lib.ListN.{length}
 use Rattle.join.specs.inner.Join.{Appended}
-use Rattle.join.specs.laws.Join.{two-left}
+use Rattle.join.specs.laws.Join.{whole-runs}
+use Rattle.runs.specs.laws.Place.{two-left}
 use Rattle.join.specs.laws.Remainder.{Appending, appending-on, appended}
 use borrow.Author.Needs.{needs}
 use Rattle.join.proofs.append.Statement.{statement}
@@ -35,7 +36,7 @@ shared-slice-read-store-2 : tie.Need-shared-slice-read-store-2 Inv-loop μ-loop
 shared-slice-read-store-2 c =
     let s = c .before .before .before .before .before .before .before in
     let l = c .before .before .before .before .loop in
-    omega (arith, two-left (s .args .l .now) (l .from) (l .inv .0 .left) (c .before .before .before .loop-test .taken))
+    omega (arith, two-left (s .args .l .now) (l .from) (whole-runs (l .inv .0 .left)) (c .before .before .before .loop-test .taken))
 
 store-requires : tie.Need-store-requires Inv-loop μ-loop
 store-requires c κs = search needs
@@ -53,7 +54,7 @@ loop-again : tie.Need-loop-again Inv-loop μ-loop
 loop-again c =
     let s = c .before .before .before .before .before .before .before .before .before .before .before in
     let l = c .before .before .before .before .before .before .before .before .loop in
-    (appending-on (s .args .l .now) (s .args .i) (s .args .set .now) (s .args .n) (l .from) (l .at) (l .set) (l .inv .0) (c .before .before .before .before .before .before .before .loop-test .taken) (omega (arith, l .inv .0 .count, s .pre .1, s .pre .3, c .before .before .before .before .before .before .before .loop-test .taken, two-left (s .args .l .now) (l .from) (l .inv .0 .left) (c .before .before .before .before .before .before .before .loop-test .taken))) _ (c .before .before .store .ensures .0), omega (arith, l .inv .1, c .before .before .store .ensures .1))
+    (appending-on (s .args .l .now) (s .args .i) (s .args .set .now) (s .args .n) (l .from) (l .at) (l .set) (l .inv .0) (c .before .before .before .before .before .before .before .loop-test .taken) (omega (arith, l .inv .0 .count, s .pre .1, s .pre .3, c .before .before .before .before .before .before .before .loop-test .taken, two-left (s .args .l .now) (l .from) (whole-runs (l .inv .0 .left)) (c .before .before .before .before .before .before .before .loop-test .taken))) _ (c .before .before .store .ensures .0), omega (arith, l .inv .1, c .before .before .store .ensures .1))
 
 same-length : tie.Need-same-length Inv-loop μ-loop
 same-length c = search needs

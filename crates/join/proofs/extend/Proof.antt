@@ -2,7 +2,8 @@
 use Prim.Native.Nat.{_-_}
 use native.Mathlib.Omega.{arith}
 use lib.ListN.{length}
-use Rattle.join.specs.laws.Join.{two-left}
+use Rattle.join.specs.laws.Join.{whole-runs}
+use Rattle.runs.specs.laws.Place.{two-left}
 use Rattle.join.specs.laws.Remainder.{Reaching, reaching-on, reached-gap, reached-end}
 use borrow.Author.Needs.{needs}
 use Rattle.join.proofs.extend.Statement.{statement}
@@ -39,7 +40,7 @@ shared-slice-read-greater : tie.Need-shared-slice-read-greater Inv-loop μ-loop
 shared-slice-read-greater c =
     let s = c .before .before .before .before .before .before in
     let l = c .before .before .before .before .loop in
-    omega (arith, two-left (s .args .l .now) (l .at) (l .inv .left) (c .before .before .before .loop-test .taken))
+    omega (arith, two-left (s .args .l .now) (l .at) (whole-runs (l .inv .left)) (c .before .before .before .loop-test .taken))
 
 greater-requires : tie.Need-greater-requires Inv-loop μ-loop
 greater-requires c κs = search needs

@@ -3,7 +3,8 @@ use Prim.Native.Nat.{_<_}
 use mathlib.Core.Logic.{inl, inr}
 use native.Mathlib.Omega.{arith}
 use lib.ListN.{length}
-use Rattle.join.specs.laws.Join.{two-left, next-left, next-right}
+use Rattle.join.specs.laws.Join.{whole-runs, next-left, next-right}
+use Rattle.runs.specs.laws.Place.{two-left}
 use Rattle.join.proofs.next.Statement.{statement}
 use Rattle.join.proofs.next.Tie as tie
 
@@ -23,7 +24,7 @@ shared-slice-read-t13 : tie.Need-shared-slice-read-t13
 shared-slice-read-t13 c =
     let s = c .before .before .before in
     let p : s .args .j < length (s .args .b .now) = omega (arith, s .pre .0 .place, s .pre .1 .place, s .pre .2, c .before .before .if1 .taken) in
-    omega (arith, two-left (s .args .b .now) (s .args .j) (s .pre .1) p)
+    omega (arith, two-left (s .args .b .now) (s .args .j) (whole-runs (s .pre .1)) p)
 
 add-t14 : tie.Need-add-t14
 add-t14 c = let s = c .before .before .before in omega (arith, s .pre .0 .place, s .pre .1 .place, s .pre .2, s .pre .3, s .pre .4, c .before .before .if1 .taken)
@@ -50,7 +51,7 @@ shared-slice-read-t21 : tie.Need-shared-slice-read-t21
 shared-slice-read-t21 c =
     let s = c .before .before .before .before in
     let o : s .args .i < length (s .args .a .now) = omega (arith, s .pre .0 .place, c .before .before .before .if1 .left) in
-    omega (arith, two-left (s .args .a .now) (s .args .i) (s .pre .0) o)
+    omega (arith, two-left (s .args .a .now) (s .args .i) (whole-runs (s .pre .0)) o)
 
 add-t22 : tie.Need-add-t22
 add-t22 c = let s = c .before .before .before .before in omega (arith, s .pre .0 .place, s .pre .1 .place, s .pre .2, s .pre .3, s .pre .4)
@@ -89,7 +90,7 @@ shared-slice-read-t34 : tie.Need-shared-slice-read-t34
 shared-slice-read-t34 c =
     let s = c .before .before .before .before .before .before .before in
     let o : s .args .i < length (s .args .a .now) = omega (arith, s .pre .0 .place, c .before .before .before .before .before .before .if1 .left) in
-    omega (arith, two-left (s .args .a .now) (s .args .i) (s .pre .0) o)
+    omega (arith, two-left (s .args .a .now) (s .args .i) (whole-runs (s .pre .0)) o)
 
 add-t35 : tie.Need-add-t35
 add-t35 c = let s = c .before .before .before .before .before .before .before in omega (arith, s .pre .0 .place, s .pre .1 .place, s .pre .2, s .pre .3, s .pre .4)
@@ -117,7 +118,7 @@ shared-slice-read-t27 : tie.Need-shared-slice-read-t27
 shared-slice-read-t27 c =
     let s = c .before .before .before .before .before .before .before in
     let p : s .args .j < length (s .args .b .now) = omega (arith, s .pre .1 .place, c .before .before .before .before .before .if2 .left) in
-    omega (arith, two-left (s .args .b .now) (s .args .j) (s .pre .1) p)
+    omega (arith, two-left (s .args .b .now) (s .args .j) (whole-runs (s .pre .1)) p)
 
 add-t39 : tie.Need-add-t39
 add-t39 c = let s = c .before .before .before .before .before .before .before in omega (arith, s .pre .0 .place, s .pre .1 .place, s .pre .2, s .pre .3, s .pre .4)

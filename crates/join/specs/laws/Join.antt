@@ -1,7 +1,6 @@
 -- Joining two sets run by run: the run at hand is open, those before it are stored, those behind it are still in the lists.
-use Prim.Native.Nat.{ℕ, suc, _+_, _*_, _≤_, _<_, max}
+use Prim.Native.Nat.{ℕ, _+_, _*_, _≤_, _<_, max}
 use native.Mathlib.Omega.{arith}
-use native.Mathlib.Numerals.{add-one}
 use native.Mathlib.Decide.{decLt}
 use mathlib.Core.Path.{_≡_, refl, sym, ap, ap₂, subst, _∙_}
 use mathlib.Core.Bool.{Bool, true, false, _||_, _&&_, true≢false, false≢true}
@@ -9,7 +8,7 @@ use mathlib.Core.List.{List, [], _∷_, _++_}
 use mathlib.Core.Logic.{_⊎_, inl, inr, ⊎-elim}
 use lib.Dec.{leb, ltb}
 use lib.ListN.{length, take, drop, getD, set, length-append, length-set}
-use lib.Seq.{drop-cons, drop-length, length-take-le, getD-set-same}
+use lib.Seq.{drop-length, length-take-le, getD-set-same}
 use borrow.Author.Tests.{le-leb, lt-leb, lt-ltb, le-ltb, ltb-true, leb-true}
 use Rattle.number.specs.Axis.{axis}
 use Rattle.number.specs.laws.Boolean.{same, or-left, or-right, or-cases, and-left, and-right, and-make}
@@ -17,7 +16,8 @@ use Rattle.number.specs.laws.Order.{less-or-not}
 use Rattle.runs.specs.Runs.{mostRuns, runCount}
 use Rattle.runs.specs.Set.{slotWords, inside, Ascending, Canonical}
 use Rattle.join.specs.inner.Join.{Rest, within, Next, withRun, Open, opened, Joins}
-use Rattle.runs.specs.laws.Cuts.{none, outside, weaken, before-run, in-run, behind-run, rest-outside, rest-ended, lone, nil-canonical}
+use Rattle.runs.specs.laws.Cuts.{none, outside, weaken, before-run, in-run, behind-run, rest-outside, nil-canonical}
+use Rattle.runs.specs.laws.Place.{two-left, first-run, run-ascends, behind-first}
 use Rattle.runs.specs.laws.Runs.{cuts-count, fewer-below}
 use Rattle.runs.specs.laws.Set.{holds-makes, nothing-held}
 use Rattle.runs.specs.laws.Added.{put-two, grown-behind}
@@ -52,27 +52,13 @@ one-run low end low′ end′ e v g h is = same _ _
     (λ y. or-right (within low end v) _ (run-has low′ end′ v (omega arith) (omega (arith, z .1))))
     (less-or-not v end))
 
+pub whole-runs : {l : List ℕ} {i : ℕ} → Rest 0 l i → Canonical (drop i l)
+whole-runs w = record { ascending = w .ascending; ended = w .ended }
+
 -- the rest of a list that is not at its end: a run, and what is behind it
 module _ (a : List ℕ) (i : ℕ) (w : Rest 0 a i) (h : i < length a) where
-  head : drop i a ≡ getD a i 0 ∷ drop (i + 1) a
-  head = drop-cons a i 0 h ∙ ap (λ (k : ℕ). getD a i 0 ∷ drop k a) (sym (add-one i))
-
-  pub two-left : i + 1 < length a
-  two-left =
-      ⊎-elim (λ k. k)
-      (λ k.
-      let e : i + 1 ≡ length a = omega (arith, w .place) in
-      let n : drop i a ≡ getD a i 0 ∷ [] = head ∙ ap (λ (k : ℕ). getD a i 0 ∷ drop k a) e ∙ ap (λ (l : List ℕ). getD a i 0 ∷ l) (drop-length a) in
-      lone 0 axis (getD a i 0) (subst (Ascending 0 axis) n (w .ascending)) (ap (λ (l : List ℕ). inside l axis) (sym n) ∙ w .ended))
-      (less-or-not (i + 1) (length a))
-
-  pub both : drop i a ≡ getD a i 0 ∷ getD a (i + 1) 0 ∷ drop (i + 2) a
-  both =
-      let e : suc (i + 1) ≡ i + 2 = omega arith in
-      head ∙ ap (λ (l : List ℕ). getD a i 0 ∷ l) (drop-cons a (i + 1) 0 two-left ∙ ap (λ (k : ℕ). getD a (i + 1) 0 ∷ drop k a) e)
-
-  pub ascends : Ascending 0 axis (getD a i 0 ∷ getD a (i + 1) 0 ∷ drop (i + 2) a)
-  ascends = subst (Ascending 0 axis) both (w .ascending)
+  ascends : Ascending 0 axis (getD a i 0 ∷ getD a (i + 1) 0 ∷ drop (i + 2) a)
+  ascends = run-ascends a i (whole-runs w) h
 
   pub run-grows : getD a i 0 < getD a (i + 1) 0
   run-grows = omega (arith, ascends .2 .0)
@@ -82,22 +68,22 @@ module _ (a : List ℕ) (i : ℕ) (w : Rest 0 a i) (h : i < length a) where
 
   pub behind : Rest (getD a i 0) a (i + 2)
   behind = record {
-    place = omega (arith, two-left);
+    place = omega (arith, two-left a i (whole-runs w) h);
     ascending = weaken (getD a i 0) (getD a (i + 1) 0 + 1) axis (drop (i + 2) a) (omega (arith, run-grows)) (ascends .2 .2);
-    ended = rest-ended 0 axis (getD a i 0) (getD a (i + 1) 0) (drop (i + 2) a) ascends (ap (λ (l : List ℕ). inside l axis) (sym both) ∙ w .ended);
+    ended = behind-first a i (whole-runs w) h .ended;
   }
 
   pub split : (v : ℕ) → inside (drop i a) v ≡ (within (getD a i 0) (getD a (i + 1) 0) v || inside (drop (i + 2) a) v)
-  split v = ap (λ (l : List ℕ). inside l v) both ∙ run-split 0 (getD a i 0) (getD a (i + 1) 0) (drop (i + 2) a) ascends v
+  split v = ap (λ (l : List ℕ). inside l v) (first-run a i (whole-runs w) h) ∙ run-split 0 (getD a i 0) (getD a (i + 1) 0) (drop (i + 2) a) ascends v
 
   pub first-cut : (low : ℕ) → Ascending low axis (drop i a) → low ≤ getD a i 0
-  first-cut low s = subst (Ascending low axis) both s .0
+  first-cut low s = subst (Ascending low axis) (first-run a i (whole-runs w) h) s .0
 
 -- a list that is at its end, or goes on not below x
 pub rest-from : (x : ℕ) (b : List ℕ) (j : ℕ) → Rest 0 b j → (j ≡ length b) ⊎ ((j < length b) × (x ≤ getD b j 0)) → Rest x b j
 rest-from x b j w (inl e) = record { place = w .place; ascending = subst (Ascending x axis) (sym (ap (λ (k : ℕ). drop k b) e ∙ drop-length b)) tt; ended = w .ended }
 rest-from x b j w (inr h) =
-    record { place = w .place; ascending = subst (Ascending x axis) (sym (both b j w (h .0))) (h .1, ascends b j w (h .0) .1, ascends b j w (h .0) .2); ended = w .ended }
+    record { place = w .place; ascending = subst (Ascending x axis) (sym (first-run b j (whole-runs w) (h .0))) (h .1, ascends b j w (h .0) .1, ascends b j w (h .0) .2); ended = w .ended }
 
 pub or-assoc : (a b c : Bool) → ((a || b) || c) ≡ (a || (b || c))
 or-assoc true b c = refl

@@ -13,12 +13,13 @@ use Rattle.number.specs.Axis.{axis}
 use Rattle.number.specs.laws.Boolean.{or-cases, and-right}
 use Rattle.runs.specs.Runs.{mostRuns}
 use Rattle.runs.specs.Set.{slotWords, inside, Ascending, Canonical}
+use Rattle.runs.specs.laws.Place.{first-run}
 use Rattle.runs.specs.laws.Cuts.{none, rest-ended, lone}
 use Rattle.runs.specs.laws.Runs.{cuts-count}
 use Rattle.runs.specs.laws.Set.{held, holds-makes, too-many}
 use Rattle.runs.specs.laws.Added.{put-two, grown-behind}
 use Rattle.join.specs.inner.Join.{Rest, within, Reached, withRun, Appended, Open, opened, Joins}
-use Rattle.join.specs.laws.Join.{run-split, one-run, both, run-on-axis, behind, split, first-cut, rest-from, or-assoc, rest-weak, Joining, right-any, place-right, open-right, joins-right}
+use Rattle.join.specs.laws.Join.{run-split, one-run, whole-runs, run-on-axis, behind, split, first-cut, rest-from, or-assoc, rest-weak, Joining, right-any, place-right, open-right, joins-right}
 use Rattle.join.specs.declared.Head.{Head}
 use Rattle.join.specs.declared.Reach.{Reach}
 
@@ -100,7 +101,7 @@ module _ (l : List ℕ) (i : ℕ) (words : List ℕ) (n from at : ℕ) (after : 
         size = ap length e ∙ length-set (set after (2 * at) (getD l from 0)) (2 * at + 1) (getD l (from + 1) 0) ∙ length-set after (2 * at) (getD l from 0) ∙ w .size;
         count = omega (arith, w .count);
         cuts = ap (λ (x : List ℕ). x ++ drop (from + 2) l) t ∙ append-assoc (take (2 * at) after) (getD l from 0 ∷ getD l (from + 1) 0 ∷ []) (drop (from + 2) l)
-            ∙ ap (λ (x : List ℕ). take (2 * at) after ++ x) (sym (both l from (w .left) h)) ∙ w .cuts;
+            ∙ ap (λ (x : List ℕ). take (2 * at) after ++ x) (sym (first-run l from (whole-runs (w .left)) h)) ∙ w .cuts;
       }
 
 -- ---- a list of cuts behind another, with a gap

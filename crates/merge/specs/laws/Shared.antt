@@ -1,17 +1,14 @@
 -- What two sets share, run by run: of two runs the one that ends first is passed, and before that what both hold of it comes first.
-use Prim.Native.Nat.{ℕ, suc, _+_, _≤_, _<_, min, max}
-use mathlib.Core.Path.{_≡_, refl, sym, ap, ap₂, subst, _∙_}
-use mathlib.Core.Bool.{Bool, true, false, _&&_, true≢false}
+use Prim.Native.Nat.{ℕ, _+_, _≤_, _<_, min, max}
+use mathlib.Core.Path.{_≡_, sym, ap, ap₂, _∙_}
+use mathlib.Core.Bool.{Bool, true, false, _&&_, and-false, and-comm, true≢false}
 use mathlib.Core.List.{List, [], _∷_}
 use mathlib.Core.Logic.{⊎-elim}
 use native.Mathlib.Omega.{arith}
-use native.Mathlib.Numerals.{add-one}
-use lib.ListN.{length, drop, getD, length-drop}
-use lib.Seq.{drop-cons}
 use Rattle.number.specs.Axis.{axis}
 use Rattle.number.specs.laws.Order.{less-or-not}
-use Rattle.runs.specs.Set.{inside, Ascending, Canonical}
-use Rattle.runs.specs.laws.Cuts.{unique, none, at-head, weaken, before-run, in-run, behind-run, rest-outside, rest-ended, two-each}
+use Rattle.runs.specs.Set.{inside, Ascending}
+use Rattle.runs.specs.laws.Cuts.{unique, none, at-head, weaken, before-run, in-run, behind-run, rest-outside}
 use Rattle.merge.specs.inner.Merge.{mergeCuts}
 use Rattle.merge.specs.laws.Merge.{merge-asc, merge-inside}
 
@@ -20,18 +17,6 @@ use Rattle.merge.specs.laws.Merge.{merge-asc, merge-inside}
 -- the cuts of what both hold
 abbrev pub shared : List ℕ → List ℕ → List ℕ
 shared a b = mergeCuts _&&_ false false a b
-
-and-false : (e : Bool) → (e && false) ≡ false
-and-false true = refl
-and-false false = refl
-
-and-swap : (e f : Bool) → (e && f) ≡ (f && e)
-and-swap true f = sym (one f)
-  where
-    one : (f : Bool) → (f && true) ≡ f
-    one true = refl
-    one false = refl
-and-swap false f = sym (and-false f)
 
 -- cuts of which none below x is a member begin at x or above
 above : (x lo hi : ℕ) (l : List ℕ) → Ascending lo hi l → ((v : ℕ) → v < x → inside l v ≡ false) → Ascending x hi l
@@ -49,7 +34,7 @@ module _ (a b : List ℕ) (x : Ascending 0 axis a) (y : Ascending 0 axis b) wher
   shared-is l z e = unique 0 0 axis (shared a b) l ascending z (λ v h. members v ∙ e v)
 
 swap : (a b : List ℕ) → Ascending 0 axis a → Ascending 0 axis b → shared a b ≡ shared b a
-swap a b x y = shared-is a b x y (shared b a) (ascending b a y x) (λ v. and-swap (inside a v) (inside b v) ∙ sym (members b a y x v))
+swap a b x y = shared-is a b x y (shared b a) (ascending b a y x) (λ v. and-comm (inside a v) (inside b v) ∙ sym (members b a y x v))
 
 -- none is shared with the empty set
 pub none-left : (b : List ℕ) → Ascending 0 axis b → shared [] b ≡ []
@@ -121,24 +106,3 @@ module _ (c d : ℕ) (r : List ℕ) (x y : ℕ) (s : List ℕ) (w : Ascending 0 
   pub meeting-right : c < y → y ≤ d → (low end : ℕ) → low ≡ max c x → end ≡ min d y → shared (c ∷ d ∷ r) (x ∷ y ∷ s) ≡ low ∷ end ∷ shared (c ∷ d ∷ r) s
   meeting-right h g low end l e =
       swap (c ∷ d ∷ r) (x ∷ y ∷ s) w z ∙ meeting x y s c d r z w h g low end (omega arith) (omega arith) ∙ ap (λ (k : List ℕ). low ∷ end ∷ k) (swap s (c ∷ d ∷ r) after w)
-
--- ---- what is left of a list, whole runs from place i on
-
-module _ (a : List ℕ) (i : ℕ) (w : Canonical (drop i a)) (h : i < length a) where
-  pub two-left : i + 1 < length a
-  two-left = omega (arith, two-each 0 axis (drop i a) (w .ascending) (w .ended), length-drop i a)
-
-  pub first-run : drop i a ≡ getD a i 0 ∷ getD a (i + 1) 0 ∷ drop (i + 2) a
-  first-run =
-      let e : suc (i + 1) ≡ i + 2 = omega arith in
-      drop-cons a i 0 h ∙ ap (λ (k : ℕ). getD a i 0 ∷ drop k a) (sym (add-one i))
-      ∙ ap (λ (l : List ℕ). getD a i 0 ∷ l) (drop-cons a (i + 1) 0 two-left ∙ ap (λ (k : ℕ). getD a (i + 1) 0 ∷ drop k a) e)
-
-  pub run-ascends : Ascending 0 axis (getD a i 0 ∷ getD a (i + 1) 0 ∷ drop (i + 2) a)
-  run-ascends = subst (Ascending 0 axis) first-run (w .ascending)
-
-  pub behind-first : Canonical (drop (i + 2) a)
-  behind-first = record {
-    ascending = weaken 0 (getD a (i + 1) 0 + 1) axis (drop (i + 2) a) (omega arith) (run-ascends .2 .2);
-    ended = rest-ended 0 axis (getD a i 0) (getD a (i + 1) 0) (drop (i + 2) a) run-ascends (ap (λ (l : List ℕ). inside l axis) (sym first-run) ∙ w .ended);
-  }

@@ -3,7 +3,7 @@ use Prim.Native.Nat.{_+_, _-_}
 use native.Mathlib.Omega.{arith}
 use lib.ListN.{length, length-set}
 use borrow.Author.Needs.{needs}
-use Rattle.merge.specs.laws.Shared.{two-left}
+use Rattle.runs.specs.laws.Place.{two-left}
 use Rattle.merge.proofs.Progress.{Walking, walking-start, walked-left, walked-right, pass-left, pass-right, write-left, write-right, no-room}
 use Rattle.merge.proofs.walk.merge.Statement.{statement}
 use Rattle.merge.proofs.walk.merge.Tie as tie
