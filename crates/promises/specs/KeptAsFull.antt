@@ -1,37 +1,64 @@
--- Demand 3, its last sentence: what a question gets from the kept readings is what it gets from the full recording.
-use Prim.Native.Nat.{ℕ}
+-- DEMAND 3, its last sentence, and document 02, Paper 10: what is right of kept readings is right of the recording, and nothing else (Page
+-- `nothing-else`): "the same set, the one that 2 fixes, in the same bytes, or the same refusal, the one that the table of 01 fixes, from kept as
+-- from full, given outputs of one length". That it holds is `kept-as-full` (laws/KeptAsFull).
+use Prim.Native.Nat.{ℕ, _*_, _≤_}
 use mathlib.Core.Path.{_≡_}
-use mathlib.Core.List.{List}
-use lib.IntN.{ℤ}
-use Rattle.refusal.specs.Outcome.{NoneMeets}
-use Rattle.text.specs.Told.{textLines}
-use Rattle.meaning.specs.Alike.{Plain}
-use Rattle.question.specs.Question.{read, questionOf}
-use Rattle.degree.specs.Degree.{reachOf, nearnessOf}
-use Rattle.band.specs.Call.{bandOf}
+use mathlib.Core.Logic.{_↔_}
+use mathlib.Core.List.{List, map, List·Memᴰ}
+use lib.ListN.{length}
+use Rattle.refusal.specs.Outcome.{Outcome}
+use Rattle.recording.specs.Recording.{readings}
+use Rattle.grammar.specs.Bytes.{bytes}
+use Rattle.grammar.specs.Syntax.{Text}
+use Rattle.grammar.specs.Grammar.{ReadsWhole}
+use Rattle.grammar.specs.Size.{afterTimes}
+use Rattle.meaning.specs.Alike.{markIndex}
+use Rattle.kept.specs.Kept.{mostKept}
 use Rattle.marks.specs.Marks.{marksOf}
-use Rattle.pair.specs.Pair.{pairOf}
-use Rattle.sheet.specs.Call.{orderOf}
-use Rattle.entry.specs.Call.{entryOf}
+use Rattle.thin.specs.Thin.{keptBytes}
+use Rattle.thin.specs.Selection.{Selection}
+use Rattle.promises.specs.Conditions.{recordingTable, textTable, NoneMet}
+use Rattle.promises.specs.Page.{Call, question, degree, pair, thin, band, order, entry, find, labQuestion, labDegree, labPair, version, Effect, Right}
 
--- A text that may be asked of kept readings: where none of 5, 6 and 7 refuses it, it writes none of F, G, X, U and W, and its after-times
--- are among the marks. The marks are given by their bytes, as a thinning call takes them.
-abbrev pub Askable : List ℕ → List ℕ → Type 0
-Askable marks text = NoneMeets (textLines text) → Plain (marksOf marks) (read text)
+-- "A recording is accepted if none of 1 to 3 meets it"
+abbrev pub AcceptedRecording : List ℕ → Type 0
+AcceptedRecording g = NoneMet (recordingTable g)
 
--- THE SAME ANSWERS from the recording `held` as from the recording `full`
-pub record SameAnswers (marks held full : List ℕ) : Type 0 where
-  -- the same set in the same bytes, or the same refusal, given outputs of one length
-  pub question : (text : List ℕ) → Askable marks text → (room : ℕ) → questionOf held text room ≡ questionOf full text room
-  -- the same whole distance, no member, or the same refusal
-  pub reach : (text : List ℕ) → Askable marks text → (target : ℤ) → reachOf held text target ≡ reachOf full text target
-  -- met, the same distance and degree, no value, or the same refusal
-  pub degree : (text : List ℕ) → Askable marks text → (target : ℤ) → nearnessOf held text target ≡ nearnessOf full text target
-  -- the same two times, none, or the same refusal
-  pub pair : (curve : ℕ) (target : ℤ) → pairOf held curve target ≡ pairOf full curve target
-  -- the same two sets, or the same refusal
-  pub band : (text : List ℕ) → Askable marks text → (e : ℤ) → bandOf held text e ≡ bandOf full text e
-  -- met, the same time and line, or the same refusal
-  pub ordering : (sheet : List ℕ) → orderOf held sheet ≡ orderOf full sheet
-  -- the same entry, or the same refusal
-  pub entry : (room : ℕ) → entryOf held room ≡ entryOf full room
+-- "every question whose text writes none of F, G, X, U and W, and whose after-times are among the marks"
+pub record AskedOfKept (marks text : List ℕ) : Type 0 where
+  pub none-written : (b : ℕ) → List·Memᴰ b (bytes "FGXUW") → ¬ List·Memᴰ b text
+  pub marked : (t : Text) → ReadsWhole text t → (k : ℕ) → List·Memᴰ k (afterTimes t) → List·Memᴰ k (map markIndex (marksOf marks))
+
+-- a text that 5, 6 or 7 refuses is refused alike, whatever it writes
+abbrev pub Askable : (marks text : List ℕ) → Type 0
+Askable marks text = NoneMet (textTable text) → AskedOfKept marks text
+
+-- what may be asked of kept readings: of a text, where it is asked, that condition; thinning again and a laboratory's text, under the same marks
+abbrev pub OfKept : (marks : List ℕ) → Call → Type 0
+OfKept marks (question text) = Askable marks text
+OfKept marks (degree text target) = Askable marks text
+OfKept marks (pair curve target) = Unit {0}
+OfKept marks (thin ks) = ks ≡ marks
+OfKept marks (band text e) = Askable marks text
+OfKept marks (order sheet) = Unit {0}
+OfKept marks entry = Unit {0}
+OfKept marks (find curve level) = ⊥
+OfKept marks (labQuestion ks text) = ks ≡ marks
+OfKept marks (labDegree ks text target) = ks ≡ marks
+OfKept marks (labPair curve target) = Unit {0}
+OfKept marks version = Unit {0}
+
+pub record KeptAsFull : Type 0 where
+  -- Paper 10: "every selection in order from an accepted recording that includes its kept readings" is in the recording's place
+  pub in-place : (marks : List ℕ) {recording held : List ℕ} → AcceptedRecording recording → Selection (marksOf marks) recording held
+      → (c : Call) → OfKept marks c → {room : ℕ} {o : Outcome Effect} → Right c held room o → Right c recording room o
+  -- such are the kept readings, and the whole recording
+  pub kept-selects : (marks recording : List ℕ) → Selection (marksOf marks) recording (keptBytes (marksOf marks) recording)
+  pub whole-selects : (marks recording : List ℕ) → AcceptedRecording recording → Selection (marksOf marks) recording recording
+  -- and it is accepted; with room it "thins back to exactly the kept readings" (`in-place` of thinning)
+  pub selection-accepted : (marks : List ℕ) {recording held : List ℕ} → AcceptedRecording recording → Selection (marksOf marks) recording held
+      → AcceptedRecording held
+  -- the limit on kept readings (01, Papers 1, 3 and 5), of the bytes that thinning writes; "repeats are harmless", and so is the order of marks
+  pub limit : (marks recording : List ℕ) → length (keptBytes (marksOf marks) recording) ≤ 16 * mostKept (marksOf marks) (readings recording)
+  pub repeats : (marks marks′ recording : List ℕ) → ((k : ℕ) → List·Memᴰ k (marksOf marks) ↔ List·Memᴰ k (marksOf marks′))
+      → keptBytes (marksOf marks) recording ≡ keptBytes (marksOf marks′) recording

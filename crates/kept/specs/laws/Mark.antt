@@ -6,9 +6,8 @@ use mathlib.Core.List.{List, [], _∷_}
 use lib.Dec.{eqb}
 use borrow.Author.Tests.{eqb-true, eq-eqb}
 use Rattle.number.specs.laws.Boolean.{same, or-left, or-right, or-cases}
-use Rattle.recording.specs.Condition.{Condition, pick}
-use Rattle.recording.specs.Reading.{Reading}
-use Rattle.kept.specs.Kept.{anyOf, forSome, extremes, laterThan, reasons, kept}
+use Rattle.recording.specs.Condition.{Condition}
+use Rattle.kept.specs.Kept.{anyOf, forSome, extremes, laterThan, reasons, keptFor}
 
 -- k is one of the marks
 abbrev pub isMark : ℕ → List ℕ → Bool
@@ -37,5 +36,5 @@ module _ {X : Type 0} (ρ : ℕ → Condition X) (before : List X) (x : X) (rest
       (more-marks marks others (λ k i. sym (h k) ∙ i)) (more-marks others marks (λ k i. h k ∙ i))
 
 -- the same marks, in any order, however often
-pub kept-marks : (marks others : List ℕ) → ((k : ℕ) → isMark k marks ≡ isMark k others) → (r : List Reading) → kept marks r ≡ kept others r
-kept-marks marks others h r = λ i. pick (λ b x a. anyOf reasons b x a || same-marks (λ k. extremes (laterThan k)) b x a marks others h i) r
+pub rule-marks : (marks others : List ℕ) → ((k : ℕ) → isMark k marks ≡ isMark k others) → keptFor marks ≡ keptFor others
+rule-marks marks others h = λ i b x a. anyOf reasons b x a || same-marks (λ k. extremes (laterThan k)) b x a marks others h i

@@ -10,11 +10,11 @@ use lib.ListN.{length, length-map}
 use borrow.Author.Tests.{ltb-false, eqb-false}
 use Rattle.targets.specs.Target.{badTarget}
 use Rattle.number.specs.laws.Boolean.{then, back, none-left}
-use Rattle.refusal.specs.Outcome.{Outcome, result, refused, Line, line, judged}
+use Rattle.refusal.specs.Outcome.{Outcome, refused, Line, line, judged}
 use Rattle.recording.specs.Condition.{pick}
 use Rattle.recording.specs.Reading.{Reading, A, B, top, curveOf, a-top}
-use Rattle.recording.specs.Recording.{records, reading, readings, recordingLines, noRecord, Accepted}
-use Rattle.recording.specs.Output.{counted, outputLine, outputAfter}
+use Rattle.recording.specs.Recording.{records, reading, readings, recordingLines, noRecord}
+use Rattle.recording.specs.Output.{outputLine}
 use Rattle.recording.specs.laws.Outcome.{judged-pass}
 use Rattle.runs.specs.Runs.{setBytes}
 use Rattle.runs.specs.laws.Runs.{setBytes-ext}
@@ -26,24 +26,24 @@ use Rattle.meaning.specs.Named.{Channel, curve, additions, Names}
 use Rattle.meaning.specs.laws.Named.{length-agreeing, same-times, top-blind, agreeing-same}
 use Rattle.meaning.specs.inner.Coded.{index}
 use Rattle.question.specs.Question.{read, answer, setLines}
-use Rattle.degree.specs.Degree.{Value, met, short, noValue, valueOf, targetLine}
-use Rattle.pair.specs.Pair.{Given, times, none, pairsOf, firstApart, firstPair, tooManyTops}
+use Rattle.degree.specs.Degree.{Value, valueOf, targetLine}
+use Rattle.pair.specs.Pair.{pairsOf, firstApart, firstPair, tooManyTops}
 use Rattle.marks.specs.Marks.{marksOf}
 use Rattle.lab.specs.Lab.{LaboratoryText, askerLines, curveLine, labAskingLines, labQuestionOf, labDegreeOf, labPairOf}
 use Rattle.lab.specs.laws.Laboratory.{clear-laboratory}
 use Rattle.thin.specs.Selection.{Selection}
-use Rattle.thin.specs.laws.Selection.{kept-selection, whole-selection}
-use Rattle.recording.specs.laws.Acceptance.{accepted-sound}
-use Rattle.reply.specs.laws.Unpacked.{Numbered}
-use Rattle.boundary.specs.Boundary.{Degrees, valueTold, distanceAfter, degreeAfter, Pairs, pairTold, earlierAfter, laterAfter}
-use Rattle.mill.specs.laws.Calls.{lab-question-in-half}
-use Rattle.promises.specs.StandIn.{StandIn}
-use Rattle.promises.specs.Secrecy.{Public, the-batch, the-additions, AllButB, SamePlaces, SameToLab, Secrecy}
-use Rattle.promises.specs.Table.{TableLine, labQuestionRefusals, labDegreeRefusals, labPairRefusals}
-use Rattle.promises.specs.laws.Table.{AsTable}
+use Rattle.promises.specs.inner.StandIn.{StandIn}
 use Rattle.promises.specs.laws.StandIn.{judged-behind, same-noRecord, stand-same, meant-val, meant-lines}
-use Rattle.promises.specs.laws.KeptAsFull.{selected-stands}
-use Rattle.promises.specs.laws.Demand1.{told-counted, told-numbered, writes-alike, lab-question-told, lab-degree-told, lab-pair-told}
+use Rattle.promises.specs.laws.Selected.{selected-stands}
+use Rattle.promises.specs.laws.Acceptance.{accepted-lines}
+use Rattle.promises.specs.laws.Page.{is-computed, same-right}
+use Rattle.promises.specs.Page.{Call, Effect, writing, Right}
+use Rattle.promises.specs.laws.Computed.{ofValue, ofPair, computed, right-computed}
+use Rattle.promises.specs.Secrecy.{Public, the-batch, the-additions, AllButB, OfLaboratory, a-question, a-degree, a-pair, Secrecy}
+use mathlib.Core.Logic.{inl, inr, ⊎-elim}
+use Rattle.degree.specs.inner.Reach.{mapped}
+use Rattle.lab.specs.laws.Plain.{PlainOr11Or14, question-plain, degree-plain, pair-plain}
+use mathlib.Core.Logic.{_⊎_}
 
 -- ---- what a laboratory text names is public
 
@@ -62,10 +62,10 @@ same-back a = record { truth = λ z. back (a .truth z); eight = back (a .eight);
 
 module _ (marks recording other held held′ : List ℕ) (two : AllButB recording other) (s : Selection (marksOf marks) recording held) (s′ : Selection (marksOf marks) other held′) where
   stands : StandIn (marksOf marks) recording held
-  stands = selected-stands marks recording held (two .accepted) s
+  stands = selected-stands marks recording held (accepted-lines recording (two .accepted)) s
 
   stands′ : StandIn (marksOf marks) other held′
-  stands′ = selected-stands marks other held′ (two .other-accepted) s′
+  stands′ = selected-stands marks other held′ (accepted-lines other (two .other-accepted)) s′
 
   same-records : length (records recording) ≡ length (records other)
   same-records = sym (length-map (records recording) reading) ∙ length-agreeing (two .agree) ∙ length-map (records other) reading
@@ -94,7 +94,7 @@ module _ (marks recording other held held′ : List ℕ) (two : AllButB recordin
         (λ n. h (ap (λ (l : Line). l .meets) same-none ∙ n .0) (n .0) (clear-laboratory (marksOf marks) (read text) (n .1 .1 .1 .1 .1 .0)))
         ∙ sym (judged-pass (recordingLines held′) ((noRecord held′ ∷ textLines text) ++ (askerLines marks (read text) ++ ns)) y (stands′ .accepted))
 
-    same-question : (room : ℕ) → labQuestionOf held marks text room ≡ labQuestionOf held′ marks text room
+    pub same-question : (room : ℕ) → labQuestionOf held marks text room ≡ labQuestionOf held′ marks text room
     unfolding labQuestionOf
     same-question room =
         lab-asking (setLines held (read text) ++ (outputLine room (setBytes (answer held text)) ∷ [])) (setLines held′ (read text) ++ (outputLine room (setBytes (answer held′ text)) ∷ []))
@@ -104,7 +104,7 @@ module _ (marks recording other held held′ : List ℕ) (two : AllButB recordin
         (meant-lines held′ held (stands′ .accepted) (stands .accepted) some′ some (read text) m)
         (setBytes-ext (answer held text) (answer held′ text) (λ n l. meant-val held′ held (stands′ .accepted) (stands .accepted) some′ some (read text) m n)))
 
-    same-degree : (target : ℤ) → labDegreeOf held marks text target ≡ labDegreeOf held′ marks text target
+    pub same-degree : (target : ℤ) → labDegreeOf held marks text target ≡ labDegreeOf held′ marks text target
     unfolding labDegreeOf
     same-degree target =
         lab-asking (targetLine target ∷ setLines held (read text)) (targetLine target ∷ setLines held′ (read text))
@@ -132,7 +132,7 @@ module _ (marks recording other held held′ : List ℕ) (two : AllButB recordin
       small zero a b = refl
       small (suc n) a b = absurd (b (omega arith))
 
-  same-pair : (c : ℕ) (target : ℤ) → labPairOf held c target ≡ labPairOf held′ c target
+  pub same-pair : (c : ℕ) (target : ℤ) → labPairOf held c target ≡ labPairOf held′ c target
   unfolding labPairOf firstPair
   same-pair c target =
       judged-pass (recordingLines held) (noRecord held ∷ badTarget c target ∷ curveLine c ∷ tooManyTops held c ∷ []) _ (stands .accepted)
@@ -143,80 +143,31 @@ module _ (marks recording other held held′ : List ℕ) (two : AllButB recordin
       (ap₂ (λ (k : ℕ) (ts : List ℕ). judged (line 9 (ltb mostTops k) ∷ []) (firstApart target (pairsOf ts))) same-count same-tops))
       ∙ sym (judged-pass (recordingLines held′) (noRecord held′ ∷ badTarget c target ∷ curveLine c ∷ tooManyTops held′ c ∷ []) _ (stands′ .accepted))
 
--- ---- what two calls show, of one outcome
-
-degrees-alike : (o : Outcome Value) → Numbered (valueTold o) → (d k d′ k′ r r′ f g f′ g′ : ℕ) → Degrees o d k r f g → Degrees o d′ k′ r′ f′ g′ → SamePlaces d k d′ k′ r r′ f g f′ g′
-degrees-alike o h d k d′ k′ r r′ f g f′ g′ w w′ = record {
-  number = w .returned ∙ sym (w′ .returned);
-  written = go o h w w′;
-  memory = λ a b. (w .first-place ∙ ap (distanceAfter o) a ∙ sym (w′ .first-place), w .second-place ∙ ap (degreeAfter o) b ∙ sym (w′ .second-place));
-}
-  where
-    go : (o : Outcome Value) → Numbered (valueTold o) → Degrees o d k r f g → Degrees o d′ k′ r′ f′ g′ → r ≡ 1 → (f ≡ f′) × (g ≡ g′)
-    go (result met) h w w′ e = let a = w .returned in absurd (omega arith)
-    go (result (short x y)) h w w′ e = (w .first-place ∙ sym (w′ .first-place), w .second-place ∙ sym (w′ .second-place))
-    go (result noValue) h w w′ e = let a = w .returned in absurd (omega arith)
-    go (refused n p) h w w′ e = let a = w .returned in absurd (omega arith)
-
-pairs-alike : (o : Outcome Given) → Numbered (pairTold o) → (t u t′ u′ r r′ f g f′ g′ : ℕ) → Pairs o t u r f g → Pairs o t′ u′ r′ f′ g′ → SamePlaces t u t′ u′ r r′ f g f′ g′
-pairs-alike o h t u t′ u′ r r′ f g f′ g′ w w′ = record {
-  number = w .returned ∙ sym (w′ .returned);
-  written = go o h w w′;
-  memory = λ a b. (w .first-place ∙ ap (earlierAfter o) a ∙ sym (w′ .first-place), w .second-place ∙ ap (laterAfter o) b ∙ sym (w′ .second-place));
-}
-  where
-    go : (o : Outcome Given) → Numbered (pairTold o) → Pairs o t u r f g → Pairs o t′ u′ r′ f′ g′ → r ≡ 1 → (f ≡ f′) × (g ≡ g′)
-    go (result (times x y)) h w w′ e = (w .first-place ∙ sym (w′ .first-place), w .second-place ∙ sym (w′ .second-place))
-    go (result none) h w w′ e = let a = w .returned in absurd (omega arith)
-    go (refused n p) h w w′ e = let a = w .returned in absurd (omega arith)
-
--- a value, and a pair, told by the table has a number that is not 0
-value-numbered : (ws : List TableLine) (o : Outcome Value) → AsTable ws o → Numbered (valueTold o)
-value-numbered ws (result met) t = tt
-value-numbered ws (result (short x y)) t = tt
-value-numbered ws (result noValue) t = tt
-value-numbered ws (refused n p) t = t .1 .0
-
-pair-numbered : (ws : List TableLine) (o : Outcome Given) → AsTable ws o → Numbered (pairTold o)
-pair-numbered ws (result (times x y)) t = tt
-pair-numbered ws (result none) t = tt
-pair-numbered ws (refused n p) t = t .1 .0
-
 -- ---- SECRECY
 
-same-to-lab : (marks recording other held held′ : List ℕ) → AllButB recording other → Selection (marksOf marks) recording held → Selection (marksOf marks) other held′
-    → SameToLab marks held held′
-same-to-lab marks recording other held held′ two s s′ = record {
-  question = λ text {out} {out′} e {r} {r′} {after} {after′} w w′.
-      let ws : List TableLine = labQuestionRefusals held marks text (length out) in
-      let o : Outcome (List ℕ) = labQuestionOf held marks text (length out) in
-      let same : o ≡ labQuestionOf held′ marks text (length out′) =
-      same-question marks recording other held held′ two s s′ text (length out) ∙ ap (labQuestionOf held′ marks text) e in
-      let k = writes-alike same (lab-question-in-half held marks text (length out))
-      (told-numbered ws (counted o) (told-counted ws o (lab-question-told held marks text (length out)))) w w′ in
-      record {
-        number = k .0;
-        written = k .1;
-        memory = λ m. w .output ∙ ap₂ outputAfter same m ∙ sym (w′ .output);
-      };
-  degree = λ text target {distance} {value} {distance′} {value′} {r} {r′} {distance-after = f} {value-after = g} {distance-after′ = f′} {value-after′ = g′} w w′.
-      let ws : List TableLine = labDegreeRefusals held marks text target in
-      degrees-alike (labDegreeOf held marks text target) (value-numbered ws (labDegreeOf held marks text target) (lab-degree-told held marks text target)) distance value distance′ value′ r r′ f g f′ g′ w
-      (subst (λ (o : Outcome Value). Degrees o distance′ value′ r′ f′ g′) (sym (same-degree marks recording other held held′ two s s′ text target)) w′);
-  pair = λ number target {earlier} {later} {earlier′} {later′} {r} {r′} {earlier-after = f} {later-after = g} {earlier-after′ = f′} {later-after′ = g′} w w′.
-      let ws : List TableLine = labPairRefusals held number target in
-      pairs-alike (labPairOf held number target) (pair-numbered ws (labPairOf held number target) (lab-pair-told held number target)) earlier later earlier′ later′ r r′ f g f′ g′ w
-      (subst (λ (o : Outcome Given). Pairs o earlier′ later′ r′ f′ g′) (sym (same-pair marks recording other held held′ two s s′ number target)) w′);
-}
+lab-computed : (marks recording other held held′ : List ℕ) → AllButB recording other → Selection (marksOf marks) recording held → Selection (marksOf marks) other held′ → {c d : Call} → OfLaboratory marks c d → (room : ℕ)
+    → computed c held room ≡ computed c held′ room
+lab-computed marks recording other held held′ b s s′ (a-question {text = text}) room = ap (mapped writing) (same-question marks recording other held held′ b s s′ text room)
+lab-computed marks recording other held held′ b s s′ (a-degree {text = text} {target = target}) room = ap (mapped ofValue) (same-degree marks recording other held held′ b s s′ text target)
+lab-computed marks recording other held held′ b s s′ (a-pair {number = n} {target = target}) room = ap (mapped ofPair) (same-pair marks recording other held held′ b s s′ n target)
 
--- an accepted recording is whole records, so a selection of itself
-itself : (ks recording : List ℕ) → Accepted recording → Selection ks recording recording
-itself ks recording a = whole-selection ks recording (accepted-sound recording a .whole)
+-- ---- a laboratory's call that neither 11 nor 14 refuses
 
-pub secrecy : (marks : List ℕ) → Secrecy marks
-secrecy marks = record {
-  selections = λ {recording} {other} {held} {held′} two s s′. same-to-lab marks recording other held held′ two s s′;
-  kept-and-kept = λ {recording} {other} two. same-to-lab marks recording other _ _ two (kept-selection (marksOf marks) recording) (kept-selection (marksOf marks) other);
-  full-and-full = λ {recording} {other} two. same-to-lab marks recording other _ _ two (itself (marksOf marks) recording (two .accepted)) (itself (marksOf marks) other (two .other-accepted));
-  kept-and-full = λ {recording} {other} two. same-to-lab marks recording other _ _ two (kept-selection (marksOf marks) recording) (itself (marksOf marks) other (two .other-accepted));
+mapped-same : {R : Type 0} (shown : R → Effect) {o q : Outcome R} → PlainOr11Or14 o q → PlainOr11Or14 (mapped shown o) (mapped shown q)
+mapped-same shown h = ⊎-elim (λ e. inl (ap (mapped shown) e)) (λ k. inr (⊎-elim (λ e. inl (ap (mapped shown) e)) (λ e. inr (ap (mapped shown) e)) k)) h
+
+lab-same : {marks : List ℕ} {c d : Call} → OfLaboratory marks c d → (g : List ℕ) (room : ℕ) → PlainOr11Or14 (computed c g room) (computed d g room)
+lab-same {marks} (a-question {text = text}) g room = mapped-same writing (question-plain g marks text room)
+lab-same {marks} (a-degree {text = text} {target = target}) g room = mapped-same ofValue (degree-plain g marks text target)
+lab-same (a-pair {number = n} {target = target}) g room = mapped-same ofPair (⊎-elim (λ e. inl e) (λ e. inr (inr e)) (pair-plain g n target))
+
+lab-plainly : {marks g : List ℕ} {c d : Call} → OfLaboratory marks c d → {room : ℕ} {o : Outcome Effect} → ¬ (o ≡ refused 11 0) → ¬ (o ≡ refused 14 0) → Right c g room o → Right d g room o
+lab-plainly {marks} {g} {c} {d} k {room} {o} n m h =
+    let e = is-computed h in
+    ⊎-elim (λ s. subst (Right d g room) (sym (e ∙ s)) (right-computed d g room)) (λ q. ⊎-elim (λ s. absurd (n (e ∙ s))) (λ s. absurd (m (e ∙ s))) q) (lab-same k g room)
+
+pub secrecy : Secrecy
+secrecy = record {
+  secret = λ marks {recording} {other} {held} {held′} b s s′ {c} {d} k {room} {o} h. same-right c held held′ room (lab-computed marks recording other held held′ b s s′ k room) h;
+  plainly = lab-plainly;
 }

@@ -55,9 +55,9 @@ use Rattle.kept.specs.Selection.{flagsFrom, flags, select, Includes}
 use Rattle.marks.specs.Marks.{marksOf}
 use Rattle.thin.specs.Selection.{Selection}
 use Rattle.thin.specs.laws.Selection.{selection-readings}
-use Rattle.promises.specs.KeptAsFull.{Askable, SameAnswers}
+use Rattle.promises.specs.inner.SameAnswers.{PlainlyRead, SameAnswers}
 use Rattle.promises.specs.laws.Observation.{selection-alike}
-use Rattle.promises.specs.StandIn.{StandIn}
+use Rattle.promises.specs.inner.StandIn.{StandIn}
 
 -- ---- lines judged
 
@@ -136,7 +136,7 @@ module _ (ks full held : List ℕ) (s : StandIn ks full held) (accepted : Accept
   stand-setLines = meant-lines full held accepted (s .accepted) some some-held p (stand-same ks full held s some-held p plain)
 
 module _ (marks full held : List ℕ) (s : StandIn (marksOf marks) full held) (accepted : Accepted full) where
-  module _ (text : List ℕ) (askable : Askable marks text) where
+  module _ (text : List ℕ) (askable : PlainlyRead marks text) where
     -- REFUSALS 1 TO 7: what follows them matters only where there is a record and the text was read, and then the text is plain
     stand-asking : {R : Type 0} (ms ns : List Line) (x y : R)
         → (noRecord full .meets ≡ false → Plain (marksOf marks) (read text) → judged ms x ≡ judged ns y)

@@ -1,5 +1,5 @@
--- The lines of each call agree with the table. For the question call this is said of readings that stand in for a recording, of which the recording
--- itself is one case and its kept readings another.
+-- The lines that each call computes agree with its row of the page. For the question call this is said of readings that stand in for a recording, of
+-- which the recording itself is one case and its kept readings another.
 use Prim.Native.Nat.{ℕ, _/_, _%_, _≤_, _<_}
 use native.Mathlib.Omega.{arith}
 use mathlib.Core.Path.{_≡_, refl, sym, ap, subst, _∙_}
@@ -8,7 +8,7 @@ use mathlib.Core.Logic.{_⊎_, ⊎-elim, _↔_}
 use mathlib.Core.List.{List, [], _∷_, _++_, List·Memᴰ, List·Memᴰ·head, List·Memᴰ·tail, List·Memᴰ·not-nil, List·Memᴰ·cases-cons}
 use lib.Dec.{eqb, ltb, leb→le, le→leb}
 use lib.IntN.{ℤ, pos, negsuc}
-use lib.ListN.{length}
+use lib.ListN.{length, drop}
 use lib.Signed.{_≤ℤ_, leZ-yes}
 use borrow.Author.Tests.{eqb-false, ltb-true, ltb-false, lt-ltb, ne-eqb, le-ltb}
 use Rattle.number.specs.Axis.{whole, OfAxis}
@@ -18,10 +18,10 @@ use Rattle.number.specs.laws.Least.{least-holds, least-first}
 use Rattle.number.specs.laws.Order.{less-or-not}
 use Rattle.refusal.specs.Outcome.{Line, NoneMeets}
 use Rattle.recording.specs.Condition.{pick, someOf}
-use Rattle.recording.specs.Reading.{top, curveOf}
+use Rattle.recording.specs.Reading.{Reading, top, curveOf}
 use Rattle.recording.specs.Recording.{records, readings, recordingLines, noRecord, mostPigments, Accepted}
 use Rattle.recording.specs.Output.{outputLine}
-use Rattle.runs.specs.Runs.{runCount, setBytes}
+use Rattle.runs.specs.Runs.{mostRuns, runCount, setBytes}
 use Rattle.runs.specs.laws.Runs.{runCount-ext, setBytes-length}
 use Rattle.targets.specs.Target.{offAxis, badTarget}
 use Rattle.tops.specs.Tops.{mostTops}
@@ -32,7 +32,7 @@ use Rattle.text.specs.Told.{textLines, tooLarge}
 use Rattle.meaning.specs.Alike.{Same}
 use Rattle.meaning.specs.inner.Coded.{coded}
 use Rattle.meaning.specs.Meaning.{Holds}
-use Rattle.meaning.specs.Overfull.{IsSet}
+use Rattle.meaning.specs.Overfull.{IsSet, Overfull}
 use Rattle.meaning.specs.laws.Recorded.{accepted-recorded}
 use Rattle.meaning.specs.inner.Truth.{refused8, refused9}
 use Rattle.meaning.specs.laws.Truth.{val-holds}
@@ -50,14 +50,16 @@ use Rattle.sheet.specs.Sheet.{mostLines, noPigment, badSheet}
 use Rattle.sheet.specs.Call.{orderLines}
 use Rattle.lab.specs.Lab.{LaboratoryText, curveLine, askerLines, labAskingLines}
 use Rattle.lab.specs.laws.Laboratory.{fourteen-text}
-use Rattle.report.specs.Report.{Naming, mostBatches, reportBytes, namingLines}
 use Rattle.entry.specs.Entry.{entryBytes}
 use Rattle.entry.specs.Call.{entryLines}
 use Rattle.entry.specs.laws.Reckoned.{length-reckoned}
 use Rattle.listing.specs.Listing.{mostEntries, entryCount, listing}
 use Rattle.listing.specs.Call.{badSummary, levelLines}
-use Rattle.promises.specs.Table.{WithoutRecord, TopsOfCurveOver, recordingTable, ReadWith, OpenTooDeep, TextOver, RunsOver, TopsOver, SetLonger, MarksOff, TargetBad, SheetBad, NotLaboratory, BandBad, OneExtreme, TableLine, _upon_, textTable, askingTable, questionTable, questionRefusals, degreeRefusals, pairRefusals, thinRefusals, bandRefusals, orderRefusals, labQuestionRefusals, labDegreeRefusals, labPairRefusals, reportStartRefusals, entryRefusals, findRefusals}
-use Rattle.promises.specs.laws.Table.{agrees, Agree, done, next, _⊳_, so-eq, so-lt, so-none, agree-recording}
+use Rattle.promises.specs.laws.MaximalRuns.{runs, runs-maximal, runs-many, inRuns, test-of, test-many}
+use Rattle.promises.specs.Conditions.{WithoutRecord, TopsOfCurveOver, recordingTable, ReadWith, OpenTooDeep, TextOver, TooManyRuns, RunsOver, TopsOver, SetLonger, MarksOff, TargetBad, SheetBad, NotLaboratory, BandBad, OneExtreme, TableLine, _upon_, textTable, askingTable}
+use Rattle.promises.specs.Page.{question, degree, pair, thin, band, order, entry, find, labQuestion, labDegree, labPair, refusals}
+use Rattle.promises.specs.laws.Found.{found-longer}
+use Rattle.promises.specs.laws.Conditions.{agrees, Agree, done, next, _⊳_, so-eq, so-lt, so-none, agree-recording}
 
 -- ---- tests by what they decide
 
@@ -113,6 +115,32 @@ module _ (text : List ℕ) where
       (λ five. next (agrees 6 refl (six-means text))
       (λ six. next (agrees 7 refl (seven-told (read-reads text six))) (λ seven. rest (five, (six, (seven, tt))))))
 
+-- ---- 8 and 10: a set by its maximal runs
+
+too-many-runs : (r : List Reading) (p : Text) → Overfull r p ↔ TooManyRuns r p
+too-many-runs r p = (
+  λ o. record {
+    node = o .node;
+    of-text = o .of-text;
+    at = o .at;
+    inside = o .inside;
+    first = o .first;
+    runs = runs (o .set);
+    maximal = runs-maximal (o .set) (λ z. Holds r z (o .node) (o .at)) (o .is-set);
+    many = subst (λ (n : ℕ). mostRuns < n) (sym (runs-many (o .set))) (o .many);
+  },
+  λ o. record {
+    node = o .node;
+    of-text = o .of-text;
+    at = o .at;
+    inside = o .inside;
+    first = o .first;
+    set = inRuns (o .runs);
+    is-set = test-of (o .maximal);
+    many = subst (λ (n : ℕ). mostRuns < n) (sym (test-many (o .maximal))) (o .many);
+  },
+)
+
 -- ---- readings that stand in for a recording
 
 -- `held` is accepted, as empty as `full`, and no reading of the text tells them apart
@@ -148,7 +176,7 @@ module _ (full held text : List ℕ) (place : InPlace full held text) where
     nine = so-read text reads (λ t r. then (mean .nine t r) (as-full t r .nine))
 
     eight : So (refused8 (coded held) (read text)) ↔ RunsOver full text
-    eight = so-read text reads (λ t r. then (mean .eight t r) (as-full t r .eight))
+    eight = so-read text reads (λ t r. then (then (mean .eight t r) (as-full t r .eight)) (too-many-runs (readings full) t))
 
     -- the answered set is the set that the text means of the full recording
     pub answer-is : IsSet (answer held text) (readings full) (read text) 0
@@ -166,15 +194,18 @@ module _ (full held text : List ℕ) (place : InPlace full held text) where
 
     ten : (room : ℕ) → So (ltb room (length (setBytes (answer held text)))) ↔ SetLonger full text room
     ten room = so-read text reads (λ t r. (
-      λ e. (
-        answer held text,
-        subst (λ (p : Text). IsSet (answer held text) (readings full) p 0) (reads-read text t r) answer-is,
-        (let h = ltb-true room (length (setBytes (answer held text))) e in omega (arith, setBytes-length (answer held text))),
-      ),
+      λ e.
+          let f : ℕ → Bool = answer held text in
+          let h = ltb-true room (length (setBytes f)) e in
+          (
+            runs f,
+            runs-maximal f (λ z. Holds (readings full) z t 0) (subst (λ (p : Text). IsSet f (readings full) p 0) (reads-read text t r) answer-is),
+            omega (arith, setBytes-length f, runs-many f),
+          ),
       λ m.
-          let c = same-count t r (m .0) (m .1) in
+          let c = same-count t r (inRuns (m .0)) (test-of (m .1)) in
           let l = m .2 in
-          lt-ltb room (length (setBytes (answer held text))) (omega (arith, setBytes-length (answer held text))),
+          lt-ltb room (length (setBytes (answer held text))) (omega (arith, setBytes-length (answer held text), test-many (m .1))),
     ))
 
     agree-sets : (room : ℕ) → Agree (setLines held (read text) ++ (outputLine room (setBytes (answer held text)) ∷ [])) (9 upon TopsOver full text ∷ 8 upon RunsOver full text ∷ 10 upon SetLonger full text room ∷ [])
@@ -185,7 +216,7 @@ module _ (full held text : List ℕ) (place : InPlace full held text) where
 
   -- THE QUESTION CALL, of what stands in for the recording: 4 to 10
   pub agree-asked : (room : ℕ)
-      → Agree (noRecord held ∷ textLines text ++ (setLines held (read text) ++ (outputLine room (setBytes (answer held text)) ∷ []))) (questionTable full text room)
+      → Agree (noRecord held ∷ textLines text ++ (setLines held (read text) ++ (outputLine room (setBytes (answer held text)) ∷ []))) (drop 3 (refusals (question text) full room))
   agree-asked room = agree-four (λ some. agree-text text (λ sized. agree-sets some sized room))
 
 -- 1 to 7, then the lines that follow, of which the recording is in its own place
@@ -201,7 +232,7 @@ agree-records bytes rest = agree-recording bytes (λ a. agrees 4 refl (so-eq (le
 -- ---- the question call
 
 pub agree-question : (bytes text : List ℕ) (room : ℕ)
-    → Agree (askingLines bytes text ++ (setLines bytes (read text) ++ (outputLine room (setBytes (answer bytes text)) ∷ []))) (questionRefusals bytes text room)
+    → Agree (askingLines bytes text ++ (setLines bytes (read text) ++ (outputLine room (setBytes (answer bytes text)) ∷ []))) (refusals (question text) bytes room)
 agree-question bytes text room = agree-asking bytes text (λ place some sized. agree-sets bytes bytes text place some sized room)
 
 -- ---- 12: the axis
@@ -221,8 +252,8 @@ off-axis z = (λ e h. clash e (on-axis z .1 h), λ h. by-test (offAxis z) (λ e.
 
 -- ---- the degree call
 
-pub agree-degree : (bytes text : List ℕ) (target : ℤ) → Agree (degreeLines bytes text target) (degreeRefusals bytes text target)
-agree-degree bytes text target = agree-asking bytes text (λ place some sized. agrees 12 refl (off-axis target) ⊳ agree-near bytes bytes text place some sized)
+pub agree-degree : (bytes text : List ℕ) (target : ℤ) (room : ℕ) → Agree (degreeLines bytes text target) (refusals (degree text target) bytes room)
+agree-degree bytes text target room = agree-asking bytes text (λ place some sized. agrees 12 refl (off-axis target) ⊳ agree-near bytes bytes text place some sized)
 
 -- ---- the pair call
 
@@ -234,8 +265,8 @@ off-target curve target = so-either (so-lt 1 curve) (off-axis target)
 many-tops : (bytes : List ℕ) (curve : ℕ) → So (tooManyTops bytes curve .meets) ↔ TopsOfCurveOver bytes curve
 many-tops bytes curve = so-lt mostTops (length (pick (top (curveOf curve)) (readings bytes)))
 
-pub agree-pair : (bytes : List ℕ) (curve : ℕ) (target : ℤ) → Agree (pairLines bytes curve target) (pairRefusals bytes curve target)
-agree-pair bytes curve target = agree-records bytes (agrees 12 refl (off-target curve target) ⊳ agrees 9 refl (many-tops bytes curve) ⊳ done)
+pub agree-pair : (bytes : List ℕ) (curve : ℕ) (target : ℤ) (room : ℕ) → Agree (pairLines bytes curve target) (refusals (pair curve target) bytes room)
+agree-pair bytes curve target room = agree-records bytes (agrees 12 refl (off-target curve target) ⊳ agrees 9 refl (many-tops bytes curve) ⊳ done)
 
 -- ---- the thinning call
 
@@ -244,7 +275,7 @@ pub off-marks : (marks : List ℕ) → So (marksLine marks .meets) ↔ MarksOff 
 off-marks marks = so-either (so-none (so-eq (length marks % 4) 0)) (so-either (so-lt mostMarks (length marks / 4)) (so-some (so-lt latestMark) (marksOf marks)))
 
 pub agree-thin : (bytes marks : List ℕ) (room : ℕ)
-    → Agree (recordingLines bytes ++ marksLine marks ∷ outputLine room (keptBytes (marksOf marks) bytes) ∷ []) (thinRefusals bytes marks room)
+    → Agree (recordingLines bytes ++ marksLine marks ∷ outputLine room (keptBytes (marksOf marks) bytes) ∷ []) (refusals (thin marks) bytes room)
 agree-thin bytes marks room = agree-recording bytes (λ a. agrees 11 refl (off-marks marks) ⊳ agrees 10 refl (so-lt room (length (keptBytes (marksOf marks) bytes))) ⊳ done)
 
 -- ---- the band call
@@ -264,8 +295,8 @@ one-extreme p = (
   λ o. ap oneExtreme (o .1) ∙ test-extreme (o .0) (o .2),
 )
 
-pub agree-band : (bytes text : List ℕ) (e : ℤ) → Agree (askingLines bytes text ++ (widthLine e ∷ extremeLine (read text) ∷ [])) (bandRefusals bytes text e)
-agree-band bytes text e = agree-asking bytes text (λ place some sized.
+pub agree-band : (bytes text : List ℕ) (e : ℤ) (room : ℕ) → Agree (askingLines bytes text ++ (widthLine e ∷ extremeLine (read text) ∷ [])) (refusals (band text e) bytes room)
+agree-band bytes text e room = agree-asking bytes text (λ place some sized.
     agrees 16 refl (off-band e)
     ⊳ agrees 17 refl (so-read text (read-reads text (sized .1 .0)) (of-each text (λ t. ¬ OneExtreme t) (so-none (one-extreme (read text)))))
     ⊳ done)
@@ -288,8 +319,8 @@ no-pigment k = (λ e h. clash e (is-pigment k .1 h), λ h. by-test (noPigment k)
 off-sheet : (sheet : List ℕ) → So (badSheet sheet .meets) ↔ SheetBad sheet
 off-sheet sheet = so-either (so-none (so-eq (length sheet % 2) 0)) (so-either (so-lt mostLines (length sheet / 2)) (so-some no-pigment sheet))
 
-pub agree-order : (bytes sheet : List ℕ) → Agree (orderLines bytes sheet) (orderRefusals bytes sheet)
-agree-order bytes sheet = agree-records bytes (agrees 13 refl (off-sheet sheet) ⊳ done)
+pub agree-order : (bytes sheet : List ℕ) (room : ℕ) → Agree (orderLines bytes sheet) (refusals (order sheet) bytes room)
+agree-order bytes sheet room = agree-records bytes (agrees 13 refl (off-sheet sheet) ⊳ done)
 
 -- ---- the laboratory's calls
 
@@ -302,36 +333,29 @@ agree-asker marks text sized rest =
     ⊳ rest
 
 pub agree-lab-question : (bytes marks text : List ℕ) (room : ℕ)
-    → Agree (labAskingLines bytes marks text ++ (setLines bytes (read text) ++ (outputLine room (setBytes (answer bytes text)) ∷ []))) (labQuestionRefusals bytes marks text room)
+    → Agree (labAskingLines bytes marks text ++ (setLines bytes (read text) ++ (outputLine room (setBytes (answer bytes text)) ∷ []))) (refusals (labQuestion marks text) bytes room)
 agree-lab-question bytes marks text room =
     agree-asking bytes text (λ place some sized. agree-asker marks text sized (agree-sets bytes bytes text place some sized room))
 
-pub agree-lab-degree : (bytes marks text : List ℕ) (target : ℤ)
-    → Agree (labAskingLines bytes marks text ++ (targetLine target ∷ setLines bytes (read text))) (labDegreeRefusals bytes marks text target)
-agree-lab-degree bytes marks text target =
+pub agree-lab-degree : (bytes marks text : List ℕ) (target : ℤ) (room : ℕ)
+    → Agree (labAskingLines bytes marks text ++ (targetLine target ∷ setLines bytes (read text))) (refusals (labDegree marks text target) bytes room)
+agree-lab-degree bytes marks text target room =
     agree-asking bytes text (λ place some sized. agree-asker marks text sized (agrees 12 refl (off-axis target) ⊳ agree-near bytes bytes text place some sized))
 
-pub agree-lab-pair : (bytes : List ℕ) (curve : ℕ) (target : ℤ)
-    → Agree (recordingLines bytes ++ (noRecord bytes ∷ badTarget curve target ∷ curveLine curve ∷ tooManyTops bytes curve ∷ [])) (labPairRefusals bytes curve target)
-agree-lab-pair bytes curve target = agree-records bytes (agrees 12 refl (off-target curve target) ⊳ agrees 14 refl (so-eq curve 1) ⊳ agrees 9 refl (many-tops bytes curve) ⊳ done)
-
--- ---- the naming of a report
-
-pub agree-naming : (n : Naming) (room : ℕ) → Agree (namingLines n room) (reportStartRefusals (n .count) (n .text) (n .target) room)
-agree-naming n room =
-    agrees 15 refl (so-either (so-eq (n .count) 0) (so-lt mostBatches (n .count)))
-    ⊳ agree-text (n .text) (λ sized. agrees 12 refl (off-axis (n .target)) ⊳ agrees 10 refl (so-lt room reportBytes) ⊳ done)
+pub agree-lab-pair : (bytes : List ℕ) (curve : ℕ) (target : ℤ) (room : ℕ)
+    → Agree (recordingLines bytes ++ (noRecord bytes ∷ badTarget curve target ∷ curveLine curve ∷ tooManyTops bytes curve ∷ [])) (refusals (labPair curve target) bytes room)
+agree-lab-pair bytes curve target room = agree-records bytes (agrees 12 refl (off-target curve target) ⊳ agrees 14 refl (so-eq curve 1) ⊳ agrees 9 refl (many-tops bytes curve) ⊳ done)
 
 -- ---- the calls of a summary
 
-pub agree-entry : (bytes : List ℕ) (room : ℕ) → Agree (recordingLines bytes ++ entryLines bytes room) (entryRefusals bytes room)
+pub agree-entry : (bytes : List ℕ) (room : ℕ) → Agree (recordingLines bytes ++ entryLines bytes room) (refusals entry bytes room)
 agree-entry bytes room = agree-records bytes
     (agrees 10 refl (subst (λ (n : ℕ). So (ltb room n) ↔ (room < entryBytes)) (sym (length-reckoned (readings bytes))) (so-lt room entryBytes)) ⊳ done)
 
 pub agree-find : (summary : List ℕ) (curve : ℕ) (level : ℤ) (room : ℕ)
-    → Agree (badSummary summary ∷ levelLines summary curve level room) (findRefusals summary curve level room)
+    → Agree (badSummary summary ∷ levelLines summary curve level room) (refusals (find curve level) summary room)
 agree-find summary curve level room =
     agrees 20 refl (so-either (so-none (so-eq (length summary % entryBytes) 0)) (so-lt mostEntries (entryCount summary)))
     ⊳ agrees 12 refl (off-target curve level)
-    ⊳ agrees 10 refl (so-lt room (length (listing (curveOf curve) level summary)))
+    ⊳ agrees 10 refl (then (so-lt room (length (listing (curveOf curve) level summary))) (found-longer summary curve level room))
     ⊳ done

@@ -1,7 +1,8 @@
--- Document 01, "When no result is given": the table of refusals, to which document 02 adds: each condition by its meaning, and of each call its refusals in turn.
+-- Document 01, "When no result is given": the table of refusals, to which document 02 adds. Each condition by its meaning; which of them a call has,
+-- and in which order, stands on its page (Page `refusals`, Reports, LiveRuns).
 use Prim.Native.Nat.{ℕ, _*_, _/_, _%_, _≤_, _<_}
 use mathlib.Core.Path.{_≡_}
-use mathlib.Core.Bool.{Bool, true, false}
+use mathlib.Core.Bool.{true, false}
 use mathlib.Core.Logic.{_⊎_}
 use mathlib.Core.List.{List, [], _∷_, _++_, List·Memᴰ}
 use lib.IntN.{ℤ, pos}
@@ -9,22 +10,24 @@ use lib.ListN.{length}
 use lib.Signed.{_≤ℤ_}
 use Rattle.number.specs.Axis.{OfAxis}
 use Rattle.recording.specs.Condition.{pick}
-use Rattle.recording.specs.Reading.{top, curveOf}
+use Rattle.recording.specs.Reading.{Reading, top, curveOf}
 use Rattle.recording.specs.Recording.{Raw, records, readings, lawful, mostRecords, mostPigments}
-use Rattle.runs.specs.Runs.{runCount}
+use Rattle.runs.specs.Runs.{mostRuns}
 use Rattle.tops.specs.Tops.{mostTops}
 use Rattle.grammar.specs.Syntax.{Text, Listed, listed}
 use Rattle.grammar.specs.Grammar.{ReadsWhole}
-use Rattle.grammar.specs.Size.{nodes, openAt, mostBytes, mostNodes, mostOpen}
-use Rattle.meaning.specs.Overfull.{IsSet, Overfull, TooManyTops}
+use Rattle.grammar.specs.Size.{temporal, nodes, openAt, mostBytes, mostNodes, mostOpen}
+use Rattle.meaning.specs.Meaning.{Holds}
+use Rattle.meaning.specs.Overfull.{Node, TooManyTops}
 use Rattle.band.specs.Band.{widest, OfExtremes}
-use Rattle.thin.specs.Thin.{keptBytes}
 use Rattle.marks.specs.Marks.{marksOf, mostMarks, latestMark}
 use Rattle.sheet.specs.Sheet.{mostLines}
-use Rattle.report.specs.Report.{mostBatches, reportBytes}
+use Rattle.report.specs.Report.{mostBatches}
 use Rattle.lab.specs.Lab.{LaboratoryText}
 use Rattle.entry.specs.Entry.{entryBytes}
-use Rattle.listing.specs.Listing.{mostEntries, entryCount, listing}
+use Rattle.listing.specs.Listing.{mostEntries, entryCount}
+use Rattle.listing.specs.Opened.{Exactly, SaidToReach}
+use Rattle.promises.specs.MaximalRuns.{Interval, MaximalRuns}
 
 -- ---- THE CONDITIONS
 
@@ -66,9 +69,19 @@ OpenTooDeep text = (i : ℕ) × (i < length text) × (mostOpen < openAt text i)
 abbrev pub TextOver : List ℕ → Type 0
 TextOver text = ReadWith text (λ t. (mostNodes < nodes t) ⊎ OpenTooDeep text)
 
--- 8: some node's set at some record has over 256 runs
+-- 8: some node's set at some record (without F, G, X, U, W: the first) has over 256 runs
+pub record TooManyRuns (r : List Reading) (p : Text) : Type 0 where
+  pub node : Text
+  pub of-text : Node node p
+  pub at : ℕ
+  pub inside : at < length r
+  pub first : temporal p ≡ false → at ≡ 0
+  pub runs : List Interval
+  pub maximal : MaximalRuns (λ z. Holds r z node at) runs
+  pub many : mostRuns < length runs
+
 abbrev pub RunsOver : (recording text : List ℕ) → Type 0
-RunsOver recording text = ReadWith text (Overfull (readings recording))
+RunsOver recording text = ReadWith text (TooManyRuns (readings recording))
 
 -- 9: over 256 tops of a curve between whose tops the text, or the pair call, takes differences
 abbrev pub TopsOver : (recording text : List ℕ) → Type 0
@@ -77,9 +90,15 @@ TopsOver recording text = ReadWith text (TooManyTops (readings recording))
 abbrev pub TopsOfCurveOver : (recording : List ℕ) (curve : ℕ) → Type 0
 TopsOfCurveOver recording curve = mostTops < length (pick (top (curveOf curve)) (readings recording))
 
--- 10: the output is shorter than the result. Of the question call: the text's set at the first record has more runs than room for 8 bytes each
+-- 10: the output is shorter than the result. Of the question call: it has less than 8 bytes for each run of the text's set at the first record
 abbrev pub SetLonger : (recording text : List ℕ) (room : ℕ) → Type 0
-SetLonger recording text room = ReadWith text (λ t. (f : ℕ → Bool) × IsSet f (readings recording) t 0 × (room < 8 * runCount f))
+SetLonger recording text room =
+    ReadWith text (λ t. (rs : List Interval) × MaximalRuns (λ z. Holds (readings recording) z t 0) rs × (room < 8 * length rs))
+
+-- of the find call: less than 4 bytes for each number
+abbrev pub FoundLonger : (curve : ℕ) (level : ℤ) (summary : List ℕ) (room : ℕ) → Type 0
+FoundLonger curve level summary room =
+    (ns : List ℕ) × Exactly (SaidToReach (curveOf curve) level summary) (entryCount summary) ns × (room < 4 * length ns)
 
 -- 11: the marks are not 4 bytes each, over 8, or too large
 abbrev pub MarksOff : List ℕ → Type 0
@@ -100,7 +119,7 @@ SheetBad sheet = ¬ (length sheet % 2 ≡ 0) ⊎ ((mostLines < length sheet / 2)
 abbrev pub NotLaboratory : (marks text : List ℕ) → Type 0
 NotLaboratory marks text = ReadWith text (λ t. ¬ LaboratoryText (marksOf marks) t)
 
--- 15: a named count of 0 or over 1,000. (Of a recording that is handed in, 15 is what the fold says: Reports)
+-- 15: a named count of 0 or over 1,000; of a recording that is handed in: Reports
 abbrev pub CountBad : ℕ → Type 0
 CountBad count = (count ≡ 0) ⊎ (mostBatches < count)
 
@@ -116,7 +135,7 @@ OneExtreme t = (q : Listed) × (t ≡ listed q) × OfExtremes q
 abbrev pub NotOneExtreme : List ℕ → Type 0
 NotOneExtreme text = ReadWith text (λ t. ¬ OneExtreme t)
 
--- 18 and 19 are of the steps of a live run, whose page is LiveRuns
+-- 18 and 19 are of the steps of a live run: LiveRuns
 
 -- 20: the summary is not in entries of 32 bytes, or has over 2,048 of them
 abbrev pub SummaryBad : List ℕ → Type 0
@@ -149,57 +168,6 @@ textTable text = 5 upon LengthBad text ∷ 6 upon WithoutReading text ∷ 7 upon
 -- 1 to 7 of a recording that is asked a text
 abbrev pub askingTable : (recording text : List ℕ) → List TableLine
 askingTable recording text = recordingTable recording ++ 4 upon WithoutRecord recording ∷ textTable text
-
--- 1 to 7, 11 and 14 of a laboratory's text
-abbrev pub labAskingTable : (recording marks text : List ℕ) → List TableLine
-labAskingTable recording marks text = askingTable recording text ++ 11 upon MarksOff marks ∷ 14 upon NotLaboratory marks text ∷ []
-
--- 4 to 10, in the question call's order: the lines for an accepted recording
-abbrev pub questionTable : (recording text : List ℕ) (room : ℕ) → List TableLine
-questionTable recording text room =
-    4 upon WithoutRecord recording ∷ textTable text ++ 9 upon TopsOver recording text ∷ 8 upon RunsOver recording text ∷ 10 upon SetLonger recording text room ∷ []
-
--- THE REFUSALS OF EACH CALL, in turn; of an output, the room is its length
-abbrev pub questionRefusals : (recording text : List ℕ) (room : ℕ) → List TableLine
-questionRefusals recording text room = recordingTable recording ++ questionTable recording text room
-
-abbrev pub degreeRefusals : (recording text : List ℕ) (target : ℤ) → List TableLine
-degreeRefusals recording text target = askingTable recording text ++ 12 upon TargetOff target ∷ 9 upon TopsOver recording text ∷ 8 upon RunsOver recording text ∷ []
-
-abbrev pub pairRefusals : (recording : List ℕ) (curve : ℕ) (target : ℤ) → List TableLine
-pairRefusals recording curve target = recordingTable recording ++ 4 upon WithoutRecord recording ∷ 12 upon TargetBad curve target ∷ 9 upon TopsOfCurveOver recording curve ∷ []
-
-abbrev pub thinRefusals : (recording marks : List ℕ) (room : ℕ) → List TableLine
-thinRefusals recording marks room = recordingTable recording ++ 11 upon MarksOff marks ∷ 10 upon (room < length (keptBytes (marksOf marks) recording)) ∷ []
-
-abbrev pub bandRefusals : (recording text : List ℕ) (e : ℤ) → List TableLine
-bandRefusals recording text e = askingTable recording text ++ 16 upon BandBad e ∷ 17 upon NotOneExtreme text ∷ []
-
-abbrev pub orderRefusals : (recording sheet : List ℕ) → List TableLine
-orderRefusals recording sheet = recordingTable recording ++ 4 upon WithoutRecord recording ∷ 13 upon SheetBad sheet ∷ []
-
-abbrev pub labQuestionRefusals : (recording marks text : List ℕ) (room : ℕ) → List TableLine
-labQuestionRefusals recording marks text room =
-    labAskingTable recording marks text ++ 9 upon TopsOver recording text ∷ 8 upon RunsOver recording text ∷ 10 upon SetLonger recording text room ∷ []
-
-abbrev pub labDegreeRefusals : (recording marks text : List ℕ) (target : ℤ) → List TableLine
-labDegreeRefusals recording marks text target =
-    labAskingTable recording marks text ++ 12 upon TargetOff target ∷ 9 upon TopsOver recording text ∷ 8 upon RunsOver recording text ∷ []
-
-abbrev pub labPairRefusals : (recording : List ℕ) (curve : ℕ) (target : ℤ) → List TableLine
-labPairRefusals recording curve target =
-    recordingTable recording ++ 4 upon WithoutRecord recording ∷ 12 upon TargetBad curve target ∷ 14 upon (curve ≡ 1) ∷ 9 upon TopsOfCurveOver recording curve ∷ []
-
--- its 10 is ours: fewer bytes than a report under way takes
-abbrev pub reportStartRefusals : (count : ℕ) (text : List ℕ) (target : ℤ) (room : ℕ) → List TableLine
-reportStartRefusals count text target room = 15 upon CountBad count ∷ textTable text ++ 12 upon TargetOff target ∷ 10 upon (room < reportBytes) ∷ []
-
-abbrev pub entryRefusals : (recording : List ℕ) (room : ℕ) → List TableLine
-entryRefusals recording room = recordingTable recording ++ 4 upon WithoutRecord recording ∷ 10 upon (room < entryBytes) ∷ []
-
-abbrev pub findRefusals : (summary : List ℕ) (curve : ℕ) (level : ℤ) (room : ℕ) → List TableLine
-findRefusals summary curve level room =
-    20 upon SummaryBad summary ∷ 12 upon TargetBad curve level ∷ 10 upon (room < length (listing (curveOf curve) level summary)) ∷ []
 
 -- ---- WHAT IT SAYS
 

@@ -10,9 +10,9 @@ use lib.ListN.{length}
 use borrow.Author.Tests.{eqb-true, eq-eqb, ltb-true, ltb-false, lt-ltb, not-true, not-false}
 use Rattle.number.specs.laws.Boolean.{clash, then, and-left, and-right, so-not}
 use Rattle.number.specs.laws.Least.{least-holds, least-first}
-use Rattle.refusal.specs.Outcome.{Outcome, result, refused, Line, line, judged}
+use Rattle.refusal.specs.Outcome.{Outcome, result, refused, Line, line, judged, NoneMeets}
 use Rattle.recording.specs.Recording.{Raw, records, lawful, firstBad, mostRecords, recordingLines, Accepted}
-use Rattle.promises.specs.Table.{FirstBroken, TableLine, _upon_, recordingTable, Unmet, NoneMet, FirstMet}
+use Rattle.promises.specs.Conditions.{FirstBroken, TableLine, _upon_, recordingTable, Unmet, NoneMet, FirstMet}
 
 -- ---- lines that agree with the table
 
@@ -87,6 +87,20 @@ module _ {R : Type 0} where
 
   pub judged-told : {ls : List Line} {ws : List TableLine} → Agree ls ws → (r : R) → AsTable ws (judged ls r)
   judged-told {ls} {ws} a r = judged-each ls ws r (a .each)
+
+-- where no line of the table is met, none that is computed meets
+none-each : (ls : List Line) (ws : List TableLine) → Each ls ws → NoneMet ws → NoneMeets ls
+none-each [] [] a n = tt
+none-each [] (w ∷ ws) a n = absurd a
+none-each (l ∷ ls) [] a n = absurd a
+none-each (l ∷ ls) (w ∷ ws) a n = go (l .meets) refl (λ e. none-each ls ws (a .1 e) (n .1))
+  where
+    go : (b : Bool) → l .meets ≡ b → (l .meets ≡ false → NoneMeets ls) → NoneMeets (l ∷ ls)
+    go true e rest = absurd (n .0 (l .place) (a .0 .met e))
+    go false e rest = (e, rest e)
+
+pub none-meets : (ls : List Line) (ws : List TableLine) → Agree ls ws → NoneMet ws → NoneMeets ls
+none-meets ls ws a n = none-each ls ws (a .each) n
 
 -- ---- tests by what they decide
 

@@ -1,0 +1,4 @@
+pub mod Calls
+pub mod SameAnswers
+pub mod StandIn
+pub mod Made
