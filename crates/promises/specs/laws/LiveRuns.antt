@@ -27,7 +27,7 @@ use Rattle.live.specs.History.{History, begun, Step, add, save, restore, after,
 use Rattle.live.specs.Call.{StepTold, startOf, startAfter, stepOf, stateAfter, heldOf, Behind}
 use Rattle.live.specs.laws.Step.{start-by}
 use Rattle.live.specs.laws.InHalf.{step-in-half, step-numbered, start-in-half, start-numbered, held-in-half, held-numbered}
-use Rattle.live.specs.laws.Behind.{step-behind}
+use Rattle.live.specs.laws.Behind.{step-behind, short-start-stays}
 use Rattle.refinement.specs.laws.Represents.{Represents, Follows}
 use Rattle.refinement.specs.laws.Run.{kept-concat, kept-sixteen, taken-accepted}
 use Rattle.refinement.specs.laws.State.{the-marks, the-held}
@@ -176,7 +176,7 @@ start-once marks buffer live r w =
     record {
       answer = ap unpacked (w .returned) ∙ unpacked-packed (told (startOf marks buffer)) (start-in-half marks buffer) (start-numbered marks buffer);
       other-refusal-writes-nothing = λ k e. other (marksLine marks .meets) (ltb (length buffer) liveBytes) refl refl k e;
-      short-buffer-stays = λ h. w .state ∙ start-by buffer marks (marksLine marks .meets) true refl (lt-ltb (length buffer) liveBytes h) .1;
+      short-buffer-stays = λ h. w .state ∙ short-start-stays marks buffer h;
     }
   where
     returned-as : (a b : Bool) → marksLine marks .meets ≡ a → ltb (length buffer) liveBytes ≡ b
