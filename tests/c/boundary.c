@@ -347,6 +347,40 @@ static int not_under_way(const uint8_t *recording, size_t length)
     return added(recording, length, (uint64_t)MILL_NO_REPORT << 32, 77, 77, 77, 7.5) && memcmp(before, year, sizeof year) == 0;
 }
 
+/* Whether a naming that is refused leaves so many bytes of the report, from the end, as they were, and clears the others. */
+static int refused_naming_leaves(size_t count)
+{
+    static const uint8_t cleared[sizeof year];
+    uint8_t before[sizeof year];
+    const size_t written = sizeof year - count;
+    memcpy(before, year, sizeof year);
+    return mill_report_start(0, NULL, 0, 0, year, sizeof year) == (uint64_t)MILL_NO_REPORT << 32 && memcmp(year, cleared, written) == 0 &&
+           memcmp(year + written, before + written, count) == 0;
+}
+
+/* A report is held by its head, which names the format and the kept rule, and by all that it says. */
+static void reports_held(void)
+{
+    size_t i;
+    memset(year, 0xA5, sizeof year);
+    EXPECT(refused_naming_leaves(sizeof year));
+    for (i = 0; i < 4; i++) {
+        EXPECT(mill_report_start(3, peaks_text, 8, 70, year, sizeof year) == 0);
+        year[i]++;
+        EXPECT(not_under_way(r1, R1_BYTES) && refused_naming_leaves(sizeof year));
+        year[i]--;
+        EXPECT(added(r1, R1_BYTES, MILL_TAKEN, 77, 77, 77, 7.5));
+    }
+    /* A text that has no reading, or no byte, is none that a naming took: 15 comes before what the recording is refused by. */
+    year[52] = 'b';
+    EXPECT(not_under_way(r1, R1_BYTES) && not_under_way(r1, 17) && refused_naming_leaves(sizeof year));
+    year[52] = 'p';
+    year[48] = 0;
+    EXPECT(not_under_way(r1, 17) && refused_naming_leaves(sizeof year));
+    year[48] = 8;
+    EXPECT(refused_naming_leaves(sizeof year - 4) && not_under_way(r1, R1_BYTES) && refused_naming_leaves(sizeof year));
+}
+
 static void reports(void)
 {
     const uint64_t partial = (uint64_t)MILL_PARTIAL_RECORD << 32;
@@ -784,7 +818,17 @@ static void growing_runs(void)
     EXPECT(REFUSED_STEP(mill_live_entry(live, sizeof live, out, sizeof out), MILL_SHORT_OUTPUT, 0) && out[0] == 0x5A);
     EXPECT(mill_live_restore(live, sizeof live, MILL_MAX_MOMENTS) == 0 && holds(NULL, 0));
     EXPECT(mill_live_kept(live, sizeof live, NULL, 0) == 0);
+    /* Another format or another kept rule is no run, and a start that is refused leaves it; of a run it clears the first four bytes. */
+    for (i = 0; i < 4; i++) {
+        live[i]++;
+        EXPECT(REFUSED_STEP(mill_live_add(live, sizeof live, r2, MILL_RECORD_BYTES), MILL_BAD_MARKS, 0));
+        EXPECT(REFUSED_STEP(mill_live_start(mark, 4, live, sizeof live), MILL_BAD_MARKS, 0));
+        live[i]--;
+    }
+    memcpy(live_before, live, sizeof live);
     EXPECT(mill_live_start(mark, 4, live, sizeof live) == (uint64_t)MILL_BAD_MARKS << 32);
+    EXPECT(live[0] == 0 && live[1] == 0 && live[2] == 0 && live[3] == 0 && memcmp(live + 4, live_before + 4, sizeof live - 4) == 0);
+    EXPECT(REFUSED_STEP(mill_live_start(mark, 4, live, sizeof live), MILL_BAD_MARKS, 0));
     EXPECT(REFUSED_STEP(mill_live_add(live, sizeof live, r2, 15), MILL_BAD_MARKS, 0));
     EXPECT(REFUSED_STEP(mill_live_restore(live, sizeof live, 1), MILL_BAD_MARKS, 0));
     EXPECT(REFUSED_STEP(mill_live_kept(live, sizeof live, out, 0), MILL_BAD_MARKS, 0));
@@ -939,6 +983,7 @@ int main(void)
     laboratories();
     tops_for_a_laboratory();
     reports();
+    reports_held();
     tops_in_a_report();
     refusals();
     nothing_at_all();

@@ -9,7 +9,8 @@ ghost use Rattle.refusal.specs.Outcome.{judged};
 ghost use Rattle.meaning.specs.inner.Coded.{index as indexOf};
 ghost use Rattle.degree.specs.Degree.{away, nowhere, reachedOf};
 ghost use Rattle.report.specs.Report.{namingLines};
-ghost use Rattle.report.specs.inner.Running.{runningOf, withBatch, faulty, Sound, counted, addedTo, additionOf, namedOf, Small, additionTo};
+ghost use Rattle.refusal.specs.Numbers.{numberOf, placeOf};
+ghost use Rattle.report.specs.inner.Running.{runningOf, withBatch, faulty, Sound, none, stopped, counted, additionOf, namedOf, Small, unread, unsound, absent, additionTo, addedWith};
 ghost use Rattle.report.specs.inner.Naming.{naming, targetLines};
 use degree::Reached;
 use mean::Mean;
@@ -181,10 +182,52 @@ fn judge(r: Report) -> Added
     Added::Taken(r)
 }
 
+// Whether 5, 6 or 7 refuses a text.
+fn is_unread(text: &[u8]) -> bool
+    ensures { λ b. ⌜ b ≡ unread (now (text .entry)) ⌝ }
+{
+    let mut table = [0u32; text::TABLE_SIZE];
+    let read = text::read(text, &mut table);
+    match read {
+        text::Answer::Refused(_) => true,
+        text::Answer::Nodes(_) => false,
+    }
+}
+
+// Whether no call leaves the report so, or the target's index.
+fn is_unsound(r: Report, index: u32) -> bool
+    ensures { λ b. ⌜ b ≡ unsound r index ⌝ }
+{
+    if number::AXIS <= index {
+        return true;
+    }
+    is_faulty(r)
+}
+
+// Whether none is under way with this report, text and index of the target.
+pub fn is_absent(r: Report, text: &[u8], index: u32) -> bool
+    ensures { λ b. ⌜ b ≡ absent r (now (text .entry)) index ⌝ }
+{
+    if is_unsound(r, index) {
+        return true;
+    }
+    is_unread(text)
+}
+
+// A recording that is refused stops the report, if its text is one that a naming took. The text was read for every other recording.
+fn stop(text: &[u8], x: Refusal) -> Added
+    ensures { λ s. ⌜ additionOf s ≡ cond (unread (now (text .entry))) none (stopped (numberOf x) (placeOf x)) ⌝ }
+{
+    if is_unread(text) {
+        return Added::Nothing;
+    }
+    Added::Stopped(x)
+}
+
 // A recording whose set is so far from the target.
-fn with_reached(r: Report, reached: Reached) -> Added
+fn with_reached(r: Report, text: &[u8], reached: Reached) -> Added
     requires { ⌜ Sound r × Small (reachedOf reached) ⌝ }
-    ensures { λ s. ⌜ additionOf s ≡ addedTo r (reachedOf reached) ⌝ }
+    ensures { λ s. ⌜ additionOf s ≡ addedWith r (now (text .entry)) (reachedOf reached) ⌝ }
 {
     match reached {
         Reached::Away(d) => {
@@ -195,7 +238,7 @@ fn with_reached(r: Report, reached: Reached) -> Added
             let next = with_empty(r);
             judge(next)
         }
-        Reached::Refused(x) => Added::Stopped(x),
+        Reached::Refused(x) => stop(text, x),
     }
 }
 
@@ -203,12 +246,9 @@ fn with_reached(r: Report, reached: Reached) -> Added
 pub fn add(r: Report, rec: &[u8], text: &[u8], index: u32) -> Added
     ensures { λ s. ⌜ additionOf s ≡ additionTo r (now (rec .entry)) (now (text .entry)) index ⌝ }
 {
-    if number::AXIS <= index {
-        return Added::Nothing;
-    }
-    if is_faulty(r) {
+    if is_unsound(r, index) {
         return Added::Nothing;
     }
     let reached = degree::distance_at(rec, text, index);
-    with_reached(r, reached)
+    with_reached(r, text, reached)
 }

@@ -1,15 +1,17 @@
 -- The report calls at the C boundary: what each returns, and what it leaves in the caller's memory.
 use Prim.Native.Nat.{ℕ}
 use mathlib.Core.Path.{_≡_}
-use mathlib.Core.List.{List}
-use lib.ListN.{length}
+use mathlib.Core.List.{List, _∷_, _++_}
+use lib.ListN.{length, drop}
 use lib.Ieee.{binary64, toBits}
-use Rattle.refusal.specs.Outcome.{Outcome, result, refused, judged}
+use Rattle.refusal.specs.Outcome.{Outcome, result, refused, Line, line, judged}
+use Rattle.recording.specs.Recording.{recordingLines, noRecord}
 use Rattle.meaning.specs.inner.Coded.{index}
+use Rattle.question.specs.Question.{read, setLines}
 use Rattle.reply.specs.Reply.{packed}
-use Rattle.report.specs.Report.{MeanDegree, noMean, meanDegree, Naming, namingLines, named, Answer, taken, given}
+use Rattle.report.specs.Report.{MeanDegree, noMean, meanDegree, Naming, reportBytes, namingLines, named, Answer, taken, given}
 use Rattle.report.specs.inner.Running.{answerIn}
-use Rattle.report_state.specs.State.{namingAfter, additionIn, addAfter}
+use Rattle.report_state.specs.State.{reportText, noReport, namingAfter, additionIn, addAfter}
 
 -- 1 where there is a mean, else 2
 abbrev pub meanTold : MeanDegree → ℕ
@@ -64,7 +66,16 @@ pub record Starts (n : Naming) (old : List ℕ) (r : ℕ) (new : List ℕ) : Typ
   pub returned : r ≡ packed (answerTold (named (length old) n))
   pub state : new ≡ namingAfter n (namedIndex n (length old)) old
 
+-- REFUSALS of a recording that is handed in with any bytes: 15 where they hold no report, then 1 to 4, 9 and 8
+abbrev pub handedLines : (report recording : List ℕ) → List Line
+handedLines report recording = line 15 (noReport report) ∷ (recordingLines recording ++ (noRecord recording ∷ setLines recording (read (reportText report))))
+
 -- THE ADD CALL, of any bytes that are handed in as the report
 pub record Adds (report recording : List ℕ) (met empty distances mean r : ℕ) (after : List ℕ) (first second third fourth : ℕ) : Type 0 where
   pub told : ReportTold (answerIn (additionIn report recording)) met empty distances mean r first second third fourth
   pub state : after ≡ addAfter (additionIn report recording) report
+
+-- as long as before, and the same behind the bytes of a report
+pub record Behind (old new : List ℕ) : Type 0 where
+  pub same-length : length new ≡ length old
+  pub same : drop reportBytes new ≡ drop reportBytes old

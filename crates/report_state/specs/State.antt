@@ -8,16 +8,22 @@ use lib.ListN.{length, take, drop}
 use lib.Ieee.{binary64, toBits, ofBits, nanBits}
 use Rattle.number.specs.Words.{word, wordBytes, wordsBytes}
 use Rattle.refusal.specs.Outcome.{Outcome, result, refused}
+use Rattle.kept.specs.Kept.{keptRule}
 use Rattle.grammar.specs.Size.{mostBytes}
+use Rattle.degree.specs.inner.Reach.{reachAt}
 use Rattle.report.specs.Report.{Naming, reportBytes}
-use Rattle.report.specs.inner.Running.{Addition, none, stopped, further, last, additionTo, runningOf}
+use Rattle.report.specs.inner.Running.{Addition, none, stopped, further, last, addedTo, absent, runningOf}
 use Rattle.report.specs.declared.Report.{Report}
 
 -- ---- the layout: words of 32 bits, then the text
 
--- the head of every report under way: the bytes "rept"
+-- the format of a report under way, which goes up with each change of the layout; 1 was that of version 1.0, whose bytes name neither format nor rule
+abbrev pub reportFormat : ℕ
+reportFormat = 2
+
+-- the head of every report under way: "MR", the format, and the kept rule. Bytes that begin otherwise, as those of another format or rule do, are no report
 abbrev pub reportSignature : ℕ
-reportSignature = 1953523058
+reportSignature = 77 + 256 * 82 + 65536 * reportFormat + 16777216 * keptRule
 
 -- a number of 64 bits as two words, the lower first
 abbrev pub low : ℕ → ℕ
@@ -61,9 +67,14 @@ abbrev pub stateless : List ℕ → Bool
 stateless b =
     ltb (length b) reportBytes || (not (eqb (word b 0) reportSignature) || (ltb mostBytes (sizeIn b) || (nanBits binary64 (long b 28) || nanBits binary64 (long b 36))))
 
+-- THE BYTES HOLD NO REPORT: plainly no state, or with figures that no batches lead to, a target off the axis, or a text that 5, 6 or 7 refuses. So do those of a report that
+-- was given or stopped, whose head is cleared. All others hold one
+unfoldable pub noReport : List ℕ → Bool
+noReport b = stateless b || absent (reportIn b) (reportText b) (indexIn b)
+
 -- ---- what a call leaves there; where nothing is said of a byte, it stays
 
--- no report is under way: the head is cleared
+-- no report is under way any more: the head is cleared
 abbrev pub closedBytes : List ℕ → List ℕ
 closedBytes b = wordBytes 0 ++ drop 4 b
 
@@ -72,14 +83,18 @@ abbrev pub namedBytes : ℕ → List ℕ → ℕ → List ℕ → List ℕ
 namedBytes n text v b =
     wordsBytes (figureWords (runningOf n [])) ++ wordBytes v ++ wordBytes (length text) ++ text ++ drop (52 + length text) b
 
--- A NAMING. Refused, it ends what the bytes held, where they are long enough to hold a report
+-- the report that the bytes hold is ended; where they hold none, they stay
+abbrev pub endedBytes : List ℕ → List ℕ
+endedBytes b = cond (noReport b) b (closedBytes b)
+
+-- A NAMING. Refused, it ends the report that the bytes held
 abbrev pub namingAfter : Naming → Outcome ℕ → List ℕ → List ℕ
 namingAfter n (result v) b = namedBytes (n .count) (n .text) v b
-namingAfter n (refused k p) b = cond (ltb (length b) reportBytes) b (closedBytes b)
+namingAfter n (refused k p) b = endedBytes b
 
--- A RECORDING handed in with these bytes
+-- A RECORDING handed in with these bytes: none is under way where they hold no report
 abbrev pub additionIn : List ℕ → List ℕ → Addition
-additionIn b recording = cond (stateless b) none (additionTo (reportIn b) recording (reportText b) (indexIn b))
+additionIn b recording = cond (noReport b) none (addedTo (reportIn b) (reachAt recording (reportText b) (indexIn b)))
 
 -- a report that is refused or given is closed; 15 leaves every byte
 abbrev pub addAfter : Addition → List ℕ → List ℕ

@@ -5,4 +5,5 @@ pub mod Start
 pub mod Add
 pub mod Carried
 pub mod Calls
+pub mod Behind
 pub mod Exchanged

@@ -9,16 +9,19 @@ ghost use Rattle.number.specs.Words.{wordsBytes};
 ghost use Rattle.mean.specs.inner.Running.{Numbers};
 ghost use Rattle.report.specs.inner.Naming.{naming};
 ghost use Rattle.report.specs.inner.Running.{additionOf, answerIn, last};
-ghost use Rattle.report_state.specs.State.{low, high, long, figureWords, reportIn, stateless, closedBytes, namedBytes, additionIn, addAfter};
+ghost use Rattle.report_state.specs.State.{low, high, long, figureWords, reportIn, reportText, stateless, noReport, closedBytes, endedBytes, namedBytes, additionIn, addAfter};
 ghost use Rattle.report_state.specs.Call.{ReportTold, Starts, Adds};
-ghost use Rattle.report_state.specs.inner.Kept.{Held, Writable, Tellable, endedBytes};
+ghost use Rattle.report_state.specs.inner.Kept.{Held, Writable, Tellable};
 use mean::Mean;
 use refusal::Refusal;
 use report::Added;
 use report::Report;
 
-// The head of every report under way.
-const SIGNATURE: u32 = 1_953_523_058;
+// The format of a report under way. It goes up with each change of the layout.
+const FORMAT: u32 = 2;
+
+// The head of every report under way: "MR", the format, and the kept rule. Bytes with another hold no report.
+const SIGNATURE: u32 = 77 + 256 * 82 + 65_536 * FORMAT + 16_777_216 * kept::RULE;
 
 // How many words stand before the target.
 const WORDS: usize = 11;
@@ -116,6 +119,29 @@ fn is_stateless(buffer: &[u8]) -> bool
     is_nan(long_at(buffer, 36))
 }
 
+// The text that stands in the bytes.
+fn text_in(buffer: &[u8]) -> &[u8]
+    requires { ⌜ Held (now buffer) ⌝ }
+    ensures { λ r. ⌜ now r ≡ reportText (now (buffer .entry)) ⌝ }
+{
+    let size = number::word_at(buffer, SIZE);
+    let from = TEXT;
+    let end = TEXT + (size as usize);
+    &buffer[from..end]
+}
+
+// Whether the bytes hold no report.
+fn is_none(buffer: &[u8]) -> bool
+    ensures { λ r. ⌜ r ≡ noReport (now (buffer .entry)) ⌝ }
+{
+    if is_stateless(buffer) {
+        return true;
+    }
+    let r = report_in(buffer);
+    let text = text_in(buffer);
+    report::is_absent(r, text, number::word_at(buffer, INDEX))
+}
+
 // A recording handed in with these bytes.
 fn added(buffer: &[u8], rec: &[u8]) -> Added
     ensures { λ r. ⌜ additionOf r ≡ additionIn (now (buffer .entry)) (now (rec .entry)) ⌝ }
@@ -124,11 +150,8 @@ fn added(buffer: &[u8], rec: &[u8]) -> Added
         return Added::Nothing;
     }
     let r = report_in(buffer);
-    let index = number::word_at(buffer, INDEX);
-    let size = number::word_at(buffer, SIZE);
-    let from = TEXT;
-    let end = TEXT + (size as usize);
-    report::add(r, rec, &buffer[from..end], index)
+    let text = text_in(buffer);
+    report::add(r, rec, text, number::word_at(buffer, INDEX))
 }
 
 // The lower word of a number.
@@ -270,11 +293,11 @@ fn begin(buffer: &mut [u8], count: u32, text: &[u8], index: u32)
     put_text(buffer, text);
 }
 
-// Ends what the bytes held, where they are long enough to hold a report.
+// The report that the bytes hold is ended. Where they hold none, they stay.
 fn end(buffer: &mut [u8])
     ensures { λ r. ⌜ now (buffer .exit) ≡ endedBytes (now (buffer .entry)) ⌝ }
 {
-    if buffer.len() < report::REPORT_BYTES {
+    if is_none(buffer) {
         return;
     }
     close(buffer);

@@ -107,7 +107,7 @@ impl Report {
         }
     }
 
-    /// The bytes, to keep until the next recording is there.
+    /// The bytes, to keep until the next recording is there. They name their format and the kept rule: a library of another refuses them by 15.
     ///
     /// ```
     /// assert_eq!(mill::Report::start(1, b"lag", 40)?.as_bytes().len(), 320);

@@ -14,6 +14,7 @@ use mill::{Entry, Live, Refusal};
 use reference::kept::mark_bytes;
 use reference::live::{self, MOST_HELD};
 use reference::recording::{bytes, in_rules, Record, FALLING, MOST_TIME, RISING};
+use reference::stored::{self, Step, LIVE_HEAD};
 use reference::Refused;
 
 /// A run as a caller holds it: the carried bytes, and the history that they stand for; none where every step is refused 11.
@@ -21,14 +22,6 @@ use reference::Refused;
 pub struct Held {
     pub bytes: Vec<u8>,
     pub live: Option<live::Live>,
-}
-
-/// A step after the start.
-#[derive(Clone, Debug)]
-enum Step {
-    Add(Vec<u8>),
-    Save(u32),
-    Restore(u32),
 }
 
 impl Held {
@@ -44,7 +37,7 @@ impl Held {
         held
     }
 
-    /// Begins a run and compares; the outcome's number. Marks that 11 refuses end what was held, where there is room for it.
+    /// Begins a run and compares, with every byte after it; the outcome's number. Marks that 11 refuses end the run that was held.
     #[track_caller]
     pub fn start(&mut self, marks: &[u8]) -> u32 {
         count();
@@ -65,14 +58,13 @@ impl Held {
         same_numbers((expected_return, Some([])), returned, &[], 0, || {
             format!("mill_live_start, {length} bytes, of {}", hex(marks))
         });
-        self.stays_behind(&before);
-        assert!(room || self.bytes == before, "too short a buffer was written");
+        self.left_as(&stored::started(&before, marks), &expected, &before);
         let number = number_of(&expected);
         self.live = expected.ok();
         number
     }
 
-    /// A step, compared; the outcome's number. A refused one leaves every byte.
+    /// A step, compared, with every byte after it; the outcome's number. A refused one leaves every byte.
     #[track_caller]
     fn step(&mut self, step: &Step) -> u32 {
         count();
@@ -86,8 +78,7 @@ impl Held {
         let returned = made(&mut self.bytes, step);
         let expected_return = expected.as_ref().map_or_else(|refused| refused.returned(), |_| 0);
         same_numbers((expected_return, Some([])), returned, &[], 0, || format!("{step:?} of {}", hex(&before)));
-        self.stays_behind(&before);
-        assert!(expected.is_ok() || self.bytes == before, "a refused step changed the bytes: {step:?}");
+        self.left_as(&stored::stepped(&before, step), &expected, &before);
         number_of(&expected)
     }
 
@@ -143,11 +134,11 @@ impl Held {
         self.live.as_ref().map_or(&[], |live| live.run())
     }
 
-    /// What lies behind the run's own bytes stays.
+    /// The call's answer, and every byte after it, are those that the bytes before it fix.
     #[track_caller]
-    fn stays_behind(&self, before: &[u8]) {
-        let own = MILL_LIVE_BYTES.min(before.len());
-        assert!(self.bytes[own..] == before[own..], "bytes behind the run were touched");
+    fn left_as<A>(&self, fixed: &stored::Left<()>, answer: &Result<A, Refused>, before: &[u8]) {
+        assert_eq!(fixed.0.err(), answer.as_ref().err().copied(), "the bytes fix another answer: {}", hex(before));
+        assert!(self.bytes == fixed.1, "the bytes {} after a call of {}", hex(&self.bytes), hex(before));
     }
 }
 
@@ -424,9 +415,9 @@ fn moments_by_hand() {
     assert_eq!(run.kept_into(&mut [0; 15]), Err(Refusal::ShortOutput));
     // A run is its bytes.
     let copy = Live::from_bytes(run.as_bytes());
-    assert_eq!((copy.kept(), copy == run), (run.kept(), true));
-    assert_eq!(Live::start(&[0; 9]), Err(Refusal::BadMarks));
-    assert_eq!(Live::start(&[2_000_000_001]), Err(Refusal::BadMarks));
+    assert_eq!((copy.kept(), copy.as_bytes()), (run.kept(), run.as_bytes()));
+    assert_eq!(Live::start(&[0; 9]).err(), Some(Refusal::BadMarks));
+    assert_eq!(Live::start(&[2_000_000_001]).err(), Some(Refusal::BadMarks));
     assert_eq!(Live::from_bytes(&[]).kept(), Err(Refusal::BadMarks));
 }
 
@@ -527,7 +518,7 @@ fn every_length_of_the_buffer() {
 /// every byte, a read-out writes what it says, and the same bytes give the same.
 #[test]
 fn garbage_in_the_buffer() {
-    let mut tally = Tally::default();
+    let (mut tally, mut starts, odd) = (Tally::default(), [0, 0], [0; 3]);
     cases("garbage in the buffer of a run", 700, |random| {
         for filler in [0, 255] {
             let mut held = Held::unused(MILL_LIVE_BYTES + random.below(3));
@@ -562,7 +553,14 @@ fn garbage_in_the_buffer() {
             tally.add(number);
             assert!(returned == 0 || number > 0, "{returned}");
             assert!([0, 1, 2, 3, 11, 18, 19].contains(&number), "{number}");
-            assert!(number == 0 || held.bytes == before, "a refused step changed the bytes: {step:?}");
+            let (expected, after) = stored::stepped(&before, &step);
+            assert_eq!(returned, expected.map_or_else(|refused| refused.returned(), |()| 0), "{step:?} of {}", hex(&before));
+            assert!(held.bytes == after, "the bytes after {step:?}");
+            // Refused, a start ends the run that the bytes hold, and leaves those that hold none.
+            let mut ended = Held { bytes: after, live: None };
+            starts[usize::from(stored::run_held(&ended.bytes).is_some())] += 1;
+            assert_eq!(ended.start(&odd), 11);
+            assert_eq!(ended.kept(0), 11);
             let room = random.pick(&[0, 100, 2048, 4096]);
             let found = read(&held.bytes, room, sys::mill_live_kept);
             assert_eq!(found, read(&held.bytes, room, sys::mill_live_kept));
@@ -581,6 +579,24 @@ fn garbage_in_the_buffer() {
         assert_eq!((held.kept(96), held.restore(1)), (0, 18));
     });
     tally.saw(&[0, 11], 300);
+    assert!(one_alone() || starts[0] > 300 && starts[1] > 300, "{starts:?}");
+}
+
+/// Stored runs of another format or another kept rule are none: 11, and a start that 11 refuses leaves them.
+#[test]
+fn stored_formats() {
+    begin("stored formats of a run", 0);
+    let mut held = Held::begun(&[40]);
+    held.add_all(&r2_bytes());
+    assert_eq!(held.bytes[..4], LIVE_HEAD);
+    for head in [[b'M', b'L', 3, 4], [b'M', b'L', 2, 5], [b'M', b'L', 1, 4], [b'M', b'L', 2, 3], [b'M', b'R', 2, 4], *b"live"] {
+        let mut other = Held { bytes: [&head[..], &held.bytes[4..]].concat(), live: None };
+        assert_eq!((other.add(&r2_bytes()[..16]), other.save(1), other.restore(1)), (11, 11, 11));
+        assert_eq!((other.kept(MILL_HELD_BYTES), other.entry(MILL_ENTRY_BYTES)), (11, 11));
+        assert_eq!(other.start(&[0; 3]), 11);
+        assert_eq!(other.bytes[..4], head);
+        assert_eq!(other.start(&[]), 0);
+    }
 }
 
 /// A copy of the bytes, at another place, goes on as the original.

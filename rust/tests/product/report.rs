@@ -1,6 +1,7 @@
 //! Covers: reports over batches: lists of namings and recordings of any bytes, refused ones and recordings after the last among them,
-//! against a plain fold; 1,000 batches, bit for bit, and how near the mean is to the exact one; what the carried bytes are after each call;
-//! buffers that are too short or longer, garbage in them, copies of them; 256 and 257 tops; kept readings as full ones.
+//! against a plain fold; 1,000 batches, bit for bit, and how near the mean is to the exact one; what the carried bytes are after each call,
+//! whatever they were before: buffers that are too short or longer, garbage in them, other formats, copies; 256 and 257 tops; kept readings
+//! as full ones.
 
 use crate::calls::{at_the_desk, count, hex, number_of, same_numbers, shown, Tally};
 use crate::support::cases::{begin, cases, one_alone};
@@ -14,6 +15,7 @@ use mill::{Figures, Refusal};
 use reference::recording::{bytes, Record};
 use reference::report::{self, Added, MOST_BATCHES};
 use reference::set::{HIGH, LOW};
+use reference::stored::{self, REPORT_HEAD};
 
 /// A report as a caller holds it: the carried bytes, and by the plain fold what they stand for; none where no report is under way.
 #[derive(Clone)]
@@ -28,7 +30,7 @@ impl Held {
         Held { bytes: vec![0; length], report: None }
     }
 
-    /// Names a report and compares; the outcome's number. A naming that is refused ends what was held, where there is room for it.
+    /// Names a report and compares, with every byte after it; the outcome's number. A naming that is refused ends the report that was held.
     #[track_caller]
     pub fn start(&mut self, named: u32, text: &[u8], target: i64) -> u32 {
         count();
@@ -49,8 +51,9 @@ impl Held {
         let expected_return = expected.as_ref().map_or_else(|refused| refused.returned(), |_| 0);
         let call = || format!("mill_report_start of {named}, target {target}, {} bytes\n{}", before.len(), shown(text));
         same_numbers((expected_return, Some([])), returned, &[], 0, call);
-        self.stays_behind(&before);
-        assert!(room || self.bytes == before, "too short a buffer was written; {}", call());
+        self.left_as((expected.as_ref().map(|_| ()).map_err(|refused| *refused), before.clone()), |bytes| {
+            stored::named(bytes, named, text, target)
+        });
         let number = number_of(&expected);
         self.report = expected.ok();
         number
@@ -78,17 +81,21 @@ impl Held {
         });
         let call = || format!("mill_report_add to {}\n{}", hex(&before), hex(recording));
         same_numbers((expected_return, numbers_expected), returned, &numbers, filler, call);
-        self.stays_behind(&before);
         let number = number_of(&expected);
-        assert!(number != 15 || self.bytes == before, "a 15 changed the bytes; {}", call());
+        self.left_as((expected, before), |bytes| stored::handed_in(bytes, recording));
         number
     }
 
-    /// What lies behind the report's own bytes stays.
+    /// The call's answer, and every byte after it, are those that the bytes before it fix.
     #[track_caller]
-    fn stays_behind(&self, before: &[u8]) {
-        let own = MILL_REPORT_BYTES.min(before.len());
-        assert_eq!(self.bytes[own..], before[own..], "bytes behind the report were touched");
+    fn left_as<A: PartialEq + std::fmt::Debug>(
+        &self,
+        (answer, before): stored::Left<A>,
+        fixed: impl Fn(&[u8]) -> stored::Left<A>,
+    ) {
+        let (expected, after) = fixed(&before);
+        assert_eq!(answer, expected, "the bytes fix another answer: {}", hex(&before));
+        assert_eq!(hex(&self.bytes), hex(&after), "the bytes after a call of {}", hex(&before));
     }
 }
 
@@ -359,11 +366,14 @@ fn a_new_naming_ends_the_old_report() {
     }
 }
 
-/// Bytes that no call left: all zero and all 255 are no report. Of any others a call answers by a number of the table, writes its
-/// numbers or not as it says, leaves the bytes where it says 15, and does the same with the same bytes.
+/// The numbers by which `mill_report_add` refuses, whatever the bytes.
+const OF_ADDING: [u32; 7] = [15, 1, 2, 3, 4, 9, 8];
+
+/// Bytes that no call left: all zero and all 255 are no report. Of any others a call answers by a number of its list, writes its
+/// numbers or not as it says, and leaves what the bytes before it fix: a refusal changes nothing where they hold no report.
 #[test]
 fn garbage_in_the_buffer() {
-    let mut tally = Tally::default();
+    let (mut tally, mut namings, mut unread) = (Tally::default(), [0, 0], 0);
     cases("garbage in the buffer", 6_000, |random| {
         for filler in [0, 255] {
             let mut held = Held::unused(MILL_REPORT_BYTES + random.below(3));
@@ -384,6 +394,14 @@ fn garbage_in_the_buffer() {
                 held.bytes[at] = random.pick(&[0, 1, 2, 127, 128, 255, any]);
             }
         }
+        // Refused, a naming ends the report that the bytes hold, and leaves those that hold none.
+        let mut ended = Held { bytes: held.bytes.clone(), report: None };
+        let holds = stored::report_in(&held.bytes).is_some();
+        namings[usize::from(holds)] += 1;
+        unread += u32::from(!holds && held.bytes[..4] == REPORT_HEAD);
+        assert_eq!(ended.start(random.pick(&[0, 1_001]), b"lag", 0), 15);
+        assert_eq!(ended.bytes == held.bytes, !holds);
+        assert_eq!(ended.add(&r1_bytes()), 15);
         let recording = batch(random);
         let (mut first, mut second) = (held.bytes.clone(), held.bytes.clone());
         let (returned, numbers, filler) = add(&mut first, &recording);
@@ -391,8 +409,14 @@ fn garbage_in_the_buffer() {
         let number = sys::mill_number(returned);
         tally.add(number);
         assert_eq!((returned, &first), (again, &second), "the same bytes, the same outcome");
-        assert!(number == 0 && returned <= 2 || [1, 2, 3, 4, 5, 6, 7, 8, 9, 12, 15].contains(&number), "{returned:x}");
-        assert!(number != 15 || first == held.bytes, "a 15 changed the bytes");
+        assert!(number == 0 && returned <= 2 || OF_ADDING.contains(&number), "{returned:x}");
+        let (expected, after) = stored::handed_in(&held.bytes, &recording);
+        assert_eq!((number, &first), (number_of(&expected), &after), "{}", hex(&held.bytes));
+        if let (Ok(Added::Report(expected)), 1..) = (expected, returned) {
+            let found = figures(&(returned, numbers.clone(), filler));
+            assert_eq!((found.met, found.empty, found.distances), (expected.met, expected.empty, expected.distances));
+            assert_eq!(found.mean.map(f64::to_bits), expected.mean.map(f64::to_bits));
+        }
         let written = if number == 0 { [0, 4, 3][returned as usize] } else { 0 };
         for which in 0..4 {
             let untouched = |numbers: &[Vec<u8>; 4], filler: u8| numbers[which].iter().all(|byte| *byte == filler);
@@ -407,6 +431,37 @@ fn garbage_in_the_buffer() {
         assert_eq!(held.add(&r1_bytes()), 0);
     });
     tally.saw(&[15], 500);
+    assert!(
+        one_alone() || namings[0] > 500 && namings[1] > 500 && unread > 500,
+        "{namings:?}, {unread} with the head of a report"
+    );
+}
+
+/// Stored reports that hold a text without a reading, and those of another format or another kept rule, are none: 15 before all else.
+#[test]
+fn stored_texts_and_formats() {
+    begin("stored texts and formats", 0);
+    let mut held = Held::unused(MILL_REPORT_BYTES);
+    assert_eq!(held.start(2, b"peaks(A)", 30), 0);
+    assert_eq!(held.bytes[..4], REPORT_HEAD);
+    let none = |bytes: Vec<u8>| {
+        let mut other = Held { bytes, report: None };
+        assert_eq!(other.add(&r1_bytes()), 15);
+        assert_eq!(other.add(&[0; 17]), 15);
+        assert_eq!(other.start(0, b"", 0), 15);
+    };
+    // A length of the text of 0, and over 256; a text without a reading; one with 17 brackets open.
+    let with = |at: usize, part: &[u8]| [&held.bytes[..at], part, &held.bytes[at + part.len()..]].concat();
+    none(with(48, &[0]));
+    none(with(48, &[1, 1]));
+    none(with(52, b"beaks"));
+    let deep = [&[b'('; 17][..], b"A>=v", &[b')'; 17]].concat();
+    none(with(48, &[&[deep.len() as u8, 0, 0, 0][..], &deep].concat()));
+    // One more format, one more rule, and the head of version 1.0.
+    for head in [[b'M', b'R', 3, 4], [b'M', b'R', 2, 5], [b'M', b'R', 1, 4], [b'M', b'R', 2, 3], [b'M', b'L', 2, 4], *b"rept"] {
+        none(with(0, &head));
+    }
+    assert_eq!(held.add(&r1_bytes()), 0);
 }
 
 /// A copy of the bytes, at another place, goes on as the original.

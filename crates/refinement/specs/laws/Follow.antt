@@ -130,8 +130,7 @@ start-followed marks s w = by (marksLine marks .meets) (ltb (length s) liveBytes
     by : (a b : Bool) → marksLine marks .meets ≡ a → ltb (length s) liveBytes ≡ b → Follows (begun marks) (startAfter marks s)
     by false false ea eb =
         subst (Follows (begun marks)) (sym (start-by s marks false false ea eb .1)) (inl (started-represents marks s (ea, tt) (ltb-false (length s) liveBytes eb)))
-    by true false ea eb = subst (Follows (begun marks)) (sym (start-by s marks true false ea eb .1)) (inr (ea, ended-none s (ltb-false (length s) liveBytes eb)))
-    by true true ea eb = subst (Follows (begun marks)) (sym (start-by s marks true true ea eb .1)) (inr (ea, short-none s eb))
+    by true b ea eb = subst (Follows (begun marks)) (sym (start-by s marks true b ea eb .1)) (inr (ea, ended-none s))
     by false true ea eb =
         ⊎-elim (λ l. absurd (let z = ltb-true (length s) liveBytes eb in omega arith)) (λ c. absurd (clash c ea)) w
 

@@ -3,7 +3,7 @@ use Prim.Native.Nat.{ℕ, zero, suc, _+_, _≤_}
 use native.Mathlib.Omega.{arith}
 use native.Mathlib.Nat.{not-suc-le-zero}
 use mathlib.Core.Path.{_≡_, refl, sym, ap, _∙_, subst}
-use mathlib.Core.Bool.{true, false}
+use mathlib.Core.Bool.{Bool, true, false}
 use mathlib.Core.Logic.{inl, ⊎-elim}
 use mathlib.Core.List.{List, _++_}
 use lib.ListN.{length}
@@ -15,7 +15,7 @@ use Rattle.copying.specs.Put.{put}
 use Rattle.copying.specs.laws.Put.{length-put, put-put, word-part}
 use Rattle.live_state.specs.Limits.{mostMoments}
 use Rattle.live_state.specs.State.{signature, liveBytes, runAt, headOf, noRun, noState, runStands, badMarksIn, cleared, started, ended}
-use Rattle.live_state.specs.laws.State.{fine-length, no-state-by}
+use Rattle.live_state.specs.laws.State.{fine-length, no-state-by, is-state, ended-by}
 use Rattle.live.specs.History.{begun}
 use Rattle.refinement.specs.laws.Represents.{Has, Represents}
 use Rattle.refinement.specs.laws.Parts.{has-put, has-apart}
@@ -78,11 +78,17 @@ started-represents marks s fine l =
       taken-at = λ k. tt;
     }
 
--- no state
-pub ended-none : (s : List ℕ) → liveBytes ≤ length s → noState (ended s) ≡ true
-unfolding ended
-ended-none s l =
+cleared-none : (s : List ℕ) → liveBytes ≤ length s → noState (put 0 (wordBytes 0) s) ≡ true
+cleared-none s l =
     let t : List ℕ = put 0 (wordBytes 0) s in
     let n = length-put 0 (wordBytes 0) s (omega arith) in
     let w : word t 0 ≡ 0 = sym (word-part 0 4 t 0 (omega arith)) ∙ ap (λ (b : List ℕ). word b 0) (has-put 0 (wordBytes 0) s (omega arith)) in
     no-state-by t false false (badMarksIn t) (runStands t 0) (le-ltb (length t) liveBytes (omega arith)) (ne-eqb (word t 0) signature (λ e. omega arith)) refl refl
+
+-- no run, whatever the bytes held
+pub ended-none : (s : List ℕ) → noState (ended s) ≡ true
+ended-none s = by (noState s) refl
+  where
+    by : (b : Bool) → noState s ≡ b → noState (ended s) ≡ true
+    by true e = ap noState (ended-by s true e) ∙ e
+    by false e = ap noState (ended-by s false e) ∙ cleared-none s (is-state s e .long)

@@ -2,13 +2,14 @@
 use Prim.Native.Nat.{ℕ, _+_, _-_, _*_, _≤_, _<_}
 use mathlib.Core.Path.{_≡_}
 use mathlib.Core.Bool.{Bool, false, cond, _||_}
-use mathlib.Core.List.{List}
+use mathlib.Core.List.{List, [], _∷_}
 use lib.Dec.{eqb, ltb, leb}
 use lib.ListN.{length}
 use lib.Ieee.{isNan}
 use Rattle.number.specs.Axis.{axis}
-use Rattle.refusal.specs.Outcome.{Outcome, result, refused}
+use Rattle.refusal.specs.Outcome.{Outcome, result, refused, Line}
 use Rattle.refusal.specs.Numbers.{numberOf, placeOf}
+use Rattle.text.specs.Told.{textLines}
 use Rattle.binary64.specs.Degree.{degreeOf}
 use Rattle.degree.specs.Degree.{Reach, away, nowhere}
 use Rattle.degree.specs.inner.Reach.{reachAt}
@@ -93,6 +94,30 @@ Small (result (away d)) = d < axis
 Small (result nowhere) = Unit {0}
 Small (refused n p) = Unit {0}
 
--- THE NEXT RECORDING, with the text put to it and the target at index v; of a report that no call leaves, or a target off the axis, there is none under way
+-- ---- a report that is under way
+
+-- some line meets
+abbrev pub someMeets : List Line → Bool
+someMeets [] = false
+someMeets (l ∷ ls) = l .meets || someMeets ls
+
+-- 5, 6 or 7 refuses the text, so that no naming took it
+unfoldable pub unread : List ℕ → Bool
+unread text = someMeets (textLines text)
+
+-- the target is off the axis, or no batches lead to the report, or it is whole
+abbrev pub unsound : Report → ℕ → Bool
+unsound r v = leb axis v || faulty r
+
+-- NONE IS UNDER WAY with this report, text, and target at index v, for no call leaves them so
+abbrev pub absent : Report → List ℕ → ℕ → Bool
+absent r text v = unsound r v || unread text
+
+-- THE NEXT RECORDING, with the text put to it and the target at index v
 unfoldable pub additionTo : Report → List ℕ → List ℕ → ℕ → Addition
-additionTo r recording text v = cond (leb axis v || faulty r) none (addedTo r (reachAt recording text v))
+additionTo r recording text v = cond (absent r text v) none (addedTo r (reachAt recording text v))
+
+-- the same of a sound report, where the text is judged by itself only once a recording is refused
+abbrev pub addedWith : Report → List ℕ → Outcome Reach → Addition
+addedWith r text (result x) = counted (withBatch r x)
+addedWith r text (refused n p) = cond (unread text) none (stopped n p)

@@ -23,6 +23,8 @@ use Rattle.degree.specs.Degree.{targetLine}
 use Rattle.meaning.specs.laws.Whole.{index-whole}
 use Rattle.report.specs.Report.{mostBatches, reportBytes, badCount, namingLines}
 use Rattle.report.specs.inner.Naming.{naming, targetLines}
+use Rattle.report.specs.inner.Running.{unread}
+use Rattle.report.specs.laws.Running.{some-none, some-refused}
 
 -- ---- the target
 
@@ -60,3 +62,13 @@ module _ (n : ℕ) (text : List ℕ) (g : ℤ) (room : ℕ) where
   text-good h table a t k e o q =
       let passed : NoneMeets (textLines text) = result-none (textLines text) (nodesOf (parsed text)) k (sym (t .outcome) ∙ ap outcomeOf e) .0 in
       q ∙ sym (judged-skip [] (line 15 (badCount n)) rest (index g) h ∙ judged-pass (textLines text) (targetLines g room) (index g) passed)
+
+-- ---- a text by itself
+
+pub unread-refused : (text table : List ℕ) (a : Answer) → Told text table a → (x : Refusal) → a ≡ read.Refused x → true ≡ unread text
+unfolding unread
+unread-refused text table a t x e = sym (some-refused (textLines text) (nodesOf (parsed text)) (numberOf x) (placeOf x) (sym (t .outcome) ∙ ap outcomeOf e))
+
+pub unread-read : (text table : List ℕ) (a : Answer) → Told text table a → (k : ℕ) → a ≡ read.Nodes k → false ≡ unread text
+unfolding unread
+unread-read text table a t k e = sym (some-none (textLines text) (result-none (textLines text) (nodesOf (parsed text)) k (sym (t .outcome) ∙ ap outcomeOf e) .0))

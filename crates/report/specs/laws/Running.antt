@@ -10,15 +10,18 @@ use lib.Ieee.{Float, nan, inf, fin, ne, isNan}
 use lib.Ieee.Compare.{differs-from-itself, nan-differs}
 use borrow.Author.Tests.{eq-eqb, ne-eqb, ltb-false, leb-false, lt-ltb, le-ltb, lt-leb, le-leb}
 use Rattle.number.specs.laws.Boolean.{none-left, none-right, or-none, or-left, or-right, clash, or-pass}
-use Rattle.number.specs.Axis.{axis}
-use Rattle.refusal.specs.Outcome.{Outcome, result, refused}
+use Rattle.refusal.specs.Outcome.{Outcome, result, refused, Line, judged, NoneMeets}
+use Rattle.recording.specs.Recording.{recordingLines, noRecord}
+use Rattle.recording.specs.laws.Outcome.{no-result, result-none, none-append}
+use Rattle.text.specs.Told.{textLines}
+use Rattle.question.specs.Question.{read, answer, askingLines, setLines}
 use Rattle.binary64.specs.Degree.{degreeOf}
-use Rattle.degree.specs.Degree.{Reach, away, nowhere}
+use Rattle.degree.specs.Degree.{Reach, away, nowhere, reachIn}
 use Rattle.mean.specs.inner.Running.{start, next, runFrom, running}
 use Rattle.mean.specs.laws.Running.{running-is}
 use Rattle.mean.specs.declared.Mean.{Mean}
 use Rattle.report.specs.Report.{MeanDegree, noMean, meanDegree, Figures, metIn, emptyIn, distancesIn, sumIn, meanIn, figuresOf, mostBatches}
-use Rattle.report.specs.inner.Running.{runningOf, withBatch, figuresIn, faulty, Sound, Addition, none, further, last, counted, addedTo, additionTo, Small}
+use Rattle.report.specs.inner.Running.{runningOf, withBatch, figuresIn, faulty, Sound, Addition, none, further, last, counted, addedTo, someMeets, unread, unsound, additionTo, addedWith, Small}
 use Rattle.degree.specs.inner.Reach.{reachAt}
 use Rattle.degree.specs.laws.Reach.{at-small}
 use Rattle.report.specs.declared.Report.{Report}
@@ -193,22 +196,46 @@ pub counted-taken : (r : Report) → (r .taken ≡ r .count → ⊥) → further
 counted-taken r e = sym (ap (λ (b : Bool). cond b (last r) (further r)) (ne-eqb (r .taken) (r .count) e))
 
 -- a batch that is counted
-pub batch-added : (r next : Report) (x : Reach) (o : Outcome Reach) (a : Addition) → o ≡ result x → next ≡ withBatch r x → a ≡ counted next → a ≡ addedTo r o
-batch-added r next x o a e n h = h ∙ ap counted n ∙ sym (ap (addedTo r) e)
+pub batch-added : (r next : Report) (text : List ℕ) (x : Reach) (o : Outcome Reach) (a : Addition) → o ≡ result x → next ≡ withBatch r x → a ≡ counted next → a ≡ addedWith r text o
+batch-added r next text x o a e n h = h ∙ ap counted n ∙ sym (ap (addedWith r text) e)
+
+pub some-none : (ls : List Line) → NoneMeets ls → someMeets ls ≡ false
+some-none [] n = refl
+some-none (l ∷ ls) n = or-none (n .0) (some-none ls (n .1))
+
+pub none-some : (ls : List Line) → someMeets ls ≡ false → NoneMeets ls
+none-some [] h = tt
+none-some (l ∷ ls) h = (none-left (l .meets) (someMeets ls) h, none-some ls (none-right (l .meets) (someMeets ls) h))
+
+pub some-refused : {R : Type 0} (ls : List Line) (r : R) (n p : ℕ) → judged ls r ≡ refused n p → someMeets ls ≡ true
+unfolding judged
+some-refused [] r n p e = no-result n p r (sym e)
+some-refused (l ∷ ls) r n p e = go (l .meets) e (some-refused ls r n p)
+  where
+    go : (b : Bool) → cond b (refused (l .number) (l .place)) (judged ls r) ≡ refused n p → (judged ls r ≡ refused n p → someMeets ls ≡ true) → (b || someMeets ls) ≡ true
+    go true e rest = refl
+    go false e rest = rest e
+
+-- a text that is answered was read
+pub reached-read : (recording text : List ℕ) (v : ℕ) (x : Reach) → reachAt recording text v ≡ result x → unread text ≡ false
+unfolding reachAt unread
+reached-read recording text v x e =
+    let n = result-none (askingLines recording text ++ setLines recording (read text)) (reachIn (answer recording text) v) x e .0 in
+    let a = none-append (askingLines recording text) (setLines recording (read text)) n .0 in
+    some-none (textLines text) (none-append (recordingLines recording) (noRecord recording ∷ textLines text) a .1 .1)
 
 module _ (r : Report) (recording text : List ℕ) (v : ℕ) where
-  pub off-none : axis ≤ v → none ≡ additionTo r recording text v
+  pub unsound-none : unsound r v ≡ true → none ≡ additionTo r recording text v
   unfolding additionTo
-  off-none h = sym (ap (λ (b : Bool). cond b none (addedTo r (reachAt recording text v))) (or-left (leb axis v) (faulty r) (le-leb axis v h)))
+  unsound-none h = sym (ap (λ (b : Bool). cond b none (addedTo r (reachAt recording text v))) (or-left (unsound r v) (unread text) h))
 
-  pub faulty-none : faulty r ≡ true → none ≡ additionTo r recording text v
+  pub sound-added : unsound r v ≡ false → (o : Outcome Reach) → o ≡ reachAt recording text v → (a : Addition) → a ≡ addedWith r text o → a ≡ additionTo r recording text v
   unfolding additionTo
-  faulty-none h = sym (ap (λ (b : Bool). cond b none (addedTo r (reachAt recording text v))) (or-right (leb axis v) (faulty r) h))
-
-  pub sound-added : v < axis → faulty r ≡ false → (o : Outcome Reach) → o ≡ reachAt recording text v → (a : Addition) → a ≡ addedTo r o → a ≡ additionTo r recording text v
-  unfolding additionTo
-  sound-added h f o e a q =
-      q ∙ ap (addedTo r) e ∙ sym (ap (λ (b : Bool). cond b none (addedTo r (reachAt recording text v))) (or-none (lt-leb axis v h) f))
+  sound-added h o e a q = q ∙ by o e ∙ sym (ap (λ (b : Bool). cond b none (addedTo r (reachAt recording text v))) (or-pass (unsound r v) (unread text) h))
+    where
+      by : (o : Outcome Reach) → o ≡ reachAt recording text v → addedWith r text o ≡ cond (unread text) none (addedTo r (reachAt recording text v))
+      by (result x) e = ap (addedTo r) e ∙ sym (ap (λ (b : Bool). cond b none (addedTo r (reachAt recording text v))) (reached-read recording text v x (sym e)))
+      by (refused n p) e = ap (λ (o : Outcome Reach). cond (unread text) none (addedTo r o)) e
 
 pub small-reached : (recording text : List ℕ) (v : ℕ) (o : Outcome Reach) → o ≡ reachAt recording text v → Small o
 small-reached recording text v (result (away d)) e = at-small recording text v d (sym e)

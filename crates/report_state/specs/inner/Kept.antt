@@ -1,9 +1,8 @@
 -- What the inner functions of the report calls ask.
 use Prim.Native.Nat.{ℕ, _≤_, _<_}
 use mathlib.Core.Path.{_≡_}
-use mathlib.Core.Bool.{false, cond}
+use mathlib.Core.Bool.{false}
 use mathlib.Core.List.{List}
-use lib.Dec.{ltb}
 use lib.ListN.{length}
 use lib.Ieee.{binary64, nanBits}
 use Rattle.number.specs.Words.{word}
@@ -12,7 +11,7 @@ use Rattle.reply.specs.Reply.{half}
 use Rattle.mean.specs.inner.Running.{Numbers}
 use Rattle.report.specs.Report.{reportBytes}
 use Rattle.report.specs.inner.Running.{Addition, none, stopped, further, last}
-use Rattle.report_state.specs.State.{reportSignature, long, sizeIn, closedBytes}
+use Rattle.report_state.specs.State.{reportSignature, long, sizeIn}
 
 -- there is room for what a recording leads to, and what is written are numbers
 abbrev pub Writable : Addition → List ℕ → Type 0
@@ -27,10 +26,6 @@ Tellable none = Unit {0}
 Tellable (stopped n p) = p < half
 Tellable (further r) = Unit {0}
 Tellable (last r) = Numbers (r .mean)
-
--- a report is ended, where the bytes are long enough to hold one
-abbrev pub endedBytes : List ℕ → List ℕ
-endedBytes b = cond (ltb (length b) reportBytes) b (closedBytes b)
 
 -- the bytes are not plainly no state
 pub record Held (b : List ℕ) : Type 0 where

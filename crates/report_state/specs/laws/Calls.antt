@@ -4,9 +4,9 @@ use native.Mathlib.Omega.{arith}
 use mathlib.Core.Path.{_≡_, refl, sym, ap, _∙_, subst}
 use mathlib.Core.Bool.{Bool, true, false, cond}
 use mathlib.Core.List.{List, [], _∷_, _++_, map}
-use lib.Dec.{eqb, ltb}
+use lib.Dec.{eqb}
 use lib.ListN.{length, drop, length-append, length-drop}
-use borrow.Author.Tests.{eqb-false, ltb-false, ltb-true}
+use borrow.Author.Tests.{eqb-false, ltb-false}
 use Rattle.number.specs.Words.{wordBytes, wordsBytes}
 use Rattle.number.specs.laws.Boolean.{none-left, none-right}
 use Rattle.number.specs.laws.Words.{length-row}
@@ -24,19 +24,19 @@ use Rattle.report.specs.inner.Running.{runningOf, Addition, further, last, adde
 use Rattle.report.specs.inner.Naming.{targetLines}
 use Rattle.report.specs.laws.Steps.{small-more, length-more, counted-more, answer-told}
 use Rattle.report.specs.laws.Fold.{fold-near}
-use Rattle.report_state.specs.State.{figureWords, namedBytes, closedBytes, namingAfter, additionIn, addAfter, stateless}
+use Rattle.report_state.specs.State.{figureWords, namedBytes, noReport, closedBytes, namingAfter, additionIn, addAfter}
 use Rattle.report_state.specs.Call.{answerTold, metAfter, emptyAfter, distancesAfter, meanAfter, namedIndex, ReportTold}
 use Rattle.report_state.specs.Calls.{Made, madeStart, madeAdd, callOf, ReportReturned, ReportCallsMade, AllReturnedAs, AsTheFold}
-use Rattle.report_state.specs.laws.Read.{too-short}
+use Rattle.report_state.specs.laws.Read.{held-of, some-state}
 use Rattle.report_state.specs.laws.Start.{named-mapped}
-use Rattle.report_state.specs.laws.Carried.{Under, Carries, no-state, closed-carries, under-added, room-enough}
+use Rattle.report_state.specs.laws.Carried.{Under, Carries, no-report, closed-carries, under-added, room-enough}
 
 -- ---- no call changes the length
 
-length-closed : (b : List ℕ) → 4 ≤ length b → length (closedBytes b) ≡ length b
+pub length-closed : (b : List ℕ) → 4 ≤ length b → length (closedBytes b) ≡ length b
 length-closed b h = let d = length-drop 4 b in omega arith
 
-length-put : (ws b : List ℕ) → length ws ≡ 11 → 44 ≤ length b → length (wordsBytes ws ++ drop 44 b) ≡ length b
+pub length-put : (ws b : List ℕ) → length ws ≡ 11 → 44 ≤ length b → length (wordsBytes ws ++ drop 44 b) ≡ length b
 length-put ws b e h =
     let l = length-row ws in
     let d = length-drop 44 b in
@@ -82,11 +82,11 @@ module _ (n : Naming) (b : List ℕ) where
       }
 
   ended : (k p : ℕ) → Onward b (namingAfter n (refused k p) b) closed
-  ended k p = by (ltb (length b) reportBytes) refl
+  ended k p = by (noReport b) refl
     where
-      by : (t : Bool) → ltb (length b) reportBytes ≡ t → Onward b (cond t b (closedBytes b)) closed
-      by true e = record { carries = no-state b (sym (too-short b (ltb-true (length b) reportBytes e))); same-length = refl }
-      by false e = record { carries = closed-carries b; same-length = length-closed b (omega (arith, ltb-false (length b) reportBytes e)) }
+      by : (t : Bool) → noReport b ≡ t → Onward b (cond t b (closedBytes b)) closed
+      by true e = record { carries = no-report b e; same-length = refl }
+      by false e = record { carries = closed-carries b; same-length = length-closed b (omega (arith, held-of b (some-state b e) .long-enough)) }
 
   -- A NAMING, whatever the bytes held
   pub start-onward : Onward b (namingAfter n (namedIndex n (length b)) b) (openedBy n (named (length b) n))
@@ -168,9 +168,9 @@ calls-fold (madeAdd recording p q d y ∷ cs) (x ∷ xs) room b s l h m =
       calls-fold cs xs room (x .state) (stageAfter room s (addBatch recording)) long (subst (λ (c : List ℕ). Carries c (stageAfter room s (addBatch recording))) (sym new) (o .0 .carries)) (m .1),
     )
 
--- THE CLAIM, of calls begun with bytes that are plainly no state
-pub no-state-fold : (b : List ℕ) (cs : List Made) (xs : List ReportReturned) → stateless b ≡ true → ReportCallsMade b cs xs → AsTheFold (length b) cs xs
-no-state-fold b cs xs h m = record { answered = calls-fold cs xs (length b) b closed refl (no-state b h) m; near = λ f k. fold-near (length b) (map callOf cs) closed tt f k }
+-- THE CLAIM, of calls begun with bytes that hold no report
+pub no-report-fold : (b : List ℕ) (cs : List Made) (xs : List ReportReturned) → noReport b ≡ true → ReportCallsMade b cs xs → AsTheFold (length b) cs xs
+no-report-fold b cs xs h m = record { answered = calls-fold cs xs (length b) b closed refl (no-report b h) m; near = λ f k. fold-near (length b) (map callOf cs) closed tt f k }
 
 -- THE CLAIM, of calls that begin with a naming, whatever the bytes held
 pub start-fold : (b : List ℕ) (n : Naming) (cs : List Made) (xs : List ReportReturned) → ReportCallsMade b (madeStart n ∷ cs) xs → AsTheFold (length b) (madeStart n ∷ cs) xs

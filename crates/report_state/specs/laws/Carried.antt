@@ -27,15 +27,15 @@ use Rattle.degree.specs.laws.Reach.{reach-index}
 use Rattle.mean.specs.laws.Number.{running-fitting}
 use Rattle.targets.specs.Target.{offAxis}
 use Rattle.report.specs.Report.{Naming, mostBatches, reportBytes, namingLines, distancesIn, Stage, closed, underWay}
-use Rattle.report.specs.inner.Running.{runningOf, Sound, none, addedTo, additionTo}
+use Rattle.report.specs.inner.Running.{runningOf, Sound, none, addedTo, unread, absent}
 use Rattle.report.specs.inner.Naming.{targetLines}
-use Rattle.report.specs.laws.Running.{sound-not}
+use Rattle.report.specs.laws.Running.{sound-not, some-none}
 use Rattle.report.specs.laws.Steps.{AllSmall, running-sound}
 use Rattle.report.specs.declared.Report.{Report}
-use Rattle.report_state.specs.State.{reportSignature, low, high, long, figureWords, reportIn, indexIn, sizeIn, reportText, stateless, closedBytes, additionIn}
+use Rattle.report_state.specs.State.{reportSignature, low, high, long, figureWords, reportIn, indexIn, sizeIn, reportText, stateless, noReport, closedBytes, additionIn}
 use Rattle.report_state.specs.inner.Kept.{Held}
 use Rattle.report_state.specs.laws.Words.{Words, word-in}
-use Rattle.report_state.specs.laws.Read.{same-mean, same-report, other-head, held-not, none-in}
+use Rattle.report_state.specs.laws.Read.{same-mean, same-report, other-head, held-not, stateless-none, held-none, none-in}
 
 -- ---- the words of a state
 
@@ -153,14 +153,18 @@ abbrev pub Carries : List ℕ → Stage → Type 0
 Carries b closed = (recording : List ℕ) → additionIn b recording ≡ none
 Carries b (underWay n xs) = Under b n xs
 
-pub no-state : (b : List ℕ) → stateless b ≡ true → Carries b closed
-no-state b h recording = sym (none-in b recording h)
+pub no-report : (b : List ℕ) → noReport b ≡ true → Carries b closed
+no-report b h recording = sym (none-in b recording h)
 
-pub closed-carries : (b : List ℕ) → Carries (closedBytes b) closed
-closed-carries b = no-state (closedBytes b) (sym (other-head (closedBytes b) (λ e. bad (sym (word-front 0 (drop 4 b) (omega arith)) ∙ e))))
+-- a report that was given or stopped
+pub closed-none : (b : List ℕ) → noReport (closedBytes b) ≡ true
+closed-none b = stateless-none (closedBytes b) (sym (other-head (closedBytes b) (λ e. bad (sym (word-front 0 (drop 4 b) (omega arith)) ∙ e))))
   where
     bad : 0 ≡ reportSignature → ⊥
     bad e = omega arith
+
+pub closed-carries : (b : List ℕ) → Carries (closedBytes b) closed
+closed-carries b = no-report (closedBytes b) (closed-none b)
 
 module _ (b : List ℕ) (n : Naming) (xs : List Reach) (u : Under b n xs) where
   abbrev r : Report
@@ -196,16 +200,29 @@ module _ (b : List ℕ) (n : Naming) (xs : List Reach) (u : Under b n xs) where
       let f = running-fitting (distancesIn xs) in
       record { count = omega arith; taken = omega arith; met = omega arith; empty = omega arith; distances = omega arith; sum = f .sum; mean = f .mean; place = omega arith; size = omega arith }
 
-  pub under-held : stateless b ≡ false
-  under-held = held-not b (held-back r (index (n .target)) (length (n .text)) wordly (n .text ++ u .rest) b (u .state) room-enough text-size (sound .sum-number) (sound .mean-number))
+  under-state : stateless b ≡ false
+  under-state = held-not b (held-back r (index (n .target)) (length (n .text)) wordly (n .text ++ u .rest) b (u .state) room-enough text-size (sound .sum-number) (sound .mean-number))
+
+  same-figures : reportIn b ≡ r
+  same-figures = report-back r (index (n .target)) (length (n .text)) wordly (n .text ++ u .rest) b (u .state)
+
+  same-text : reportText b ≡ n .text
+  same-text = text-back r (index (n .target)) (n .text) (u .rest) b wordly (u .state)
+
+  same-index : indexIn b ≡ index (n .target)
+  same-index = index-back r (index (n .target)) (length (n .text)) wordly (n .text ++ u .rest) b (u .state)
+
+  -- they hold a report
+  pub under-held : noReport b ≡ false
+  unfolding unread
+  under-held =
+      held-none b under-state ∙ ap (λ (x : Report). absent x (reportText b) (indexIn b)) same-figures ∙ ap (λ (t : List ℕ). absent r t (indexIn b)) same-text
+      ∙ ap (absent r (n .text)) same-index
+      ∙ or-none (or-none (lt-leb axis (index (n .target)) (on-axis (n .target) on .0)) (sound-not r sound)) (some-none (textLines (n .text)) (lines .0))
 
   -- A RECORDING HANDED IN is put to the text and the target that were named
   pub under-added : (recording : List ℕ) → additionIn b recording ≡ addedTo r (reachOf recording (n .text) (n .target))
-  unfolding additionTo
   under-added recording =
-      ap (λ (t : Bool). cond t none (additionTo (reportIn b) recording (reportText b) (indexIn b))) under-held
-      ∙ ap (λ (x : Report). additionTo x recording (reportText b) (indexIn b)) (report-back r (index (n .target)) (length (n .text)) wordly (n .text ++ u .rest) b (u .state))
-      ∙ ap (λ (t : List ℕ). additionTo r recording t (indexIn b)) (text-back r (index (n .target)) (n .text) (u .rest) b wordly (u .state))
-      ∙ ap (additionTo r recording (n .text)) (index-back r (index (n .target)) (length (n .text)) wordly (n .text ++ u .rest) b (u .state))
-      ∙ ap (λ (t : Bool). cond t none (addedTo r (reachAt recording (n .text) (index (n .target))))) (or-none (lt-leb axis (index (n .target)) (on-axis (n .target) on .0)) (sound-not r sound))
-      ∙ ap (addedTo r) (sym (reach-index recording (n .text) (n .target) on))
+      ap (λ (t : Bool). cond t none (addedTo (reportIn b) (reachAt recording (reportText b) (indexIn b)))) under-held
+      ∙ ap (λ (x : Report). addedTo x (reachAt recording (reportText b) (indexIn b))) same-figures ∙ ap (λ (t : List ℕ). addedTo r (reachAt recording t (indexIn b))) same-text
+      ∙ ap (λ (v : ℕ). addedTo r (reachAt recording (n .text) v)) same-index ∙ ap (addedTo r) (sym (reach-index recording (n .text) (n .target) on))

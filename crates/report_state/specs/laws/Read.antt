@@ -14,10 +14,11 @@ use Rattle.number.specs.laws.Boolean.{or-left, or-right, none-left, none-right,
 use Rattle.grammar.specs.Size.{mostBytes}
 use Rattle.mean.specs.declared.Mean.{Mean}
 use Rattle.report.specs.Report.{reportBytes}
-use Rattle.report.specs.inner.Running.{Addition, none, additionTo}
+use Rattle.degree.specs.inner.Reach.{reachAt}
+use Rattle.report.specs.inner.Running.{Addition, none, addedTo, absent, additionTo}
 use Rattle.report.specs.declared.Report.{Report}
 use Rattle.report_state.specs.inner.Kept.{Held}
-use Rattle.report_state.specs.State.{reportSignature, long, reportIn, indexIn, sizeIn, reportText, stateless, additionIn}
+use Rattle.report_state.specs.State.{reportSignature, long, reportIn, indexIn, sizeIn, reportText, stateless, noReport, additionIn}
 
 pub same-mean : (s s′ m m′ : Float) → s ≡ s′ → m ≡ m′ → _≡_ {A = Mean} (record { sum = s; mean = m }) (record { sum = s′; mean = m′ })
 same-mean s s′ m m′ p q = λ i. record { sum = p i; mean = q i }
@@ -80,15 +81,35 @@ module _ (b : List ℕ) where
 
   -- ---- a recording handed in with them
 
+  -- plainly no state, or none under way by what stands there
+  pub stateless-none : stateless b ≡ true → noReport b ≡ true
+  unfolding noReport
+  stateless-none h = or-left (stateless b) _ h
+
+  pub held-none : stateless b ≡ false → noReport b ≡ absent (reportIn b) (reportText b) (indexIn b)
+  unfolding noReport
+  held-none h = or-pass (stateless b) _ h
+
+  pub none-by : stateless b ≡ false → (r : Report) (text : List ℕ) (v : ℕ) → r ≡ reportIn b → text ≡ reportText b → v ≡ indexIn b → (t : Bool) → t ≡ absent r text v
+      → t ≡ noReport b
+  none-by h r text v e u i t q =
+      q ∙ ap (λ (x : Report). absent x text v) e ∙ ap (λ (x : List ℕ). absent (reportIn b) x v) u ∙ ap (absent (reportIn b) (reportText b)) i ∙ sym (held-none h)
+
+  pub some-state : noReport b ≡ false → stateless b ≡ false
+  unfolding noReport
+  some-state h = none-left (stateless b) _ h
+
   module _ (recording : List ℕ) where
-    pub none-in : stateless b ≡ true → none ≡ additionIn b recording
-    none-in h = sym (ap (λ (t : Bool). cond t none (additionTo (reportIn b) recording (reportText b) (indexIn b))) h)
+    pub none-in : noReport b ≡ true → none ≡ additionIn b recording
+    none-in h = sym (ap (λ (t : Bool). cond t none (addedTo (reportIn b) (reachAt recording (reportText b) (indexIn b)))) h)
 
     pub some-in : stateless b ≡ false → (r : Report) (text : List ℕ) (v : ℕ) → r ≡ reportIn b → text ≡ reportText b → v ≡ indexIn b → (a : Addition)
         → a ≡ additionTo r recording text v → a ≡ additionIn b recording
+    unfolding additionTo
     some-in h r text v e t i a q =
         q ∙ ap (λ (x : Report). additionTo x recording text v) e ∙ ap (λ (x : List ℕ). additionTo (reportIn b) recording x v) t
-        ∙ ap (additionTo (reportIn b) recording (reportText b)) i ∙ sym (ap (λ (s : Bool). cond s none (additionTo (reportIn b) recording (reportText b) (indexIn b))) h)
+        ∙ ap (additionTo (reportIn b) recording (reportText b)) i
+        ∙ sym (ap (λ (s : Bool). cond s none (addedTo (reportIn b) (reachAt recording (reportText b) (indexIn b)))) (held-none h))
 
 -- ---- the bits of a number
 

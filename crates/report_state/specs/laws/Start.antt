@@ -4,7 +4,7 @@ use native.Mathlib.Omega.{arith}
 use mathlib.Core.Path.{_≡_, refl, sym, ap, _∙_, subst}
 use mathlib.Core.Bool.{Bool, true, false, cond}
 use mathlib.Core.List.{List, [], _++_}
-use lib.Dec.{eqb, ltb}
+use lib.Dec.{eqb}
 use lib.ListN.{length, take, drop, length-append}
 use borrow.Author.Tests.{ltb-false, lt-ltb}
 use Rattle.number.specs.Words.{wordBytes, wordsBytes}
@@ -29,9 +29,9 @@ use Rattle.report.specs.inner.Naming.{targetLines}
 use Rattle.report.specs.declared.Named.{Named}
 use Rattle.report.specs.declared.Named.the-variants as variant
 use Rattle.report.specs.declared.Report.{Report}
-use Rattle.report_state.specs.State.{figureWords, namedBytes, closedBytes, namingAfter}
+use Rattle.report_state.specs.State.{figureWords, namedBytes, noReport, closedBytes, endedBytes, namingAfter}
 use Rattle.report_state.specs.Call.{answerTold, namedIndex, Starts}
-use Rattle.report_state.specs.inner.Kept.{endedBytes}
+use Rattle.report_state.specs.laws.Read.{too-short, stateless-none}
 
 -- ---- the bytes, put one behind the other
 
@@ -100,12 +100,16 @@ module _ (n : Naming) (old : List ℕ) where
           let k = result-none (namingLines n room) (index (n .target)) v e .0 in
           let m = none-append (textLines (n .text)) (targetLines (n .target) room) (k .1) in
           absurd (clash (lt-ltb room reportBytes h) (m .1 .1 .0))
-      by (refused k p) e = ap (λ (t : Bool). cond t old (closedBytes old)) (lt-ltb room reportBytes h)
+      by (refused k p) e = ap (λ (t : Bool). cond t old (closedBytes old)) (stateless-none old (sym (too-short old h)))
 
   -- a refusal changes no byte behind the first four
   pub start-ends : (k p : ℕ) → namedIndex n room ≡ refused k p → drop 4 (namingAfter n (namedIndex n room) old) ≡ drop 4 old
-  start-ends k p e = ap (λ (o : Outcome ℕ). drop 4 (namingAfter n o old)) e ∙ by (ltb room reportBytes)
+  start-ends k p e = ap (λ (o : Outcome ℕ). drop 4 (namingAfter n o old)) e ∙ by (noReport old)
     where
       by : (t : Bool) → drop 4 (cond t old (closedBytes old)) ≡ drop 4 old
       by true = refl
       by false = refl
+
+  -- and none at all where the bytes hold no report
+  pub start-stays : (k p : ℕ) → namedIndex n room ≡ refused k p → noReport old ≡ true → namingAfter n (namedIndex n room) old ≡ old
+  start-stays k p e h = ap (λ (o : Outcome ℕ). namingAfter n o old) e ∙ ap (λ (t : Bool). cond t old (closedBytes old)) h
