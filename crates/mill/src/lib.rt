@@ -1,10 +1,19 @@
-// The C boundary of the library.
-ghost use Rattle.mill.specs.Calls.{QuestionCall, DegreeCall, PairCall, ThinCall, BandCall, OrderCall, LabQuestionCall, LabDegreeCall, LabPairCall, ReportStartCall, ReportAddCall, LiveStartCall, LiveAddCall, LiveSaveCall, LiveRestoreCall, LiveKeptCall, LiveEntryCall, EntryCall, FindCall};
+// The C boundary of the library: every call that others make, and of each the page's contract (crate `promises`). Complete: Page; what is carried from
+// call to call: InTurn, with Reports and LiveRuns.
+ghost use mathlib.Core.List.{[], _∷_};
+ghost use Rattle.report.specs.Report.{startReport, addBatch};
+ghost use Rattle.promises.specs.Page as call;
+ghost use Rattle.promises.specs.Page.{Complete};
+ghost use Rattle.promises.specs.InTurn.{made, Carries};
+ghost use Rattle.promises.specs.Reports.{ReportLent};
+ghost use Rattle.promises.specs.LiveRuns as run;
+ghost use Rattle.promises.specs.LiveRuns.{LiveLent};
+ghost use Rattle.promises.specs.inner.Machines.{reportMachine, liveMachine};
 
 // THE QUESTION CALL. Returns how many bytes of the output the answered set takes, or the refusal.
 #[no_mangle]
 pub extern "C" fn mill_question(rec: &[u8], text: &[u8], out: &mut [u8]) -> u64
-    ensures { λ r. ⌜ QuestionCall (now (rec .entry)) (now (text .entry)) (now (out .entry)) r (now (out .exit)) ⌝ }
+    ensures { λ r. ⌜ Complete (call.question (now (text .entry))) (now (rec .entry)) (now (out .entry)) r (now (out .exit)) ⌝ }
 {
     let written = question::question(rec, text, out);
     reply::written(written)
@@ -20,7 +29,9 @@ pub extern "C" fn mill_degree(
     distance: &mut u64,
     degree: &mut u64,
 ) -> u64
-    ensures { λ r. ⌜ DegreeCall (now (rec .entry)) (now (text .entry)) target (now (distance .entry)) (now (degree .entry)) r (now (distance .exit)) (now (degree .exit)) ⌝ }
+    ensures { λ r. ⌜ Complete (call.degree (now (text .entry)) target) (now (rec .entry))
+        (now (distance .entry) ∷ now (degree .entry) ∷ []) r
+        (now (distance .exit) ∷ now (degree .exit) ∷ []) ⌝ }
 {
     let near = degree::degree(rec, text, target);
     boundary::tell_degree(near, distance, degree)
@@ -29,7 +40,7 @@ pub extern "C" fn mill_degree(
 // THE THINNING CALL. Returns how many bytes of the output the kept readings take, or the refusal.
 #[no_mangle]
 pub extern "C" fn mill_thin(rec: &[u8], marks: &[u8], out: &mut [u8]) -> u64
-    ensures { λ r. ⌜ ThinCall (now (rec .entry)) (now (marks .entry)) (now (out .entry)) r (now (out .exit)) ⌝ }
+    ensures { λ r. ⌜ Complete (call.thin (now (marks .entry))) (now (rec .entry)) (now (out .entry)) r (now (out .exit)) ⌝ }
 {
     let written = thin::thin(rec, marks, out);
     reply::written(written)
@@ -44,7 +55,9 @@ pub extern "C" fn mill_pair(
     earlier: &mut u32,
     later: &mut u32,
 ) -> u64
-    ensures { λ r. ⌜ PairCall (now (rec .entry)) curve target (now (earlier .entry)) (now (later .entry)) r (now (earlier .exit)) (now (later .exit)) ⌝ }
+    ensures { λ r. ⌜ Complete (call.pair curve target) (now (rec .entry))
+        (now (earlier .entry) ∷ now (later .entry) ∷ []) r
+        (now (earlier .exit) ∷ now (later .exit) ∷ []) ⌝ }
 {
     let found = pair::pair(rec, curve, target);
     boundary::tell_pair(found, earlier, later)
@@ -62,7 +75,9 @@ pub extern "C" fn mill_band(
     possible_low: &mut u32,
     possible_high: &mut u32,
 ) -> u64
-    ensures { λ r. ⌜ BandCall (now (rec .entry)) (now (text .entry)) e (now («certain_low» .entry)) (now («certain_high» .entry)) (now («possible_low» .entry)) (now («possible_high» .entry)) r (now («certain_low» .exit)) (now («certain_high» .exit)) (now («possible_low» .exit)) (now («possible_high» .exit)) ⌝ }
+    ensures { λ r. ⌜ Complete (call.band (now (text .entry)) e) (now (rec .entry))
+        (now («certain_low» .entry) ∷ now («certain_high» .entry) ∷ now («possible_low» .entry) ∷ now («possible_high» .entry) ∷ []) r
+        (now («certain_low» .exit) ∷ now («certain_high» .exit) ∷ now («possible_low» .exit) ∷ now («possible_high» .exit) ∷ []) ⌝ }
 {
     let answer = band::band(rec, text, e);
     boundary::tell_bands(
@@ -77,7 +92,9 @@ pub extern "C" fn mill_band(
 // THE ORDER CALL. Returns 0 where every line of the sheet is met, 1 where one is broken and the time and the line are written, or the refusal.
 #[no_mangle]
 pub extern "C" fn mill_order(rec: &[u8], sheet: &[u8], time: &mut u32, line: &mut u32) -> u64
-    ensures { λ r. ⌜ OrderCall (now (rec .entry)) (now (sheet .entry)) (now (time .entry)) (now (line .entry)) r (now (time .exit)) (now (line .exit)) ⌝ }
+    ensures { λ r. ⌜ Complete (call.order (now (sheet .entry))) (now (rec .entry))
+        (now (time .entry) ∷ now (line .entry) ∷ []) r
+        (now (time .exit) ∷ now (line .exit) ∷ []) ⌝ }
 {
     let found = sheet::order(rec, sheet);
     boundary::tell_order(found, time, line)
@@ -86,7 +103,7 @@ pub extern "C" fn mill_order(rec: &[u8], sheet: &[u8], time: &mut u32, line: &mu
 // THE LABORATORY'S QUESTION CALL. As the question call, with the marks of the thinning; 14 refuses what could tell of B.
 #[no_mangle]
 pub extern "C" fn mill_lab_question(rec: &[u8], marks: &[u8], text: &[u8], out: &mut [u8]) -> u64
-    ensures { λ r. ⌜ LabQuestionCall (now (rec .entry)) (now (marks .entry)) (now (text .entry)) (now (out .entry)) r (now (out .exit)) ⌝ }
+    ensures { λ r. ⌜ Complete (call.labQuestion (now (marks .entry)) (now (text .entry))) (now (rec .entry)) (now (out .entry)) r (now (out .exit)) ⌝ }
 {
     let written = lab::lab_question(rec, marks, text, out);
     reply::written(written)
@@ -102,7 +119,9 @@ pub extern "C" fn mill_lab_degree(
     distance: &mut u64,
     degree: &mut u64,
 ) -> u64
-    ensures { λ r. ⌜ LabDegreeCall (now (rec .entry)) (now (marks .entry)) (now (text .entry)) target (now (distance .entry)) (now (degree .entry)) r (now (distance .exit)) (now (degree .exit)) ⌝ }
+    ensures { λ r. ⌜ Complete (call.labDegree (now (marks .entry)) (now (text .entry)) target) (now (rec .entry))
+        (now (distance .entry) ∷ now (degree .entry) ∷ []) r
+        (now (distance .exit) ∷ now (degree .exit) ∷ []) ⌝ }
 {
     let near = lab::lab_degree(rec, marks, text, target);
     boundary::tell_degree(near, distance, degree)
@@ -117,7 +136,9 @@ pub extern "C" fn mill_lab_pair(
     earlier: &mut u32,
     later: &mut u32,
 ) -> u64
-    ensures { λ r. ⌜ LabPairCall (now (rec .entry)) curve target (now (earlier .entry)) (now (later .entry)) r (now (earlier .exit)) (now (later .exit)) ⌝ }
+    ensures { λ r. ⌜ Complete (call.labPair curve target) (now (rec .entry))
+        (now (earlier .entry) ∷ now (later .entry) ∷ []) r
+        (now (earlier .exit) ∷ now (later .exit) ∷ []) ⌝ }
 {
     let found = lab::lab_pair(rec, curve, target);
     boundary::tell_pair(found, earlier, later)
@@ -126,7 +147,8 @@ pub extern "C" fn mill_lab_pair(
 // THE START CALL OF A REPORT. Names the count of the recordings, the text and the target; `report` holds the report under way from here on. Returns 0, or the refusal.
 #[no_mangle]
 pub extern "C" fn mill_report_start(count: u32, text: &[u8], target: i64, report: &mut [u8]) -> u64
-    ensures { λ r. ⌜ ReportStartCall count (now (text .entry)) target (now (report .entry)) r (now (report .exit)) ⌝ }
+    ensures { λ r. ⌜ Carries reportMachine ReportLent (now (report .entry))
+        (made (startReport (record { count = count; text = now (text .entry); target = target })) [] r []) (now (report .exit)) ⌝ }
 {
     report_state::start(count, text, target, report)
 }
@@ -142,7 +164,9 @@ pub extern "C" fn mill_report_add(
     distances: &mut u64,
     mean: &mut u64,
 ) -> u64
-    ensures { λ r. ⌜ ReportAddCall (now (report .entry)) (now (rec .entry)) (now (met .entry)) (now (empty .entry)) (now (distances .entry)) (now (mean .entry)) r (now (report .exit)) (now (met .exit)) (now (empty .exit)) (now (distances .exit)) (now (mean .exit)) ⌝ }
+    ensures { λ r. ⌜ Carries reportMachine ReportLent (now (report .entry))
+        (made (addBatch (now (rec .entry))) (now (met .entry) ∷ now (empty .entry) ∷ now (distances .entry) ∷ now (mean .entry) ∷ []) r
+        (now (met .exit) ∷ now (empty .exit) ∷ now (distances .exit) ∷ now (mean .exit) ∷ [])) (now (report .exit)) ⌝ }
 {
     report_state::add(report, rec, met, empty, distances, mean)
 }
@@ -150,7 +174,8 @@ pub extern "C" fn mill_report_add(
 // A LIVE RUN STARTS, empty, with its marks, in the bytes that the caller lends. Returns 0, or the refusal; one by 11 ends what the bytes held.
 #[no_mangle]
 pub extern "C" fn mill_live_start(marks: &[u8], live: &mut [u8]) -> u64
-    ensures { λ r. ⌜ LiveStartCall (now (marks .entry)) (now (live .entry)) r (now (live .exit)) ⌝ }
+    ensures { λ r. ⌜ Carries liveMachine LiveLent (now (live .entry))
+        (made (run.start (now (marks .entry))) [] r []) (now (live .exit)) ⌝ }
 {
     let answer = live::start(marks, live);
     live::tell(answer)
@@ -159,7 +184,8 @@ pub extern "C" fn mill_live_start(marks: &[u8], live: &mut [u8]) -> u64
 // A READING ARRIVES. Returns 0, or the refusal.
 #[no_mangle]
 pub extern "C" fn mill_live_add(live: &mut [u8], reading: &[u8]) -> u64
-    ensures { λ r. ⌜ LiveAddCall (now (live .entry)) (now (reading .entry)) r (now (live .exit)) ⌝ }
+    ensures { λ r. ⌜ Carries liveMachine LiveLent (now (live .entry))
+        (made (run.add (now (reading .entry))) [] r []) (now (live .exit)) ⌝ }
 {
     let answer = live::add(live, reading);
     live::tell(answer)
@@ -168,7 +194,8 @@ pub extern "C" fn mill_live_add(live: &mut [u8], reading: &[u8]) -> u64
 // A MOMENT IS SET, or set again. Returns 0, or the refusal.
 #[no_mangle]
 pub extern "C" fn mill_live_save(live: &mut [u8], name: u32) -> u64
-    ensures { λ r. ⌜ LiveSaveCall (now (live .entry)) name r (now (live .exit)) ⌝ }
+    ensures { λ r. ⌜ Carries liveMachine LiveLent (now (live .entry))
+        (made (run.save name) [] r []) (now (live .exit)) ⌝ }
 {
     let answer = live::save(live, name);
     live::tell(answer)
@@ -177,7 +204,8 @@ pub extern "C" fn mill_live_save(live: &mut [u8], name: u32) -> u64
 // THE RUN GOES BACK TO A MOMENT. Returns 0, or the refusal.
 #[no_mangle]
 pub extern "C" fn mill_live_restore(live: &mut [u8], name: u32) -> u64
-    ensures { λ r. ⌜ LiveRestoreCall (now (live .entry)) name r (now (live .exit)) ⌝ }
+    ensures { λ r. ⌜ Carries liveMachine LiveLent (now (live .entry))
+        (made (run.restore name) [] r []) (now (live .exit)) ⌝ }
 {
     let answer = live::restore(live, name);
     live::tell(answer)
@@ -186,7 +214,8 @@ pub extern "C" fn mill_live_restore(live: &mut [u8], name: u32) -> u64
 // THE KEPT READINGS OF THE RUN. Returns how many bytes of the output they take, or the refusal.
 #[no_mangle]
 pub extern "C" fn mill_live_kept(live: &[u8], out: &mut [u8]) -> u64
-    ensures { λ r. ⌜ LiveKeptCall (now (live .entry)) (now (out .entry)) r (now (out .exit)) ⌝ }
+    ensures { λ r. ⌜ Carries liveMachine LiveLent (now (live .entry))
+        (made run.read (now (out .entry)) r (now (out .exit))) (now (live .entry)) ⌝ }
 {
     let written = live::kept(live, out);
     reply::written(written)
@@ -195,7 +224,8 @@ pub extern "C" fn mill_live_kept(live: &[u8], out: &mut [u8]) -> u64
 // THE ENTRY OF THE RUN. Returns 32, the bytes of the output that it takes, or the refusal. The run is only read.
 #[no_mangle]
 pub extern "C" fn mill_live_entry(live: &[u8], out: &mut [u8]) -> u64
-    ensures { λ r. ⌜ LiveEntryCall (now (live .entry)) (now (out .entry)) r (now (out .exit)) ⌝ }
+    ensures { λ r. ⌜ Carries liveMachine LiveLent (now (live .entry))
+        (made run.entry (now (out .entry)) r (now (out .exit))) (now (live .entry)) ⌝ }
 {
     let written = live_entry::entry_of_run(live, out);
     reply::written(written)
@@ -204,7 +234,7 @@ pub extern "C" fn mill_live_entry(live: &[u8], out: &mut [u8]) -> u64
 // THE ENTRY CALL. Returns 32, the bytes of the output that the entry takes, or the refusal.
 #[no_mangle]
 pub extern "C" fn mill_entry(rec: &[u8], out: &mut [u8]) -> u64
-    ensures { λ r. ⌜ EntryCall (now (rec .entry)) (now (out .entry)) r (now (out .exit)) ⌝ }
+    ensures { λ r. ⌜ Complete call.entry (now (rec .entry)) (now (out .entry)) r (now (out .exit)) ⌝ }
 {
     let written = entry::entry(rec, out);
     reply::written(written)
@@ -213,8 +243,16 @@ pub extern "C" fn mill_entry(rec: &[u8], out: &mut [u8]) -> u64
 // THE FIND CALL. Returns how many bytes of the output the numbers of the entries take, or the refusal.
 #[no_mangle]
 pub extern "C" fn mill_find(entries: &[u8], curve: u32, level: i64, out: &mut [u8]) -> u64
-    ensures { λ r. ⌜ FindCall (now (entries .entry)) curve level (now (out .entry)) r (now (out .exit)) ⌝ }
+    ensures { λ r. ⌜ Complete (call.find curve level) (now (entries .entry)) (now (out .entry)) r (now (out .exit)) ⌝ }
 {
     let written = listing::find(entries, curve, level, out);
     reply::written(written)
+}
+
+// THE VERSION of the library that is linked: major × 65536 + minor × 256 + patch.
+#[no_mangle]
+pub extern "C" fn mill_version() -> u64
+    ensures { λ r. ⌜ Complete call.version [] [] r [] ⌝ }
+{
+    65792
 }

@@ -6,5 +6,7 @@ pub mod Secrecy
 pub mod Summary
 pub mod InTurn
 pub mod Thinning
+pub mod Reports
+pub mod LiveRuns
 pub mod inner
 pub mod laws

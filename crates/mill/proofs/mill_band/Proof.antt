@@ -13,8 +13,11 @@ use Rattle.reply.specs.Reply.{InHalf}
 use Rattle.boundary.specs.Boundary.{bandTold}
 use Rattle.boundary.specs.inner.Fits.{EndsIn}
 use Rattle.boundary.specs.laws.Boundary.{bands-same}
-use Rattle.mill.specs.laws.Calls.{band-in-half, band-ends}
+use Rattle.promises.specs.laws.InHalf.{band-in-half, band-ends}
 use borrow.Author.Needs.{needs}
+use Rattle.promises.specs.Page as call
+use Rattle.promises.specs.inner.Made.{four}
+use Rattle.promises.specs.laws.Computed.{every-call}
 use Rattle.mill.proofs.mill_band.Statement.{statement}
 use Rattle.mill.proofs.mill_band.Tie as tie
 
@@ -38,7 +41,8 @@ returns : tie.Need-returns
 returns c =
     let s = c .before .before .before .before .before .before .before .before in
     let t = c .before .before .before .before .before .band in
-    bands-same (asked (s .args .rec .now) (s .args .text .now) (s .args .e) _ (t .result) (toZ-ofZ w64 (s .args .e) (s .fits .e)) (t .ensures)) (c .tell-bands .ensures)
+    every-call (call.band (s .args .text .now) (s .args .e)) (s .args .rec .now) _ _ _
+    (four (bands-same (asked (s .args .rec .now) (s .args .text .now) (s .args .e) _ (t .result) (toZ-ofZ w64 (s .args .e) (s .fits .e)) (t .ensures)) (c .tell-bands .ensures)))
 
 pub mill-band-spec : {M : Type 1} → statement M
 mill-band-spec = tie.close (tie.spec band-requires tell-bands-requires returns)

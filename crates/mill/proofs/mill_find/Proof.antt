@@ -11,8 +11,10 @@ use Rattle.recording.specs.Output.{Answers}
 use Rattle.recording.specs.declared.Written.{Written}
 use Rattle.listing.specs.Call.{findOf}
 use Rattle.reply.specs.Reply.{InHalf}
-use Rattle.mill.specs.laws.Calls.{find-in-half}
+use Rattle.promises.specs.laws.InHalf.{find-in-half}
 use Rattle.boundary.specs.laws.Boundary.{writes}
+use Rattle.promises.specs.Page as call
+use Rattle.promises.specs.laws.Computed.{every-call}
 use Rattle.mill.proofs.mill_find.Statement.{statement}
 use Rattle.mill.proofs.mill_find.Tie as tie
 
@@ -41,7 +43,8 @@ returns c =
     let a = s .args in
     let t = c .before .before .before .find in
     let e = asked (a .entries .now) (a .curve) (a .level) _ (a .out .now) (t .result) (t .last .1 .1 .1 .0) (toZ-ofZ w64 (a .level) (s .fits .level)) (t .ensures) in
-    writes (findOf (a .entries .now) (a .curve) (a .level) (length (a .out .now))) (a .out .now) (t .result) (t .last .1 .1 .1 .0) (c .written .result) e (c .written .ensures)
+    every-call (call.find (a .curve) (a .level)) (a .entries .now) (a .out .now) _ _
+    (writes (findOf (a .entries .now) (a .curve) (a .level) (length (a .out .now))) (a .out .now) (t .result) (t .last .1 .1 .1 .0) (c .written .result) e (c .written .ensures))
 
 pub mill-find-spec : {M : Type 1} → statement M
 mill-find-spec = tie.close (tie.spec find-requires written-requires same-length returns)

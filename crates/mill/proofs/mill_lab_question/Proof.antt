@@ -4,8 +4,10 @@ use lib.ListN.{length}
 use borrow.Author.Needs.{needs}
 use Rattle.lab.specs.Lab.{labQuestionOf}
 use Rattle.reply.specs.Reply.{InHalf}
-use Rattle.mill.specs.laws.Calls.{lab-question-in-half}
+use Rattle.promises.specs.laws.InHalf.{lab-question-in-half}
 use Rattle.boundary.specs.laws.Boundary.{writes}
+use Rattle.promises.specs.Page as call
+use Rattle.promises.specs.laws.Computed.{every-call}
 use Rattle.mill.proofs.mill_lab_question.Statement.{statement}
 use Rattle.mill.proofs.mill_lab_question.Tie as tie
 
@@ -24,7 +26,8 @@ returns : tie.Need-returns
 returns c =
     let a = c .before .before .before .before .before .before .before .before .before .args in
     let t = c .before .before .before .lab-question in
-    writes (labQuestionOf (a .rec .now) (a .marks .now) (a .text .now) (length (a .out .now))) (a .out .now) (t .result) (t .last .1 .1 .1 .0) (c .written .result) (t .ensures) (c .written .ensures)
+    every-call (call.labQuestion (a .marks .now) (a .text .now)) (a .rec .now) (a .out .now) _ _
+    (writes (labQuestionOf (a .rec .now) (a .marks .now) (a .text .now) (length (a .out .now))) (a .out .now) (t .result) (t .last .1 .1 .1 .0) (c .written .result) (t .ensures) (c .written .ensures))
 
 pub mill-lab-question-spec : {M : Type 1} → statement M
 mill-lab-question-spec = tie.close (tie.spec lab-question-requires written-requires same-length returns)

@@ -3,6 +3,7 @@ use mathlib.Core.Path.{sym, ap, _∙_, subst}
 use borrow.Author.Needs.{needs}
 use Rattle.reply.specs.Reply.{packed, InHalf}
 use Rattle.live.specs.laws.InHalf.{add-in-half}
+use Rattle.promises.specs.laws.Carried.{live-add}
 use Rattle.mill.proofs.mill_live_add.Statement.{statement}
 use Rattle.mill.proofs.mill_live_add.Tie as tie
 
@@ -19,8 +20,9 @@ same-length c = search needs
 
 returns : tie.Need-returns
 returns c =
+    let a = c .before .before .before .before .before .before .before .args in
     let t = c .before .before .before .add .ensures in
-    record { returned = c .tell .ensures ∙ ap packed (t .answer); state = t .state }
+    live-add (a .live .now) (a .reading .now) _ _ (record { returned = c .tell .ensures ∙ ap packed (t .answer); state = t .state })
 
 pub mill-live-add-spec : {M : Type 1} → statement M
 mill-live-add-spec = tie.close (tie.spec add-requires tell-requires same-length returns)

@@ -6,6 +6,7 @@ use Rattle.reply.specs.Reply.{InHalf}
 use Rattle.live_entry.specs.Call.{heldEntryOf}
 use Rattle.live_entry.specs.laws.InHalf.{run-entry-in-half}
 use Rattle.boundary.specs.laws.Boundary.{writes}
+use Rattle.promises.specs.laws.Carried.{live-entry}
 use Rattle.mill.proofs.mill_live_entry.Statement.{statement}
 use Rattle.mill.proofs.mill_live_entry.Tie as tie
 
@@ -24,7 +25,8 @@ returns : tie.Need-returns
 returns c =
     let a = c .before .before .before .before .before .before .before .args in
     let t = c .before .before .before .entry-of-run in
-    writes (heldEntryOf (a .live .now) (length (a .out .now))) (a .out .now) (t .result) (t .last .1 .0) (c .written .result) (t .ensures) (c .written .ensures)
+    live-entry (a .live .now) (a .out .now) _ _
+    (writes (heldEntryOf (a .live .now) (length (a .out .now))) (a .out .now) (t .result) (t .last .1 .0) (c .written .result) (t .ensures) (c .written .ensures))
 
 pub mill-live-entry-spec : {M : Type 1} → statement M
 mill-live-entry-spec = tie.close (tie.spec entry-of-run-requires written-requires same-length returns)

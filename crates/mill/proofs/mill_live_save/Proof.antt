@@ -3,6 +3,7 @@ use mathlib.Core.Path.{sym, ap, _∙_, subst}
 use borrow.Author.Needs.{needs}
 use Rattle.reply.specs.Reply.{packed, InHalf}
 use Rattle.live.specs.laws.InHalf.{save-in-half}
+use Rattle.promises.specs.laws.Carried.{live-save}
 use Rattle.mill.proofs.mill_live_save.Statement.{statement}
 use Rattle.mill.proofs.mill_live_save.Tie as tie
 
@@ -19,8 +20,9 @@ same-length c = search needs
 
 returns : tie.Need-returns
 returns c =
+    let a = c .before .before .before .before .before .before .args in
     let t = c .before .before .before .save .ensures in
-    record { returned = c .tell .ensures ∙ ap packed (t .answer); state = t .state }
+    live-save (a .live .now) (a .name) _ _ (record { returned = c .tell .ensures ∙ ap packed (t .answer); state = t .state })
 
 pub mill-live-save-spec : {M : Type 1} → statement M
 mill-live-save-spec = tie.close (tie.spec save-requires tell-requires same-length returns)

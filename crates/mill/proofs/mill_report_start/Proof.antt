@@ -8,6 +8,7 @@ use mir.ValLaws.{toZ-ofZ}
 use Rattle.report.specs.inner.Naming.{naming}
 use Rattle.report_state.specs.Call.{Starts}
 use borrow.Author.Needs.{needs}
+use Rattle.promises.specs.laws.Carried.{report-start}
 use Rattle.mill.proofs.mill_report_start.Statement.{statement}
 use Rattle.mill.proofs.mill_report_start.Tie as tie
 
@@ -25,7 +26,8 @@ returns : tie.Need-returns
 returns c =
     let s = c .before .before .before .before .before .before in
     let a = s .args in
-    asked (a .count) (a .text .now) (a .target) _ (a .report .now) _ _ (toZ-ofZ w64 (a .target) (s .fits .target)) (c .before .before .start .ensures)
+    report-start (naming (a .count) (a .text .now) (a .target)) (a .report .now) _ _
+    (asked (a .count) (a .text .now) (a .target) _ (a .report .now) _ _ (toZ-ofZ w64 (a .target) (s .fits .target)) (c .before .before .start .ensures))
 
 pub mill-report-start-spec : {M : Type 1} → statement M
 mill-report-start-spec = tie.close (tie.spec start-requires same-length returns)

@@ -4,8 +4,10 @@ use lib.ListN.{length}
 use borrow.Author.Needs.{needs}
 use Rattle.thin.specs.Thin.{thinOf}
 use Rattle.reply.specs.Reply.{InHalf}
-use Rattle.mill.specs.laws.Calls.{thin-in-half}
+use Rattle.promises.specs.laws.InHalf.{thin-in-half}
 use Rattle.boundary.specs.laws.Boundary.{writes}
+use Rattle.promises.specs.Page as call
+use Rattle.promises.specs.laws.Computed.{every-call}
 use Rattle.mill.proofs.mill_thin.Statement.{statement}
 use Rattle.mill.proofs.mill_thin.Tie as tie
 
@@ -24,7 +26,8 @@ returns : tie.Need-returns
 returns c =
     let a = c .before .before .before .before .before .before .before .before .args in
     let t = c .before .before .before .thin in
-    writes (thinOf (a .rec .now) (a .marks .now) (length (a .out .now))) (a .out .now) (t .result) (t .last .1 .1 .0) (c .written .result) (t .ensures) (c .written .ensures)
+    every-call (call.thin (a .marks .now)) (a .rec .now) (a .out .now) _ _
+    (writes (thinOf (a .rec .now) (a .marks .now) (length (a .out .now))) (a .out .now) (t .result) (t .last .1 .1 .0) (c .written .result) (t .ensures) (c .written .ensures))
 
 pub mill-thin-spec : {M : Type 1} → statement M
 mill-thin-spec = tie.close (tie.spec thin-requires written-requires same-length returns)

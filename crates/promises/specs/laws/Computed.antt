@@ -132,7 +132,7 @@ returns-writes (result b) out r after h f w =
 returns-writes (refused n p) out r after h f w = (ap numberIn (w .returned) ∙ number-refused n p h, ap lowIn (w .returned) ∙ low-refused n p h, w .output)
 
 -- a call whose last line is that of 10
-roomy : (ls ms : List Line) (room : ℕ) (s : List ℕ) → Roomy (judged (ls ++ (ms ++ (outputLine room s ∷ []))) s) room
+pub roomy : (ls ms : List Line) (room : ℕ) (s : List ℕ) → Roomy (judged (ls ++ (ms ++ (outputLine room s ∷ []))) s) room
 roomy ls ms room s = by (judged (ls ++ (ms ++ (outputLine room s ∷ []))) s) refl
   where
     by : (o : Outcome (List ℕ)) → judged (ls ++ (ms ++ (outputLine room s ∷ []))) s ≡ o → Roomy o room

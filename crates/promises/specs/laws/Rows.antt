@@ -57,6 +57,8 @@ use Rattle.listing.specs.Listing.{mostEntries, entryCount, listing}
 use Rattle.listing.specs.Call.{badSummary, levelLines}
 use Rattle.promises.specs.laws.MaximalRuns.{runs, runs-maximal, runs-many, inRuns, test-of, test-many}
 use Rattle.promises.specs.Conditions.{WithoutRecord, TopsOfCurveOver, recordingTable, ReadWith, OpenTooDeep, TextOver, TooManyRuns, RunsOver, TopsOver, SetLonger, MarksOff, TargetBad, SheetBad, NotLaboratory, BandBad, OneExtreme, TableLine, _upon_, textTable, askingTable}
+use Rattle.report.specs.Report.{Naming, mostBatches, reportBytes, namingLines}
+use Rattle.promises.specs.Reports.{namingRefusals}
 use Rattle.promises.specs.Page.{question, degree, pair, thin, band, order, entry, find, labQuestion, labDegree, labPair, refusals}
 use Rattle.promises.specs.laws.Found.{found-longer}
 use Rattle.promises.specs.laws.Conditions.{agrees, Agree, done, next, _⊳_, so-eq, so-lt, so-none, agree-recording}
@@ -196,8 +198,7 @@ module _ (full held text : List ℕ) (place : InPlace full held text) where
     ten room = so-read text reads (λ t r. (
       λ e.
           let f : ℕ → Bool = answer held text in
-          let h = ltb-true room (length (setBytes f)) e in
-          (
+          let h = ltb-true room (length (setBytes f)) e in (
             runs f,
             runs-maximal f (λ z. Holds (readings full) z t 0) (subst (λ (p : Text). IsSet f (readings full) p 0) (reads-read text t r) answer-is),
             omega (arith, setBytes-length f, runs-many f),
@@ -359,3 +360,10 @@ agree-find summary curve level room =
     ⊳ agrees 12 refl (off-target curve level)
     ⊳ agrees 10 refl (then (so-lt room (length (listing (curveOf curve) level summary))) (found-longer summary curve level room))
     ⊳ done
+
+-- ---- the naming of a report
+
+pub agree-naming : (n : Naming) (size : ℕ) → Agree (namingLines n size) (namingRefusals n size)
+agree-naming n size =
+    agrees 15 refl (so-either (so-eq (n .count) 0) (so-lt mostBatches (n .count)))
+    ⊳ agree-text (n .text) (λ sized. agrees 12 refl (off-axis (n .target)) ⊳ agrees 10 refl (so-lt size reportBytes) ⊳ done)

@@ -29,7 +29,6 @@ use Rattle.text.specs.Told.{textLines}
 use Rattle.meaning.specs.Meaning.{Holds}
 use Rattle.question.specs.Question.{read, answer, askingLines, setLines, questionOf}
 use Rattle.question.specs.laws.Lines.{read-reads}
-
 use mathlib.Core.Bool.{So}
 use mathlib.Core.Logic.{_↔_}
 use borrow.Author.Tests.{le-ltb}
