@@ -6,8 +6,9 @@
 ** nothing first. A call reads only the bytes that it is given, keeps nothing
 ** from one call to the next (what must last lies in the caller's memory: CARRIED,
 ** below), takes no memory from the heap, and may run in any number of threads at
-** once. Link with libmill.a, which is for x86-64 and needs
-** memcpy and memset of the C library and no other library.
+** once. This header is for C99 and later, and for C++11 and later. Link with
+** libmill.a, which is for x86-64 and needs memcpy and memset of the C library and no
+** other library.
 **
 **
 ** RECORDING. Readings of MILL_RECORD_BYTES bytes each, no header, all numbers
@@ -95,14 +96,31 @@
 **
 ** CARRIED. A report under way is MILL_REPORT_BYTES bytes of the caller's, a growing
 ** run MILL_LIVE_BYTES, which each call takes as the last call left them. They are no
-** output: where a refusal must be remembered, they change with it, and with nothing
-** else of the caller's memory. Which refusals do is said at the calls; all others
-** leave every byte. Bytes behind as many stay as they were. A copy of the bytes, at
-** whatever place, goes on as the original would. They need no setting up before
-** mill_report_start and mill_live_start, and no freeing. Bytes that are too few, all
-** zero or all 255 hold no report and no run. Other bytes that no call left there do
-** no harm: a call answers with a result or a refusal of its list, and touches nothing
-** else. They must not overlap an input or an output.
+** output. Three refusals are remembered there: a naming that is refused, and a
+** recording that is refused, end the report that the bytes hold; a start that
+** MILL_BAD_MARKS refuses ends the run that they hold. Each of these clears the first
+** four bytes and changes nothing else. Every other refusal, and these where the bytes
+** hold no report or run, leave every byte. Bytes behind as many stay as they were. A
+** copy of the bytes, at whatever place, goes on as the original would. They need no
+** setting up before mill_report_start and mill_live_start, and no freeing. They must
+** not overlap an input or an output.
+**
+** Bytes hold a report if they are as many, begin as a naming leaves them, and all that
+** they say is in its range, the text too: a report that was given or stopped is held
+** no more. Bytes hold a run if they are as many, begin as a start leaves them, and
+** have accepted marks and counts within their limits. Bytes that are too few, all zero
+** or all 255 hold neither. Of bytes that hold none a call says MILL_NO_REPORT or
+** MILL_BAD_MARKS. Other bytes that no call left there do no harm: a call answers with
+** a result or a refusal of its list, and touches nothing else.
+**
+** They may be stored, and read by another program. The first four bytes name what
+** they are, the format, and the rule by which readings are kept. A library with
+** another format or another rule finds no report and no run in them; so does this one
+** in those of version 1.0, which name neither. A program then begins anew: it names
+** the report and hands in its recordings from the first, or starts a run and adds its
+** readings. So it keeps these until the report is given or the run is thinned. Bytes
+** that no call writes stay as the caller's memory was: clear it before the start where
+** others will read what is stored.
 **
 ** A null pointer with length 0 serves as an empty input or an empty output.
 ** This is tested, and it is not part of what is proved. distance, degree,
@@ -166,13 +184,9 @@ extern "C" {
 #define MILL_MAX_ENTRIES 2048        /* entries of a summary */
 
 /*
-** Bytes of stack with which each call does. Measured on x86-64 with the deepest
-** inputs known, and rounded up: 170,615 for questions and degrees, a laboratory's
-** and a report's among them (31 times ! before lag), 103,119 for bands and for
-** naming a report (256 times an open bracket), 10,551 for a reading of a growing
-** run, 8,391 for thinning, 1,303 for pairs, 503 for order sheets, 135 for entries, 119
-** for the entry of a growing run, 103 for its other calls, 87 for finding. No proof
-** bounds the stack.
+** Bytes of stack with which each call does: measured on x86-64 with the deepest
+** inputs known, and rounded up. docs/SPEED.md has what was measured, and a test fails
+** where a call takes more than is named here. No proof bounds the stack.
 */
 #define MILL_STACK_QUESTION 196608
 #define MILL_STACK_DEGREE 196608
@@ -531,10 +545,10 @@ uint64_t mill_lab_pair(const uint8_t *recording, size_t recording_len, uint32_t 
 ** Begins a report: one text and one target, put to count recordings, which are then
 ** handed to mill_report_add one after another.
 **
-** report is what is carried from call to call (CARRIED, above). Whatever it held is
-** ended: a naming that is refused leaves a report that answers MILL_NO_REPORT, but for
-** MILL_SHORT_OUTPUT, which is given where report_len is under MILL_REPORT_BYTES: so
-** short a buffer is never written. Returns 0.
+** report is what is carried from call to call (CARRIED, above), whatever it held. A
+** naming that is refused ends the report that it held, and mill_report_add then says
+** MILL_NO_REPORT. MILL_SHORT_OUTPUT is given where report_len is under
+** MILL_REPORT_BYTES: so short a buffer is never written. Returns 0.
 **
 ** Refusals, in order: 15, 5, 6, 7, 12, 10.
 */
@@ -593,10 +607,10 @@ uint64_t mill_report_add(uint8_t *report, size_t report_len, const uint8_t *reco
 ** the kept readings of the run so far, at most MILL_MAX_HELD. Up to MILL_MAX_MOMENTS
 ** moments can be set, and the run can go back to each.
 **
-** live is what is carried from call to call (CARRIED, above). Whatever it held is
-** ended. Marks that are refused leave a run that answers MILL_BAD_MARKS to every step,
-** as does a buffer that holds no run; MILL_SHORT_OUTPUT is given where live_len is under
-** MILL_LIVE_BYTES, and so short a buffer is never written. Returns 0.
+** live is what is carried from call to call (CARRIED, above), whatever it held. Marks
+** that are refused end the run that it held, and every step then says MILL_BAD_MARKS, as
+** where a buffer holds no run. MILL_SHORT_OUTPUT is given where live_len is under
+** MILL_LIVE_BYTES: so short a buffer is never written. Returns 0.
 **
 ** Refusals, in order: 11, 10.
 */

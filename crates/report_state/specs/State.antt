@@ -67,8 +67,8 @@ abbrev pub stateless : List ℕ → Bool
 stateless b =
     ltb (length b) reportBytes || (not (eqb (word b 0) reportSignature) || (ltb mostBytes (sizeIn b) || (nanBits binary64 (long b 28) || nanBits binary64 (long b 36))))
 
--- THE BYTES HOLD NO REPORT: plainly no state, or with figures that no batches lead to, a target off the axis, or a text that 5, 6 or 7 refuses. So do those of a report that
--- was given or stopped, whose head is cleared. All others hold one
+-- THE BYTES HOLD NO REPORT: plainly no state, or with figures that no batches lead to, a target off the axis, or a text that 5, 6 or 7 refuses. A report that was given or
+-- stopped is held no more: its head is cleared. All other bytes hold one
 unfoldable pub noReport : List ℕ → Bool
 noReport b = stateless b || absent (reportIn b) (reportText b) (indexIn b)
 

@@ -110,6 +110,8 @@ enum Job {
     ReportStart(String),
     /// With a report that was begun with the text; none where the text is refused.
     ReportAdd(Vec<u8>, Vec<u8>),
+    /// With bytes in which the text stands as that of a report; the naming is refused, so that the text is read.
+    ReportEnd(Vec<u8>),
     LiveStart,
     /// With a run.
     LiveAdd(Vec<u8>, Vec<u8>),
@@ -135,7 +137,7 @@ impl Job {
             Job::LabQuestion(..) => ("mill_lab_question", header::stack("LAB_QUESTION")),
             Job::LabDegree(..) => ("mill_lab_degree", header::stack("LAB_DEGREE")),
             Job::LabPair(..) => ("mill_lab_pair", header::stack("LAB_PAIR")),
-            Job::ReportStart(_) => ("mill_report_start", header::stack("REPORT_START")),
+            Job::ReportStart(_) | Job::ReportEnd(_) => ("mill_report_start", header::stack("REPORT_START")),
             Job::ReportAdd(..) => ("mill_report_add", header::stack("REPORT_ADD")),
             Job::LiveStart => ("mill_live_start", header::stack("LIVE_START")),
             Job::LiveAdd(..) => ("mill_live_add", header::stack("LIVE_ADD")),
@@ -160,6 +162,11 @@ fn jobs() -> Vec<Job> {
             let report = mill::Report::start(2, text.as_bytes(), 7)
                 .map_or(vec![0; MILL_REPORT_BYTES], |report| report.as_bytes().to_vec());
             jobs.push(Job::ReportAdd(report, recording.clone()));
+            let mut stored = mill::Report::start(2, b"lag", 7).unwrap().as_bytes().to_vec();
+            stored[48..52].copy_from_slice(&(text.len() as u32).to_le_bytes());
+            stored[52..][..text.len()].copy_from_slice(text.as_bytes());
+            jobs.push(Job::ReportAdd(stored.clone(), vec![0; 17]));
+            jobs.push(Job::ReportEnd(stored));
             // Of A alone, and as it is.
             let of_a = text.replace("B=v", "A=v").replace("steps(B)", "steps(A)").replace("lag", "gaps(A)");
             for text in [of_a, text] {
@@ -248,6 +255,10 @@ fn run(job: &Job, out: &mut [u8]) -> u64 {
             Job::LiveEntry(live) => mill_live_entry(live.as_ptr(), live.len(), out.as_mut_ptr(), out.len()),
             Job::Find(entries) => mill_find(entries.as_ptr(), entries.len(), 1, 0, out.as_mut_ptr(), out.len()),
             Job::ReportStart(text) => mill_report_start(3, text.as_ptr(), text.len(), 7, out.as_mut_ptr(), out.len()),
+            Job::ReportEnd(report) => {
+                out[..report.len()].copy_from_slice(report);
+                mill_report_start(0, b"".as_ptr(), 0, 7, out.as_mut_ptr(), out.len())
+            }
             Job::ReportAdd(report, recording) => {
                 let (mut distances, mut mean) = (0, 0.0);
                 let (at, length, room) = (recording.as_ptr(), recording.len(), out.len());
