@@ -8,5 +8,6 @@ pub mod InTurn
 pub mod Thinning
 pub mod Reports
 pub mod LiveRuns
+pub mod Lines
 pub mod inner
 pub mod laws

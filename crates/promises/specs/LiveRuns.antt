@@ -12,7 +12,7 @@ use Rattle.marks.specs.Marks.{marksOf}
 use Rattle.entry.specs.Entry.{entryBytes}
 use Rattle.live_state.specs.Limits.{mostHeld, mostMoments}
 use Rattle.live_state.specs.State.{liveBytes}
-use Rattle.live.specs.History.{SetMoment, History, begun, unset, set, lastSet, keptOf, keptRun}
+use Rattle.live.specs.History.{History, begun, unset, set, lastSet, keptOf, keptRun}
 use Rattle.promises.specs.Conditions.{TableLine, _upon_, MarksOff, NoneMet, FirstMet}
 use Rattle.promises.specs.Page as call
 use Rattle.promises.specs.Page.{Effect, effect, writing, IsAnswer}

@@ -3,3 +3,5 @@ pub mod SameAnswers
 pub mod StandIn
 pub mod Made
 pub mod Machines
+pub mod LinesComputed
+pub mod OldRecordings

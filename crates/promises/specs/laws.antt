@@ -17,3 +17,9 @@ pub mod Thinning
 pub mod Reports
 pub mod LiveRuns
 pub mod Carried
+pub mod FormulasAsked
+pub mod MarkedLines
+pub mod TwoMasters
+pub mod AskedOfKept
+pub mod OldRecordings
+pub mod Lines

@@ -1,5 +1,5 @@
 -- Each call that carries bytes meets the page's contract where it meets that of the layer below.
-use Prim.Native.Nat.{ℕ, _<_}
+use Prim.Native.Nat.{ℕ}
 use native.Mathlib.Omega.{arith}
 use mathlib.Core.Path.{_≡_, refl, ap, _∙_}
 use mathlib.Core.List.{List, [], _∷_}
@@ -7,12 +7,12 @@ use lib.ListN.{length}
 use Rattle.refusal.specs.Outcome.{Outcome, result, refused, line}
 use Rattle.recording.specs.Recording.{readings, noRecord}
 use Rattle.entry.specs.inner.Reckoned.{reckoned}
-use Rattle.report.specs.Report.{MeanDegree, noMean, meanDegree, Naming, startReport, addBatch}
+use Rattle.report.specs.Report.{Naming, startReport, addBatch}
 use Rattle.report.specs.inner.Running.{Addition, none, stopped, further, last, figuresIn, answerIn}
 use Rattle.report_state.specs.State.{additionIn}
-use Rattle.report_state.specs.Call.{meanTold, answerTold, Starts, Adds}
+use Rattle.report_state.specs.Call.{answerTold, Starts, Adds}
 use Rattle.report_state.specs.laws.Add.{Fine, in-fine}
-use Rattle.reply.specs.Reply.{half, packed, InHalf, numberIn, lowIn}
+use Rattle.reply.specs.Reply.{packed, InHalf, numberIn, lowIn}
 use Rattle.reply.specs.laws.Unpacked.{number-refused, low-refused}
 use Rattle.boundary.specs.Boundary.{Writes}
 use Rattle.live_state.specs.State.{heldIn, noState}
@@ -27,7 +27,7 @@ use Rattle.promises.specs.Reports.{ReportLent}
 use Rattle.promises.specs.LiveRuns.{start, add, save, restore, read, entry, LiveLent}
 use Rattle.promises.specs.inner.Machines.{silent, reportMachine, liveMachine}
 use Rattle.promises.specs.laws.Computed.{Roomy, roomy, returns-writes}
-use Rattle.promises.specs.laws.Reports.{four, mean-half, told-name, told-add}
+use Rattle.promises.specs.laws.Reports.{mean-half, told-name, told-add}
 
 -- ---- the report calls
 

@@ -1,33 +1,32 @@
 -- A LIVE RUN tells by its history.
-use Prim.Native.Nat.{ℕ, suc, _*_, _+_, _≤_, _<_}
+use Prim.Native.Nat.{ℕ, _*_, _+_, _≤_, _<_}
 use native.Mathlib.Omega.{arith}
 use mathlib.Core.Path.{_≡_, refl, sym, ap, ap₂, subst, _∙_}
-use mathlib.Core.Bool.{Bool, true, false, So, not, cond, _||_, true≢false}
+use mathlib.Core.Bool.{Bool, true, false, So, not, cond, true≢false}
 use mathlib.Core.Logic.{_⊎_, inl, inr, ⊎-elim, _↔_}
-use mathlib.Core.List.{List, [], _∷_, _++_, map, List·Memᴰ, List·Memᴰ·head, List·Memᴰ·tail, List·Memᴰ·not-nil, List·Memᴰ·cases-cons}
+use mathlib.Core.List.{List, [], _∷_, _++_, map, List·Memᴰ, List·Memᴰ·head, List·Memᴰ·tail, List·Memᴰ·cases-cons}
 use lib.Dec.{eqb, ltb}
-use lib.ListN.{length, take, drop, getD}
+use lib.ListN.{length, drop, getD}
 use lib.Seq.{take-all}
 use lib.ListN.{length-drop}
-use borrow.Author.Tests.{eqb-true, eqb-false, ltb-false, ne-eqb, le-ltb, lt-ltb, not-true, not-false}
+use borrow.Author.Tests.{eqb-true, eqb-false, ltb-false, ne-eqb, le-ltb, not-true, not-false}
 use Rattle.number.specs.Words.{word, wordBytes}
 use Rattle.number.specs.laws.Boolean.{clash, by-test, none-left, none-right, or-none, then, either, so-or}
 use Rattle.number.specs.laws.Order.{less-or-not}
 use Rattle.refusal.specs.Outcome.{Outcome, result, refused, Line, line, judged}
-use Rattle.recording.specs.Recording.{Raw, concat, lawful, mostRecords}
-use Rattle.recording.specs.Output.{counted, outputLine}
+use Rattle.recording.specs.Recording.{Raw, concat, mostRecords}
+use Rattle.recording.specs.Output.{outputLine}
 use Rattle.recording.specs.laws.Record.{length-concat}
 use Rattle.recording.specs.laws.Outcome.{no-result, result-none}
 use Rattle.marks.specs.Marks.{marksOf, marksLine, AcceptedMarks}
-use Rattle.copying.specs.Put.{part, put}
+use Rattle.copying.specs.Put.{put}
 use Rattle.entry.specs.Entry.{entryBytes}
-use Rattle.entry.specs.inner.Reckoned.{reckoned}
-use Rattle.entry.specs.Call.{entryLines, entryOf}
+use Rattle.entry.specs.Call.{entryLines}
 use Rattle.entry.specs.laws.Reckoned.{length-reckoned}
 use Rattle.degree.specs.inner.Reach.{mapped}
 use Rattle.live_state.specs.Limits.{mostHeld, mostMoments}
-use Rattle.live_state.specs.State.{signature, liveBytes, heldIn, readCount, noState, started, ended}
-use Rattle.live_state.specs.laws.State.{is-state, ended-by, short-no-run}
+use Rattle.live_state.specs.State.{signature, liveBytes, heldIn, noState, started, ended}
+use Rattle.live_state.specs.laws.State.{ended-by, short-no-run}
 use Rattle.live.specs.History.{History, begun, Moment, unset, set, lastSet, keptOf, keptRun, badName, isSet, backTo, withStep, stepLines, outcome, goesOn, after, told, readOut}
 use Rattle.live.specs.History as step
 use Rattle.live.specs.Call.{addOf, saveOf, restoreOf, stepOf, stateAfter, startOf, startAfter, heldOf, addLines, Behind}
@@ -42,11 +41,10 @@ use Rattle.refinement.specs.laws.Run.{kept-concat, kept-sixteen, taken-accepted
 use Rattle.refinement.specs.laws.State.{a-state}
 use Rattle.refinement.specs.laws.Start.{started-represents, ended-none}
 use Rattle.refinement.specs.laws.Follow.{step-followed, read-followed, short-none, other-none, none-answers, none-read-out, same-marks}
-use Rattle.promises.specs.Conditions.{TableLine, _upon_, MarksOff, NoneMet, FirstMet}
+use Rattle.promises.specs.Conditions.{TableLine, _upon_, NoneMet, FirstMet}
 use Rattle.promises.specs.laws.Conditions.{AsTable, Agree, Agrees, agrees, _⊳_, done, judged-told, first-met, so-eq, so-lt, so-none}
 use Rattle.promises.specs.laws.Rows.{off-marks}
-use Rattle.promises.specs.Page as call
-use Rattle.promises.specs.Page.{Effect, effect, writing, IsAnswer, behind, Returns}
+use Rattle.promises.specs.Page.{Effect, effect, writing, behind}
 use Rattle.promises.specs.laws.Acceptance.{accepted-table}
 use Rattle.promises.specs.laws.Computed.{entry-answers}
 use Rattle.promises.specs.laws.Page.{one-answer, same-refusal, at-0, Single}

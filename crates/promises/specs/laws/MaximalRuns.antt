@@ -1,7 +1,7 @@
 -- Every set has its maximal runs, and no others; they are those that are written.
-use Prim.Native.Nat.{ℕ, suc, _+_, _*_, _-_, _≤_, _<_}
+use Prim.Native.Nat.{ℕ, suc, _+_, _-_, _≤_, _<_}
 use native.Mathlib.Omega.{arith}
-use mathlib.Core.Path.{_≡_, refl, sym, ap, ap₂, subst, _∙_}
+use mathlib.Core.Path.{_≡_, refl, sym, ap, ap₂, _∙_}
 use mathlib.Core.Bool.{Bool, true, false, _||_, _&&_, true≢false, false≢true}
 use mathlib.Core.Logic.{_⊎_, inl, inr, ⊎-elim, _↔_}
 use mathlib.Core.List.{List, [], _∷_, _++_}
@@ -14,9 +14,9 @@ use Rattle.number.specs.Axis.{axis, whole}
 use Rattle.meaning.specs.laws.Whole.{stands-whole, le-index}
 use Rattle.number.specs.Words.{bits, wordBytes}
 use Rattle.number.specs.laws.Boolean.{then}
-use Rattle.number.specs.laws.Order.{less-or-not, true-or-false}
-use Rattle.runs.specs.Runs.{runCount, lows, runBytes, setBytes}
-use Rattle.runs.specs.Set.{Ascending, Canonical, inside}
+use Rattle.number.specs.laws.Order.{less-or-not}
+use Rattle.runs.specs.Runs.{runCount, runBytes, setBytes}
+use Rattle.runs.specs.Set.{Ascending, inside}
 use Rattle.runs.specs.laws.Cuts.{before-run, in-run, behind-run, rest-outside, rest-ended, lone, none, lowCuts, highCuts}
 use Rattle.runs.specs.laws.Runs.{lows-are, cuts-bytes, cutsFrom, has-cuts, has-cuts-inside}
 use Rattle.promises.specs.MaximalRuns.{Interval, Separate, Covered, MaximalRuns, runsBytes}

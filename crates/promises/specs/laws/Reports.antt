@@ -7,7 +7,6 @@ use mathlib.Core.List.{List, [], _∷_, _++_, map}
 use lib.Dec.{eqb, ltb}
 use lib.IntN.{ℤ}
 use lib.ListN.{length, drop}
-use lib.Ieee.{binary64, toBits}
 use borrow.Author.Tests.{eqb-true, eqb-false, ltb-true, ltb-false}
 use Rattle.number.specs.Axis.{axis}
 use Rattle.refusal.specs.Outcome.{Outcome, result, refused}
@@ -22,21 +21,20 @@ use Rattle.text.specs.Told.{textLines}
 use Rattle.meaning.specs.inner.Coded.{index}
 use Rattle.question.specs.Question.{read, answer, setLines}
 use Rattle.question.specs.laws.Lines.{read-reads}
-use Rattle.degree.specs.Degree.{Value, Reach, away, nowhere, reachIn, valued, targetLine, degreeLines, nearnessOf, reachOf}
+use Rattle.degree.specs.Degree.{Value, Reach, away, nowhere, reachIn, valued, targetLine, degreeLines, reachOf}
 use Rattle.degree.specs.Nearest.{Member, Distance}
 use Rattle.degree.specs.inner.Reach.{mapped}
 use Rattle.degree.specs.laws.Nearest.{on-axis}
 use Rattle.degree.specs.laws.Reach.{nearness-valued}
 use Rattle.mean.specs.Mean.{AtMost}
 use Rattle.mean.specs.laws.Near.{mean-near}
-use Rattle.report.specs.Report.{metIn, emptyIn, distancesIn, sumIn, meanIn, MeanDegree, noMean, meanDegree, Figures, figuresOf, Naming, mostBatches, namingLines, Stage, closed, underWay, ReportCall, startReport, addBatch, openedBy, batchAnswer, onward, answered, stageAfter, reportAnswers}
+use Rattle.report.specs.Report.{metIn, emptyIn, distancesIn, sumIn, meanIn, MeanDegree, noMean, meanDegree, Figures, figuresOf, Naming, mostBatches, namingLines, Stage, closed, underWay, ReportCall, startReport, addBatch, openedBy, batchAnswer, onward, answered, stageAfter}
 use Rattle.report.specs.Report as report
 use Rattle.marks.specs.Marks.{marksOf}
 use Rattle.thin.specs.Selection.{Selection}
 use Rattle.report.specs.laws.Steps.{AllSmall, small-more, small-most, length-more}
 use Rattle.report.specs.laws.Fold.{Lawful, stage-lawful}
 use Rattle.report_state.specs.Call.{meanTold, answerTold, bitsAfter, ReportTold}
-use Rattle.report_state.specs.Calls.{Made, madeStart, madeAdd, callOf, ReportReturned, ReportCallsMade, AllReturnedAs}
 use Rattle.reply.specs.Reply.{half, packed, InHalf, numberIn, lowIn}
 use Rattle.reply.specs.laws.Unpacked.{number-refused, low-refused}
 use Rattle.reply.specs.laws.Place.{plain-place}
@@ -66,15 +64,14 @@ use Rattle.report_state.specs.laws.Start.{named-mapped}
 use Rattle.report_state.specs.laws.Read.{too-short, other-head, stateless-none}
 use Rattle.report_state.specs.laws.Add.{Fine, in-fine, handed, handed-judged}
 use Rattle.report_state.specs.laws.Behind.{start-behind, add-behind}
-use Rattle.promises.specs.Conditions.{NoneMet, FirstMet}
-use Rattle.promises.specs.Page.{Place, put, unchanged, degree, Effect, effect, Leaves, behind, is-put, is-unchanged, Returns, AtIndex, Right}
+use Rattle.promises.specs.Page.{put, degree, Effect, effect, behind, is-put, is-unchanged, Returns, AtIndex, Right}
 use Rattle.promises.specs.KeptAsFull.{AcceptedRecording, Askable}
 use Rattle.promises.specs.InTurn.{Exchange, InTurn, no-call, and-then, ByHistory, told-none, told-then, Transition, Carries, HoldsNone}
 use Rattle.promises.specs.Reports.{FarFrom, at-distance, no-member, reportOf, MeanWithin, namingRefusals, ReportStep, named, not-named, no-report, stopped, taken, given, ReportLent, IsNaming, a-naming, reportNumbers, AskedIn, Reports}
 use Rattle.promises.specs.inner.Machines.{meanPlace, shown, reportMachine}
 use Rattle.promises.specs.laws.InHalf.{degree-in-half}
 use Rattle.boundary.specs.Boundary.{valueTold}
-use Rattle.promises.specs.laws.Conditions.{AsTable, judged-told, first-met, agrees, _⊳_, done, so-eq, so-lt}
+use Rattle.promises.specs.laws.Conditions.{AsTable, judged-told, first-met}
 use Rattle.promises.specs.laws.Rows.{in-its-place, answer-is, agree-naming}
 use Rattle.promises.specs.laws.Acceptance.{accepted-lines}
 use Rattle.promises.specs.laws.Selected.{selected-as-full}
