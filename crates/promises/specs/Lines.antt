@@ -77,7 +77,6 @@ abbrev pub bytesOfRuns : List Run → List ℕ
 bytesOfRuns [] = []
 bytesOfRuns (x ∷ l) = (wordBytes (bits (x .low)) ++ wordBytes (bits (x .high))) ++ bytesOfRuns l
 
-
 -- the bytes are written, or 10 where the output is shorter
 abbrev pub writtenIn : (room : ℕ) → List ℕ → Outcome Effect
 writtenIn room b = cond (ltb room (length b)) (refused 10 0) (result (writing b))

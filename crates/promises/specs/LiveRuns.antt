@@ -105,6 +105,5 @@ pub record LiveRuns (m : Machine LiveCall) : Type 0 where
   -- any bytes: which hold a run, what a refusal leaves, and by which numbers
   pub any-bytes : OfAnyBytes m IsStart liveBytes 11
   pub refused-stays : (b : List ℕ) (c : LiveCall) (room n p : ℕ) → ¬ IsStart c → m b c room .outcome ≡ refused n p → m b c room .state ≡ b
-  pub only-read : (b : List ℕ) (room : ℕ) → (m b read room .state ≡ b) × (m b entry room .state ≡ b)
   pub listed : (b : List ℕ) (c : LiveCall) (room n p : ℕ) → m b c room .outcome ≡ refused n p
       → (s : LiveStage) → List·Memᴰ n (map (λ (l : TableLine). l .number) (liveRefusals (length b) s c room))

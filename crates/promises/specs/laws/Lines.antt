@@ -149,10 +149,31 @@ band-today {text} {g} (answers n (two-sets q certain possible reads mc mp lc lp)
       ap (λ (p : List Interval). effect (length certain + 2 * length p) (ends certain ++ ends p)) same,
       λ room h. answers (
         n .0,
-        (n .1 .0, (n .1 .1 .0, (n .1 .1 .1 .0, (n .1 .1 .1 .1 .0, (n .1 .1 .1 .1 .1 .0, (n .1 .1 .1 .1 .1 .1 .0, (
-          (λ p k. n .1 .1 .1 .1 .1 .1 .1 .1 .0 0 (refl, (listed q, reads, λ o. no-nine (readings g) q o (subst (TooManyTops (readings g)) (same-text text (k .1 .0) (listed q) (k .1 .1) reads) (k .1 .2))))),
-          ((λ p k. no-eight g text q certain reads set lc (k .1 .0) (k .1 .1) (k .1 .2)),
-          ((λ p k. let l = one-set g text q certain reads set lc (k .1 .0) (k .1 .1) (k .1 .2 .0) (k .1 .2 .1) in let m = k .1 .2 .2 in omega arith), tt)))))))))
+        (
+          n .1 .0,
+          (
+            n .1 .1 .0,
+            (
+              n .1 .1 .1 .0,
+              (
+                n .1 .1 .1 .1 .0,
+                (
+                  n .1 .1 .1 .1 .1 .0,
+                  (
+                    n .1 .1 .1 .1 .1 .1 .0,
+                    (
+                      (λ p k. n .1 .1 .1 .1 .1 .1 .1 .1 .0 0 (refl, (listed q, reads, λ o. no-nine (readings g) q o (subst (TooManyTops (readings g)) (same-text text (k .1 .0) (listed q) (k .1 .1) reads) (k .1 .2))))),
+                      (
+                        (λ p k. no-eight g text q certain reads set lc (k .1 .0) (k .1 .1) (k .1 .2)),
+                        ((λ p k. let l = one-set g text q certain reads set lc (k .1 .0) (k .1 .1) (k .1 .2 .0) (k .1 .2 .1) in let m = k .1 .2 .2 in omega arith), tt),
+                      ),
+                    ),
+                  ),
+                ),
+              ),
+            ),
+          ),
+        ),
       ) (the-set certain reads set),
     )
 

@@ -532,7 +532,6 @@ live-runs = record {
     refusal-ends = any-ends;
   };
   refused-stays = refused-stays;
-  only-read = λ b room. (refl, refl);
   listed = listed-number;
 }
   where
