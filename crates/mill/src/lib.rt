@@ -6,7 +6,7 @@ ghost use Rattle.promises.specs.Page as call;
 ghost use Rattle.promises.specs.Page.{Complete};
 ghost use Rattle.promises.specs.InTurn.{made, Carries};
 ghost use Rattle.promises.specs.Reports.{ReportLent};
-ghost use Rattle.promises.specs.LiveRuns as run;
+ghost use Rattle.promises.specs.LiveCalls as run;
 ghost use Rattle.promises.specs.LiveRuns.{LiveLent};
 ghost use Rattle.promises.specs.inner.Machines.{reportMachine, liveMachine};
 

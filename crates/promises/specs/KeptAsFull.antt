@@ -4,20 +4,18 @@
 use Prim.Native.Nat.{ℕ, _*_, _≤_}
 use mathlib.Core.Path.{_≡_}
 use mathlib.Core.Logic.{_↔_}
-use mathlib.Core.List.{List, map, List·Memᴰ}
+use mathlib.Core.List.{List, List·Memᴰ}
 use lib.ListN.{length}
 use Rattle.refusal.specs.Outcome.{Outcome}
 use Rattle.recording.specs.Recording.{readings}
 use Rattle.grammar.specs.Bytes.{bytes}
 use Rattle.grammar.specs.Syntax.{Text}
 use Rattle.grammar.specs.Grammar.{ReadsWhole}
-use Rattle.grammar.specs.Size.{afterTimes}
-use Rattle.meaning.specs.Alike.{markIndex}
 use Rattle.kept.specs.Kept.{mostKept}
 use Rattle.marks.specs.Marks.{marksOf}
 use Rattle.thin.specs.Thin.{keptBytes}
 use Rattle.thin.specs.Selection.{Selection}
-use Rattle.promises.specs.Conditions.{recordingTable, textTable, NoneMet}
+use Rattle.promises.specs.Conditions.{recordingTable, textTable, Marked, NoneMet}
 use Rattle.promises.specs.Page.{Call, question, degree, pair, thin, band, order, entry, find, labQuestion, labDegree, labPair, version, Effect, Right}
 
 -- "A recording is accepted if none of 1 to 3 meets it"
@@ -27,7 +25,7 @@ AcceptedRecording g = NoneMet (recordingTable g)
 -- "every question whose text writes none of F, G, X, U and W, and whose after-times are among the marks"
 pub record AskedOfKept (marks text : List ℕ) : Type 0 where
   pub none-written : (b : ℕ) → List·Memᴰ b (bytes "FGXUW") → ¬ List·Memᴰ b text
-  pub marked : (t : Text) → ReadsWhole text t → (k : ℕ) → List·Memᴰ k (afterTimes t) → List·Memᴰ k (map markIndex (marksOf marks))
+  pub marked : (t : Text) → ReadsWhole text t → Marked (marksOf marks) t
 
 -- a text that 5, 6 or 7 refuses is refused alike, whatever it writes
 abbrev pub Askable : (marks text : List ℕ) → Type 0

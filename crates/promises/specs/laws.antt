@@ -2,6 +2,7 @@ pub mod InHalf
 pub mod MaximalRuns
 pub mod Conditions
 pub mod Found
+pub mod Nodes
 pub mod Rows
 pub mod Observation
 pub mod Operator

@@ -48,6 +48,7 @@ use Rattle.recording.specs.laws.Acceptance.{accepted-sound}
 use Rattle.thin.specs.laws.Selection.{kept-selection, whole-selection, selection-accepted}
 use Rattle.meaning.specs.Alike.{Plain}
 use Rattle.kept.specs.laws.Mark.{isMark, rule-marks}
+use Rattle.promises.specs.laws.Nodes.{marked-times}
 use Rattle.promises.specs.laws.Operator.{unwritten-propositional}
 use Rattle.promises.specs.laws.Acceptance.{accepted-lines, accepted-table}
 use Rattle.promises.specs.laws.Rows.{agree-text}
@@ -64,7 +65,7 @@ use Rattle.number.specs.laws.Boolean.{same, or-left, or-right, or-cases}
 -- ---- the condition on texts
 
 pub asked-plain : (marks text : List ℕ) → AskedOfKept marks text → (t : Text) → ReadsWhole text t → Plain (marksOf marks) t
-asked-plain marks text l t r = record { propositional = unwritten-propositional text t r (l .none-written); marked = l .marked t r }
+asked-plain marks text l t r = record { propositional = unwritten-propositional text t r (l .none-written); marked = marked-times (marksOf marks) t .0 (l .marked t r) }
 
 pub askable-plain : (marks text : List ℕ) → Askable marks text → NoneMeets (textLines text) → (t : Text) → ReadsWhole text t → Plain (marksOf marks) t
 askable-plain marks text l n t r =
