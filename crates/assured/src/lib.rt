@@ -1,0 +1,1 @@
+// Which texts the kept readings answer as the recording did.
