@@ -6,3 +6,6 @@ pub mod Even
 pub mod Firstly
 pub mod Same
 pub mod Test
+pub mod Traits
+pub mod Row
+pub mod Call

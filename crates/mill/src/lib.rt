@@ -1,5 +1,5 @@
 // The C boundary of the library.
-ghost use Rattle.mill.specs.Calls.{QuestionCall, DegreeCall, PairCall, ThinCall, BandCall, OrderCall, LabQuestionCall, LabDegreeCall, LabPairCall, ReportStartCall, ReportAddCall, LiveStartCall, LiveAddCall, LiveSaveCall, LiveRestoreCall, LiveKeptCall, LiveEntryCall, EntryCall, FindCall};
+ghost use Rattle.mill.specs.Calls.{QuestionCall, DegreeCall, PairCall, ThinCall, BandCall, OrderCall, LabQuestionCall, LabDegreeCall, LabPairCall, ReportStartCall, ReportAddCall, LiveStartCall, LiveAddCall, LiveSaveCall, LiveRestoreCall, LiveKeptCall, LiveEntryCall, EntryCall, FindCall, AssuredCall};
 
 // THE QUESTION CALL. Returns how many bytes of the output the answered set takes, or the refusal.
 #[no_mangle]
@@ -217,4 +217,13 @@ pub extern "C" fn mill_find(entries: &[u8], curve: u32, level: i64, out: &mut [u
 {
     let written = listing::find(entries, curve, level, out);
     reply::written(written)
+}
+
+// THE ASSURED CALL. Returns 1 where kept readings answer the text as the recording did, under these marks, 0 where nothing is promised, or the refusal.
+#[no_mangle]
+pub extern "C" fn mill_assured(text: &[u8], marks: &[u8]) -> u64
+    ensures { λ r. ⌜ AssuredCall (now (text .entry)) (now (marks .entry)) r ⌝ }
+{
+    let verdict = assured::assured(text, marks);
+    assured::tell(verdict)
 }
