@@ -13,4 +13,5 @@ pub mod MarkedLines
 pub mod OldRecordings
 pub mod LiveRuns
 pub mod LiveEntry
+pub mod Assured
 pub mod laws

@@ -24,3 +24,6 @@ pub mod AskedOfKept
 pub mod BandToday
 pub mod LiveRuns
 pub mod LiveEntry
+pub mod Joined
+pub mod Assured
+pub mod AssuredPage

@@ -37,7 +37,7 @@ use Rattle.promises.specs.laws.Demand2.{stood-told, stood-fixed, written
 
 -- ---- DEMAND 3: kept readings in the place of the recording
 
-asked-plain : (marks text : List ℕ) → AskedOfKept marks text → (t : Text) → ReadsWhole text t → Plain (marksOf marks) t
+pub asked-plain : (marks text : List ℕ) → AskedOfKept marks text → (t : Text) → ReadsWhole text t → Plain (marksOf marks) t
 asked-plain marks text l t r = record { propositional = unwritten-propositional text t r (l .none-written); marked = l .marked t r }
 
 -- a stand-in is in the recording's place for every such text
@@ -110,15 +110,19 @@ same-written recording text {out} e w w′ =
     writes-alike (ap (questionOf recording text) e) (question-in-half recording text (length out))
     (told-numbered ws (counted o) (told-counted ws o (question-told recording text (length out)))) w w′
 
--- "the same set in the same bytes, or the same refusal": of every selection that includes the kept readings
-pub like-full : (marks : List ℕ) → AcceptedMarks marks → {recording held text : List ℕ} → Accepted recording → Selection (marksOf marks) recording held → AskedOfKept marks text
-    → {out out′ : List ℕ} → length out ≡ length out′ → {r r′ : ℕ} {after after′ : List ℕ} → QuestionCall held text out r after
+-- "the same set in the same bytes, or the same refusal", and it is right: of two calls on the recording, or on what answers as it does, whose outputs have one length
+pub same-full : {recording text out out′ : List ℕ} → length out ≡ length out′ → {r r′ : ℕ} {after after′ : List ℕ} → QuestionCall recording text out r after
     → QuestionCall recording text out′ r′ after′ → LikeFull recording text out out′ r r′ after after′
-like-full marks fine {recording} {held} {text} a s l {out} {out′} e {r} {r′} {after} {after′} w w′ =
-    let v = selected-question marks recording held fine a s l w in
-    let k = same-written recording text e v w′ in
+same-full {recording} {text} {out} {out′} e {r} {r′} {after} {after′} w w′ =
+    let k = same-written recording text e w w′ in
     record {
       same = k .0;
       same-bytes = k .1;
-      right = record { refusal = demand-1 .of-question recording text v .result-or-refusal; set = λ z. written-set recording text out r after v z };
+      right = record { refusal = demand-1 .of-question recording text w .result-or-refusal; set = λ z. written-set recording text out r after w z };
     }
+
+-- of every selection that includes the kept readings
+pub like-full : (marks : List ℕ) → AcceptedMarks marks → {recording held text : List ℕ} → Accepted recording → Selection (marksOf marks) recording held → AskedOfKept marks text
+    → {out out′ : List ℕ} → length out ≡ length out′ → {r r′ : ℕ} {after after′ : List ℕ} → QuestionCall held text out r after
+    → QuestionCall recording text out′ r′ after′ → LikeFull recording text out out′ r r′ after after′
+like-full marks fine {recording} {held} a s l e w w′ = same-full e (selected-question marks recording held fine a s l w) w′
