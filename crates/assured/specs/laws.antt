@@ -9,3 +9,4 @@ pub mod Test
 pub mod Traits
 pub mod Row
 pub mod Call
+pub mod Texts
