@@ -5,9 +5,8 @@ ghost use lib.ListN.{length};
 ghost use Rattle.refusal.specs.Outcome.{judged};
 ghost use Rattle.reply.specs.Reply.{packed, InHalf};
 ghost use Rattle.grammar.specs.inner.Table.{treeAt, Falling};
-ghost use Rattle.marks.specs.Marks.{marksOf, marksLine};
+ghost use Rattle.marks.specs.Marks.{marksOf};
 ghost use Rattle.assured.specs.Call.{told, assuredOf};
-ghost use Rattle.assured.specs.inner.Test.{isAssured};
 ghost use Rattle.assured.specs.inner.Traits as spec;
 ghost use Rattle.assured.specs.inner.Verdict.{verdictOf, Judges};
 

@@ -15,7 +15,7 @@ use Rattle.thin.specs.Selection.{Selection}
 use Rattle.lab.specs.Lab.{LaboratoryText}
 use Rattle.report.specs.Report.{Naming}
 use Rattle.report_state.specs.Calls.{Made, madeStart, ReportReturned, ReportCallsMade, Exchanged}
-use Rattle.live.specs.History.{History, begun, keptRun}
+use Rattle.live.specs.History.{begun, keptRun}
 use Rattle.reply.specs.Reply.{numberIn, lowIn}
 use Rattle.assured.specs.Assured.{Assured}
 use Rattle.mill.specs.Calls.{QuestionCall, DegreeCall, BandCall, LiveStartCall, AssuredCall}

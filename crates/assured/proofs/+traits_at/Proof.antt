@@ -1,6 +1,5 @@
 -- The traits of a node come from those of its children, whose numbers are smaller.
 use Prim.Native.Nat.{ℕ, _<_}
-use mathlib.Core.Path.{refl}
 use native.Mathlib.Omega.{arith}
 use borrow.Author.Needs.{needs}
 use borrow.Fn.Kinds.{In}

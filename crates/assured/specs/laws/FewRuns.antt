@@ -10,7 +10,7 @@ use Rattle.number.specs.Axis.{axis}
 use Rattle.number.specs.laws.Boolean.{or-cases, or-none, none-left, none-right, and-left, and-right, and-make}
 use Rattle.runs.specs.Runs.{startsAt, mostRuns}
 use Rattle.grammar.specs.Size.{temporal, hasListed, nodes, mostNodes}
-use Rattle.grammar.specs.Syntax.{of, Relation, ge, le, gt, lt, eq, v, number, Atom, compare, A-to-B, fall, rise, pigment, Text, atom, listed, or, and, neg, finally, globally, next, until, weakUntil}
+use Rattle.grammar.specs.Syntax.{Relation, ge, le, gt, lt, eq, v, number, Atom, compare, A-to-B, fall, rise, pigment, Text, atom, listed, or, and, neg, finally, globally, next, until, weakUntil}
 use Rattle.meaning.specs.inner.Coded.{Coded, codedFalls, codedRises, codedAdds}
 use Rattle.meaning.specs.inner.Truth.{codedField, relate, atomVal, lastCoded, codedAt, finallyFrom, globallyFrom, untilFrom, weakFrom, val, runsAt, largeAt, someNode, overAt}
 use Rattle.meaning.specs.laws.Run.{starts, run-count, starts-ext, Convex, Up, Down, up-convex, down-convex, const-convex, point-convex, and-convex, or-up, and-up, or-down, ray-up, ray-down, convex-runs}

@@ -4,12 +4,12 @@ use native.Mathlib.Nat.{le-refl}
 use mathlib.Core.Path.{_≡_, refl, sym, ap, _∙_, subst, fun-ext}
 use mathlib.Core.Bool.{Bool, true, false, _&&_, _||_, not, So, true≢false, false≢true}
 use mathlib.Core.Logic.{_⊎_, inl, inr, ⊎-elim, _↔_}
-use mathlib.Core.List.{List, [], _∷_, map, List·Memᴰ, List·Memᴰ·head, List·Memᴰ·tail}
+use mathlib.Core.List.{List, [], _∷_, List·Memᴰ, List·Memᴰ·head, List·Memᴰ·tail}
 use lib.IntN.{ℤ}
 use lib.Dec.{ltb, eqb}
 use lib.Signed.{leZ, ltZ}
 use borrow.Author.Tests.{eqb-true, not-true, not-false}
-use Rattle.number.specs.laws.Boolean.{same, or-left, or-right, or-cases, and-left, and-right, then, back, either, both, so-and, so-or, so-not}
+use Rattle.number.specs.laws.Boolean.{or-left, or-right, or-cases, and-left, and-right, then, back, either, both, so-and, so-or, so-not}
 use Rattle.number.specs.laws.Words.{leZ-not-ltZ}
 use Rattle.recording.specs.Condition.{someOf}
 use Rattle.recording.specs.Reading.{Reading, Curve, value}

@@ -10,7 +10,7 @@ use Rattle.number.specs.laws.Boolean.{clash, or-cases, and-left, and-right, the
 use Rattle.recording.specs.Condition.{pick}
 use Rattle.recording.specs.Reading.{Reading, Event, event, a-top}
 use Rattle.tops.specs.Tops.{mostTops}
-use Rattle.grammar.specs.Size.{temporal, hasListed, nodes, mostNodes}
+use Rattle.grammar.specs.Size.{temporal, nodes, mostNodes}
 use Rattle.grammar.specs.Syntax.{Text}
 use Rattle.meaning.specs.Alike.{Same}
 use Rattle.meaning.specs.Overfull.{Overfull, TooManyTops}

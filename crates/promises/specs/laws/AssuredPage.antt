@@ -5,14 +5,12 @@ use mathlib.Core.Path.{_≡_, refl, sym, ap, subst, _∙_}
 use mathlib.Core.Bool.{Bool, true, false, cond}
 use mathlib.Core.Logic.{_⊎_, inl, inr, ⊎-elim, _↔_}
 use mathlib.Core.List.{List, [], _∷_}
-use lib.Dec.{eqb}
 use lib.ListN.{length}
 use borrow.Author.Tests.{eq-eqb}
-use Rattle.number.specs.laws.Boolean.{clash, then}
+use Rattle.number.specs.laws.Boolean.{then}
 use Rattle.refusal.specs.Outcome.{Outcome, result, refused, NoneMeets}
 use Rattle.recording.specs.Recording.{concat, Accepted}
 use Rattle.recording.specs.laws.Outcome.{result-none, none-append}
-use Rattle.grammar.specs.Syntax.{Text}
 use Rattle.text.specs.Told.{textLines}
 use Rattle.question.specs.Question.{read}
 use Rattle.question.specs.laws.Lines.{read-reads, reads-read}
@@ -26,7 +24,7 @@ use Rattle.degree.specs.Degree.{reachOf}
 use Rattle.live.specs.History.{History, begun, keptRun}
 use Rattle.refinement.specs.laws.Follow.{same-marks}
 use Rattle.reply.specs.Reply.{numberIn, lowIn, unpacked}
-use Rattle.reply.specs.laws.Unpacked.{Numbered, unpacked-packed}
+use Rattle.reply.specs.laws.Unpacked.{unpacked-packed}
 use Rattle.boundary.specs.Boundary.{Writes}
 use Rattle.boundary.specs.laws.Boundary.{degrees-same, bands-same}
 use Rattle.lab.specs.Lab.{LaboratoryText}
@@ -38,8 +36,8 @@ use Rattle.assured.specs.laws.Test.{assured-test}
 use Rattle.mill.specs.Calls.{QuestionCall, AssuredCall}
 use Rattle.promises.specs.Assured.{assuredRefusals, AssuredTold, AssuredText, AnswersAs, AnsweredAsFull, AssuredOrFull, AssuredPage}
 use Rattle.promises.specs.CallsMade.{Returned, CallsMade, heldAt, takenFrom}
-use Rattle.promises.specs.Demands.{AskedOfKept, RightOf}
-use Rattle.promises.specs.LiveRuns.{LiveCall, step, LiveReturned, liveNext, LiveCallsMade, historyNext, historyAfter, AsTheHistory}
+use Rattle.promises.specs.Demands.{RightOf}
+use Rattle.promises.specs.LiveRuns.{LiveCall, LiveReturned, liveNext, historyNext, historyAfter, AsTheHistory}
 use Rattle.promises.specs.LiveRuns as live
 use Rattle.promises.specs.Table.{ReadWith, questionTable}
 use Rattle.promises.specs.laws.Table.{AsTable, agrees, Agree, done, _⊳_, judged-told}
