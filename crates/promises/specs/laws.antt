@@ -8,6 +8,8 @@ pub mod Observation
 pub mod Operator
 pub mod StandIn
 pub mod Selected
+pub mod Joined
+pub mod Assured
 pub mod Computed
 pub mod Page
 pub mod Acceptance

@@ -50,6 +50,7 @@ use Rattle.sheet.specs.Sheet.{mostLines, noPigment, badSheet}
 use Rattle.sheet.specs.Call.{orderLines}
 use Rattle.lab.specs.Lab.{curveLine, askerLines, labAskingLines}
 use Rattle.lab.specs.laws.Laboratory.{fourteen-text}
+use Rattle.assured.specs.Call.{assuredLines}
 use Rattle.entry.specs.Entry.{entryBytes}
 use Rattle.entry.specs.Call.{entryLines}
 use Rattle.entry.specs.laws.Reckoned.{length-reckoned}
@@ -59,7 +60,7 @@ use Rattle.promises.specs.laws.MaximalRuns.{runs, runs-maximal, runs-man
 use Rattle.promises.specs.Conditions.{WithoutRecord, TopsOfCurveOver, recordingTable, ReadWith, OpenTooDeep, TextOver, TooManyRuns, RunsOver, TopsOver, SetLonger, MarksOff, TargetBad, SheetBad, NotLaboratory, LaboratoryText, BandBad, OneExtreme, TableLine, _upon_, textTable, askingTable}
 use Rattle.report.specs.Report.{Naming, mostBatches, reportBytes, namingLines}
 use Rattle.promises.specs.Reports.{namingRefusals}
-use Rattle.promises.specs.Page.{question, degree, pair, thin, band, order, entry, find, labQuestion, labDegree, labPair, refusals}
+use Rattle.promises.specs.Page.{question, degree, pair, thin, band, order, entry, find, labQuestion, labDegree, labPair, assured, refusals}
 use Rattle.promises.specs.laws.Nodes.{laboratory-text}
 use Rattle.promises.specs.laws.Found.{found-longer}
 use Rattle.promises.specs.laws.Conditions.{agrees, Agree, done, next, _⊳_, so-eq, so-lt, so-none, agree-recording}
@@ -371,3 +372,8 @@ pub agree-naming : (n : Naming) (size : ℕ) → Agree (namingLines n size) (nam
 agree-naming n size =
     agrees 15 refl (so-either (so-eq (n .count) 0) (so-lt mostBatches (n .count)))
     ⊳ agree-text (n .text) (λ sized. agrees 12 refl (off-axis (n .target)) ⊳ agrees 10 refl (so-lt size reportBytes) ⊳ done)
+
+-- ---- the assured call
+
+pub agree-assured : (text marks : List ℕ) (room : ℕ) → Agree (assuredLines text marks) (refusals (assured marks) text room)
+agree-assured text marks room = agree-text text (λ sized. agrees 11 refl (off-marks marks) ⊳ done)
