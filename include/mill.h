@@ -105,22 +105,22 @@
 ** setting up before mill_report_start and mill_live_start, and no freeing. They must
 ** not overlap an input or an output.
 **
-** Bytes hold a report if they are as many, begin as a naming leaves them, and all that
-** they say is in its range, the text too: a report that was given or stopped is held
-** no more. Bytes hold a run if they are as many, begin as a start leaves them, and
-** have accepted marks and counts within their limits. Bytes that are too few, all zero
-** or all 255 hold neither. Of bytes that hold none a call says MILL_NO_REPORT or
-** MILL_BAD_MARKS. Other bytes that no call left there do no harm: a call answers with
-** a result or a refusal of its list, and touches nothing else.
+** Bytes hold a report if they are at least as many, begin as a naming leaves them, and
+** all that they say is in its range, the text too: a report that was given or stopped
+** is held no more. Bytes hold a run if they are at least as many, begin as a start
+** leaves them, and have accepted marks and counts within their limits. Bytes that are
+** too few, all zero or all 255 hold neither. Of bytes that hold none a call says
+** MILL_NO_REPORT or MILL_BAD_MARKS. Other bytes that no call left there do no harm: a
+** call answers with a result or a refusal of its list, and touches nothing else.
 **
 ** They may be stored, and read by another program. The first four bytes name what
 ** they are, the format, and the rule by which readings are kept. A library with
 ** another format or another rule finds no report and no run in them; so does this one
 ** in those of version 1.0, which name neither. A program then begins anew: it names
 ** the report and hands in its recordings from the first, or starts a run and adds its
-** readings. So it keeps these until the report is given or the run is thinned. Bytes
-** that no call writes stay as the caller's memory was: clear it before the start where
-** others will read what is stored.
+** readings. So it keeps these until the report is given, or what the run holds is read
+** out and stored. Bytes that no call writes stay as the caller's memory was: clear it
+** before the start where others will read what is stored.
 **
 ** A null pointer with length 0 serves as an empty input or an empty output.
 ** This is tested, and it is not part of what is proved. distance, degree,
