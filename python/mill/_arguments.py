@@ -14,8 +14,18 @@ from . import _header as header
 from ._library import Call
 from ._stack import run
 
+
+class Holder:
+    """A class over a buffer: where a buffer is asked for, it stands for that one."""
+
+    __slots__ = ("_buffer",)
+    _buffer: Any
+
+
 if TYPE_CHECKING:
-    from typing_extensions import Buffer
+    from _typeshed import ReadableBuffer
+
+    Buffer = Union[ReadableBuffer, Holder]
 elif sys.version_info >= (3, 12):
     from collections.abc import Buffer
 else:
@@ -54,13 +64,6 @@ _get_buffer.argtypes = (ctypes.py_object, ctypes.c_void_p, ctypes.c_int)
 _release_buffer = ctypes.pythonapi.PyBuffer_Release
 _release_buffer.argtypes = (ctypes.c_void_p,)
 _release_buffer.restype = None
-
-
-class Holder:
-    """A class over a buffer: where a buffer is asked for, it stands for that one."""
-
-    __slots__ = ("_buffer",)
-    _buffer: Any
 
 
 class Lent:

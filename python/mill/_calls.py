@@ -7,7 +7,7 @@ from typing import NamedTuple, Optional
 from . import _header as header
 from ._arguments import Buffer, Marks, Sheet, Text, in_place, mark_bytes, sheet_bytes, signed, text_bytes, unsigned
 from ._library import library
-from ._outputs import Out32, OutDouble, OutSigned32, SetRoom, thinned_room
+from ._outputs import Out32, OutDouble, OutSigned32, SetRoom, thinned_room, written
 from ._refusal import result
 from ._sets import Run, Set
 from ._stack import run
@@ -98,7 +98,7 @@ def question(recording: Buffer, text: Text) -> Set:
     """
     asked, out = text_bytes(text), SetRoom()
     returned = in_place(_QUESTION, (), recording, "recording", (asked, len(asked), out, header.SET_BYTES))
-    return Set._written(out[: result(returned)])
+    return Set._written(written(out, returned))
 
 
 def degree(recording: Buffer, text: Text, target: int) -> Degree:
@@ -150,7 +150,7 @@ def thin(recording: Buffer, marks: Marks = ()) -> bytes:
     """
     packed, out = mark_bytes(marks), thinned_room(recording)
     returned = in_place(_THIN, (), recording, "recording", (packed, len(packed), out, len(out)))
-    return out[: result(returned)]
+    return written(out, returned)
 
 
 def band(recording: Buffer, text: Text, e: int) -> Band:
@@ -200,7 +200,7 @@ def lab_question(recording: Buffer, marks: Marks, text: Text) -> Set:
     """
     packed, asked, out = mark_bytes(marks), text_bytes(text), SetRoom()
     after = (packed, len(packed), asked, len(asked), out, header.SET_BYTES)
-    return Set._written(out[: result(in_place(_LAB_QUESTION, (), recording, "recording", after))])
+    return Set._written(written(out, in_place(_LAB_QUESTION, (), recording, "recording", after)))
 
 
 def lab_degree(recording: Buffer, marks: Marks, text: Text, target: int) -> Degree:

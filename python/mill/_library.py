@@ -5,7 +5,7 @@ import os
 import shutil
 import subprocess
 import sys
-from typing import Any, Callable, Iterator, List, NamedTuple, Optional, Tuple
+from typing import Any, Callable, Dict, Iterator, List, NamedTuple, Optional, Tuple
 
 from . import _header as header
 
@@ -64,13 +64,13 @@ class Library:
     def __init__(self, path: str) -> None:
         self.path = path
         free, locked = ctypes.CDLL(path), ctypes.PyDLL(path)
-        self._calls = {}
+        self._calls: Dict[str, Call] = {}
         for name, parameters, stack, since in _DECLARED:
-            functions = [getattr(library, name, None) for library in (free, locked)]
-            if None in functions:
+            if not hasattr(free, name):
                 if not since:
                     raise OSError(f"it has no {name}")
                 continue
+            functions = [getattr(library, name) for library in (free, locked)]
             for function in functions:
                 function.argtypes = parameters
                 function.restype = ctypes.c_uint64

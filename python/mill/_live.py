@@ -5,7 +5,7 @@ from typing import Union
 from . import _header as header
 from ._arguments import Buffer, Marks, in_place, mark_bytes, unsigned
 from ._library import Call, library
-from ._outputs import EntryRoom, HeldRoom
+from ._outputs import EntryRoom, HeldRoom, written
 from ._recording import Reading, packed
 from ._refusal import result
 from ._stack import run
@@ -88,7 +88,7 @@ class Live(State):
         out = HeldRoom()
         with self._lock:
             returned = run(_KEPT.free, _KEPT.stack, (self._carried, self._size, out, header.HELD_BYTES))
-        return out[: result(returned)]
+        return written(out, returned)
 
     def entry(self) -> Entry:
         """The entry of the run so far: that of all its readings. Refused by 11, 4.

@@ -4,6 +4,7 @@ import ctypes
 from typing import Any
 
 from . import _header as header
+from ._refusal import result
 
 Out32 = ctypes.c_uint32
 OutSigned32 = ctypes.c_int32
@@ -17,6 +18,12 @@ FoundRoom = ctypes.c_char * header.FOUND_BYTES
 
 _MOST = ctypes.c_char * (header.MAX_RECORDS * header.RECORD_BYTES)
 _ROOMS = tuple((size, ctypes.c_char * size) for size in (1024, 8192))
+
+
+def written(out: Any, returned: int) -> bytes:
+    """What a call that says how many bytes it wrote wrote into its output; a refusal is raised."""
+    front: bytes = out[: result(returned)]
+    return front
 
 
 def thinned_room(recording: Any) -> Any:

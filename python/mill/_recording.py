@@ -167,7 +167,7 @@ class Recording(Holder, Sequence[Reading]):
             yield _reading(numbers, place)
 
     def __eq__(self, other: object) -> bool:
-        return self.to_bytes() == other.to_bytes() if isinstance(other, Recording) else NotImplemented
+        return isinstance(other, Recording) and self.to_bytes() == other.to_bytes()
 
     def __hash__(self) -> int:
         return hash(self.to_bytes())

@@ -125,7 +125,7 @@ class Set:
         return bool(self._bytes)
 
     def __eq__(self, other: object) -> bool:
-        return self._bytes == other._bytes if isinstance(other, Set) else NotImplemented
+        return isinstance(other, Set) and self._bytes == other._bytes
 
     def __hash__(self) -> int:
         return hash(self._bytes)

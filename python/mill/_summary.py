@@ -6,7 +6,7 @@ from typing import Any, Iterable, List, NamedTuple, Union
 from . import _header as header
 from ._arguments import Buffer, copied, in_place, several, signed, unsigned, whole
 from ._library import library
-from ._outputs import EntryRoom, FoundRoom
+from ._outputs import EntryRoom, FoundRoom, written
 from ._refusal import result
 
 _ENTRY = library.call("mill_entry")
@@ -50,10 +50,10 @@ class Entry(NamedTuple):
         >>> mill.Entry.from_bytes(entry.to_bytes()) == entry
         True
         """
-        written = copied(entry, "entry", header.ENTRY_BYTES + 1)
-        if len(written) != header.ENTRY_BYTES:
+        given = copied(entry, "entry", header.ENTRY_BYTES + 1)
+        if len(given) != header.ENTRY_BYTES:
             raise ValueError("an entry is 32 bytes")
-        return cls._make(_NUMBERS.unpack(written))
+        return cls._make(_NUMBERS.unpack(given))
 
 
 def entry(recording: Buffer) -> Entry:
@@ -80,7 +80,7 @@ def find(entries: Union[Buffer, Iterable[Entry]], curve: int, level: int) -> Lis
     """
     number, least, out = unsigned(curve, "curve", 32), signed(level, "level", 64), FoundRoom()
     returned = in_place(_FIND, (), _entries(entries), "entries", (number, least, out, header.FOUND_BYTES))
-    return [found for (found,) in struct.iter_unpack("<I", out[: result(returned)])]
+    return [found for (found,) in struct.iter_unpack("<I", written(out, returned))]
 
 
 def _entries(entries: Any) -> Any:

@@ -17,11 +17,12 @@
 #include <sys/mman.h>
 #include <unistd.h>
 
-enum { REGIONS = 10, ROOM = 1 << 21 };
+enum { REGIONS = 10, ROOM = 1 << 18, MOST = 1 << 28 };
 #define NOTHING UINT64_MAX
 
 struct region {
     uint8_t *end;   /* where the page begins that can't be touched */
+    size_t room;    /* how many bytes lie before it */
     uint8_t *at;    /* what the call is handed */
     size_t length;
     uint8_t *copy;  /* an input as it came in */
@@ -97,13 +98,31 @@ static uint64_t number_in(void)
     return number;
 }
 
+/* A region with room for so many bytes. */
+static void grow(struct region *region, size_t least)
+{
+    size_t page = (size_t)sysconf(_SC_PAGESIZE), room = (least + page - 1) / page * page;
+    uint8_t *start;
+    if (least > MOST)
+        stop("bytes are too many");
+    if (region->end != NULL)
+        munmap(region->end - region->room, region->room + page);
+    free(region->copy);
+    start = mmap(NULL, room + page, PROT_READ | PROT_WRITE, MAP_PRIVATE | MAP_ANONYMOUS | MAP_NORESERVE, -1, 0);
+    region->copy = malloc(room);
+    if (start == MAP_FAILED || mprotect(start + room, page, PROT_NONE) != 0 || region->copy == NULL)
+        stop("there is no memory");
+    region->end = start + room;
+    region->room = room;
+}
+
 static struct region *bytes_in(int which, int written)
 {
     struct region *region = &regions[which];
     uint64_t length = number_in();
     region->length = length == NOTHING ? 0 : (size_t)length;
-    if (region->length > ROOM)
-        stop("bytes are too many");
+    if (region->length > region->room)
+        grow(region, region->length);
     region->at = length == NOTHING ? NULL : region->end - region->length;
     if (region->length != 0 && !get(region->at, region->length))
         stop("the input ends within a request");
@@ -139,18 +158,10 @@ static void make(uint64_t number)
 
 int main(void)
 {
-    long page = sysconf(_SC_PAGESIZE);
     uint64_t number;
     int i;
-    for (i = 0; i < REGIONS; i++) {
-        uint8_t *start = mmap(NULL, ROOM + (size_t)page, PROT_READ | PROT_WRITE, MAP_PRIVATE | MAP_ANONYMOUS, -1, 0);
-        if (start == MAP_FAILED || mprotect(start + ROOM, (size_t)page, PROT_NONE) != 0)
-            stop("there is no memory");
-        regions[i].end = start + ROOM;
-        regions[i].copy = malloc(ROOM);
-        if (regions[i].copy == NULL)
-            stop("there is no memory");
-    }
+    for (i = 0; i < REGIONS; i++)
+        grow(&regions[i], ROOM);
     while (get(&number, sizeof number))
         make(number);
     flush();
