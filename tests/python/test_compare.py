@@ -1,11 +1,12 @@
 """Covers: that every function and class of the package answers as the C library does, byte for byte and refusal for refusal, on random
 calls; the bytes of reports and growing runs after every step too."""
 
+import importlib.util
 import os
 import random
 import struct
 import unittest
-from typing import Any, Callable, List, Tuple
+from typing import Any, Callable, Tuple
 
 import mill
 import support
@@ -232,6 +233,24 @@ class Compare(unittest.TestCase):
         (returned,) = self.server.call("mill_version")
         self.assertEqual(mill.version(), f"{returned >> 16}.{returned >> 8 & 255}.{returned & 255}")
         self.assertEqual(mill.version(), mill.__version__)
+
+    def test_year(self) -> None:
+        """The example that judges recordings by themselves puts them together as a report does, to the last bit."""
+        place = os.path.join(support.ROOT, "examples", "year.py")
+        loaded = importlib.util.spec_from_file_location("year", place)
+        assert loaded and loaded.loader
+        year = importlib.util.module_from_spec(loaded)
+        loaded.loader.exec_module(year)
+        for number in range(50):
+            source = random.Random(f"{SEED} year {number}")
+            wanted, batches = source.randint(-100, 100), []
+            while len(batches) < 40:
+                batch = recording(source)
+                if outcome(mill.degree, batch, "peaks(A)|lag", wanted)[0] == "result":
+                    batches.append(batch)
+            report = mill.Report(len(batches), "peaks(A)|lag", wanted)
+            figures = [report.add(batch) for batch in batches][-1]
+            self.assertEqual(year.together(mill.degree(batch, "peaks(A)|lag", wanted) for batch in batches), figures)
 
     def test_every_call_is_compared(self) -> None:
         """Every call that the header declares stands in this file."""
