@@ -105,6 +105,8 @@ def in_place(call: Call, before: Tuple[Any, ...], buffer: Any, name: str, after:
     The lock of the interpreter is given up meanwhile, but for a buffer that can be written: another thread that wrote it during the
     call could make the library go astray, for it looks at the readings once and then trusts them.
     """
+    if isinstance(buffer, Holder):
+        buffer = buffer._buffer
     if type(buffer) is bytes:
         return run(call.free, call.stack, (*before, buffer, len(buffer), *after))
     lent = _View()
