@@ -188,6 +188,16 @@ class Buffers(Refused):
         self.says(TypeError, "time must be a whole number, not str", mill.Recording, [mill.Reading("0", 1, 2)])  # type: ignore[arg-type]
 
 
+    def test_of_ctypes(self) -> None:
+        """What ctypes itself would unpack is taken for what it is, a buffer, and never followed."""
+        for wrapped in (ctypes.py_object(), ctypes.py_object(RUN), ctypes.c_void_p(1), ctypes.c_char_p(b"x"), ctypes.pointer(ctypes.c_int(5))):
+            self.refused(1, mill.question, wrapped, "peaks(A)")
+            self.refused(1, mill.thin, wrapped)
+            self.refused(6, mill.question, RUN, wrapped)
+            self.refused(20, mill.find, wrapped, 0, 0)
+        self.says(TypeError, "target must be a whole number", mill.degree, RUN, "lag", ctypes.c_int64(5))
+
+
 class Numbers(Refused):
     def test_any_size(self) -> None:
         """Numbers for which C has no room get the refusal that the library gives of those beyond its limits, in its order."""
@@ -241,6 +251,7 @@ class Numbers(Refused):
         packed = (2000).to_bytes(4, "little")
         for marks in (packed, bytearray(packed), memoryview(packed), memoryview(array.array("I", [2000]))):
             self.assertEqual(mill.thin(falling, marks), under)
+        self.assertEqual(mill.thin(falling, memoryview(array.array("H", [2000]))), under)
         for partial in (packed[:3], packed + b"x", bytes(33), bytes(36), bytes(1000)):
             self.refused(11, mill.thin, falling, partial)
         for odd in (b"\1", b"\1\2\3", bytes([1] * 66)):

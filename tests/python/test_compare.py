@@ -27,6 +27,7 @@ def outcome(call: Callable[..., Any], *arguments: Any) -> Tuple[str, Any]:
 
 class Compare(unittest.TestCase):
     server: Server
+    pairs = 0
 
     @classmethod
     def setUpClass(cls) -> None:
@@ -61,10 +62,15 @@ class Compare(unittest.TestCase):
         self.check(outcome(mill.degree, rec, asked, wanted), returned, lambda: nearness(returned, distance, near), rec, asked, wanted)
 
     def pair(self, source: random.Random) -> None:
-        rec, curve, wanted = recording(source), source.choice([0, 0, 1, 2, 0xFFFFFFFF]), source.choice([1, 10, 20, target(source)])
+        rec, curve, wanted = recording(source), source.choice([0, 0, 0, 1, 1, 2, 0xFFFFFFFF]), target(source)
+        # Mostly a distance of two tops, where there are two.
+        returned, gaps = self.server.call("mill_question", rec, b"gaps(B)" if curve == 1 else b"gaps(A)", bytes(2048))
+        if 0 < returned < 1 << 32 and source.randrange(5):
+            wanted = struct.unpack_from("<i", gaps, 8 * source.randrange(returned // 8))[0]
         for name, call in (("mill_pair", mill.pair), ("mill_lab_pair", mill.lab_pair)):
             returned, earlier, later = self.server.call(name, rec, curve, wanted, FOUR, FOUR)
             told = mill.Pair(number(earlier), number(later)) if returned == 1 else None
+            self.pairs += returned == 1
             self.check(outcome(call, rec, curve, wanted), returned, lambda: told, name, rec, curve, wanted)
 
     def thin(self, source: random.Random) -> None:
@@ -199,6 +205,7 @@ class Compare(unittest.TestCase):
 
     def test_pair(self) -> None:
         self.every(self.pair, 1000)
+        self.assertGreater(self.pairs, 200 * TIMES)
 
     def test_thin(self) -> None:
         self.every(self.thin, 2000)

@@ -4,11 +4,12 @@ documented and has an example, and that the examples print what stands there."""
 import ctypes
 import doctest
 import inspect
+import io
 import os
 import re
 import typing
 import unittest
-from typing import Any, Dict, Iterator, Tuple
+from typing import Any, Dict, Iterator, List, Tuple
 
 import mill
 import support
@@ -97,6 +98,25 @@ def public() -> Iterator[Tuple[str, Any]]:
                 ours = str(getattr(member.fget if isinstance(member, property) else member, "__module__", "")).startswith("mill")
                 if kind and ours and (not below.startswith("_") or below in ("__init__", "__getitem__", "__iter__", "__len__", "__contains__")):
                     yield f"{name}.{below}", member
+
+
+class Readme(unittest.TestCase):
+    def test_example(self) -> None:
+        """What the example of python/README.md prints stands beside it."""
+        with open(os.path.join(ROOT, "python", "README.md"), encoding="utf-8") as file:
+            found = re.search(r"```python\n(import mill\n.*?)```", file.read(), flags=re.DOTALL)
+        assert found
+        wanted = re.findall(r" # (.*)$", found.group(1), flags=re.MULTILINE)
+        said: List[str] = []
+        names = {"print": lambda *what: said.append(" ".join(map(str, what))), "open": lambda name, mode: open_in_root(name, mode)}
+        exec(found.group(1), names)
+        self.assertGreaterEqual(len(wanted), 4)
+        self.assertEqual(said, wanted)
+
+
+def open_in_root(name: str, mode: str) -> Any:
+    with open(os.path.join(ROOT, name), mode) as file:
+        return io.BytesIO(file.read())
 
 
 class Public(unittest.TestCase):
