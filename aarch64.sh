@@ -2,8 +2,8 @@
 # aarch64.sh: the library for 64-bit Arm Linux, of the same proved sources: target/aarch64/libmill.a, and libmill.so with its links.
 #
 # Run after `rt staticlib mill`, which proves the crates. The kit writes for x86-64. What its back end hands to clang has nothing of that
-# in it but the names of the target and of the processor, which are replaced here; `rattle build` takes the folder of a toolchain, and this one
-# holds a clang that asks the kit's for the other processor. No other tool is needed.
+# in it but the names of the target and of the processor, which are replaced here; `rattle build` takes the folder of a toolchain, and
+# this one holds a clang that asks the kit's for the other processor. No other tool is needed.
 set -eu
 cd "$(dirname "$0")"
 fail() { echo "aarch64.sh: $1" >&2; exit 1; }

@@ -2,8 +2,8 @@
 # install.sh install    puts the library and the programs under $DESTDIR$PREFIX (PREFIX is /usr/local, if not set)
 # install.sh uninstall  takes away exactly what it put there
 #
-# Installed are the header, the archive, a shared object made of the archive, a pkg-config file, the program `ask`, the Python package under
-# share/mill/python and, where they are built, the tool `mill` and the library for 64-bit Arm under lib/aarch64-linux-gnu.
+# Installed are the header, the archive, a shared object made of the archive, a pkg-config file, the program `ask`, the Python package
+# under share/mill/python and, where they are built, the tool `mill` and the library for 64-bit Arm under lib/aarch64-linux-gnu.
 # share/mill/installed lists them, and the folders that were made for them; it is there first, so that what an install leaves that was
 # stopped can be taken away, or installed again. A file that is there and is not on that list is another's: then nothing is installed.
 set -eu
@@ -108,7 +108,8 @@ install() {
     places="include/mill.h $(libraries lib) bin/ask"
     [ ! -x rust/target/release/mill ] || places="$places bin/mill"
     if [ -f target/aarch64/libmill.a ]; then
-        [ -f "target/aarch64/libmill.so.$version" ] || fail "target/aarch64 has no libmill.so.$version: run 'make build TARGET=aarch64' again"
+        [ -f "target/aarch64/libmill.so.$version" ] ||
+            fail "target/aarch64 has no libmill.so.$version: run 'make build TARGET=aarch64' again"
         mkdir "$made/aarch64"
         cp target/aarch64/libmill.a "target/aarch64/libmill.so.$version" "$made/aarch64/"
         places="$places $(libraries lib/aarch64-linux-gnu)"

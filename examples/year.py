@@ -1,7 +1,7 @@
 """year TEXT TARGET RECORDING..: what `report` says, of any number of recordings, over all cores.
 
-Each recording is judged by itself, in some process, and nothing is shared: `judged` may as well be mapped over a cluster. What comes back is
-put together in the order of the recordings, so that the figures are those of a report, to the last bit."""
+Each recording is judged by itself, in some process, and nothing is shared: `judged` may as well be mapped over a cluster. What comes back
+is put together in the order of the recordings, so that the figures are those of a report, to the last bit."""
 
 import sys
 from concurrent.futures import ProcessPoolExecutor

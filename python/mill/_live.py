@@ -45,9 +45,10 @@ class Live(State):
 
         >>> run = mill.Live()
         >>> run.add(mill.Reading(0, 40, 50, mill.Slope.RISING))
-        >>> run.add(recording[:16])
+        >>> run.add(recording[16:32])
+        >>> run.add(recording[32:40])
         Traceback (most recent call last):
-        mill.Refusal: a reading breaks its rules: its time is not after the one before, or one of its numbers is out of range (refusal 3, reading 1 counted from 0)
+        mill.Refusal: the recording is not in readings of 16 bytes (refusal 1)
         """
         given = packed(reading) if isinstance(reading, Reading) else reading
         with self._lock:

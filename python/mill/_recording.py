@@ -105,8 +105,8 @@ class Recording(Holder, Sequence[Reading]):
     """A recording as a sequence of readings, over bytes that stay where they are, or of readings.
 
     Every call that takes a recording takes this one, and any buffer as well. Bytes that the library would not take for a recording
-    raise its refusal, 1, 2 or 3. A recording over a buffer that can be closed or made longer (an mmap, a bytearray) keeps it from that until
-    it is released.
+    raise its refusal, 1, 2 or 3. A recording over a buffer that can be closed or made longer (an mmap, a bytearray) keeps it from that
+    until it is released.
 
     >>> run = mill.Recording(recording)
     >>> len(run), run[0].a, run[-1].time

@@ -16,9 +16,10 @@ class Refusal(Exception):
     ... except mill.Refusal as refusal:
     ...     print(refusal.number, refusal.place, refusal.sentence)
     6 0 the text can't be read as a question
-    >>> refusal = mill.Refusal(mill.BAD_RECORD, 5)
-    >>> print(refusal)
-    a reading breaks its rules: its time is not after the one before, or one of its numbers is out of range (refusal 3, reading 5 counted from 0)
+    >>> print(mill.Refusal(mill.NO_RECORD))
+    the recording or the run has no reading (refusal 4)
+    >>> str(mill.Refusal(mill.BAD_RECORD, 5))[-38:]
+    ' (refusal 3, reading 5 counted from 0)'
     """
 
     number: int

@@ -10,8 +10,8 @@ _S = TypeVar("_S", bound="State")
 
 
 class State:
-    """The bytes that the calls of a report or a growing run carry on. They are all that there is of it, so a copy goes on as the original would;
-    one call at a time works on them."""
+    """The bytes that the calls of a report or a growing run carry on. They are all that there is of it, so a copy goes on as the original
+    would. One call at a time works on them."""
 
     __slots__ = ("_carried", "_lock", "_size")
     _BYTES = 0

@@ -66,11 +66,11 @@ class Thinning:
 
         >>> thinning = mill.Thinning()
         >>> thinning.take(recording[:64])
-        >>> thinning.take(recording[48:])
-        Traceback (most recent call last):
-        mill.Refusal: a reading breaks its rules: its time is not after the one before, or one of its numbers is out of range (refusal 3, reading 0 counted from 0)
-        >>> len(thinning.held)
-        64
+        >>> try:
+        ...     thinning.take(recording[48:])
+        ... except mill.Refusal as refusal:
+        ...     print(refusal.number, refusal.place, len(thinning.held))
+        3 0 64
         """
         with self._lock, Lent(piece, "piece") as view:
             if view.length % _BYTES:

@@ -3,8 +3,8 @@
 **
 ** A request is the number of the call in mill.h and its parameters: 8 bytes a number; bytes as their length, in 8 bytes, and themselves,
 ** of an output what it holds before; a place for a number as what it holds before. NOTHING for a length is a null pointer of length 0.
-** An answer is the returned number, in 8 bytes, and the outputs with the places, as they are after the call. The cases are made of mill.h by
-** declarations.py.
+** An answer is the returned number, in 8 bytes, and the outputs with the places, as they are after the call. The cases are made of mill.h
+** by declarations.py.
 **
 ** Bytes end where a page begins that can't be touched. An input that a call wrote ends the program.
 */

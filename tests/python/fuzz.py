@@ -1,7 +1,8 @@
 """fuzz.py SEED TIMES: hands random arguments, mostly wrong ones, to every public function, class and method of the package.
 
-Whatever is passed, the interpreter goes on: each call gives a result, or raises a refusal, TypeError, ValueError, BufferError or IndexError,
-or what an argument itself raises. Anything else ends the program, and its seed is printed; `fuzz.py SEED 1` makes that call alone.
+Whatever is passed, the interpreter goes on: each call gives a result, or raises a refusal, TypeError, ValueError, BufferError or
+IndexError, or what an argument itself raises. Anything else ends the program, and its seed is printed; `fuzz.py SEED 1` makes that
+call alone.
 """
 
 import array
@@ -10,10 +11,8 @@ import faulthandler
 import gc
 import itertools
 import mmap
-import os
 import random
 import sys
-import tempfile
 from typing import Any, Callable, Dict, List, Tuple
 
 import mill
@@ -78,7 +77,8 @@ def released() -> memoryview:
 
 
 def buffer(source: random.Random) -> Any:
-    content = source.choice([support.RUN, support.BATCH, b"", support.RUN[:16], support.recording(source), bytes(source.choice([1, 16, 320, 18624, 65552]))])
+    zeros = bytes(source.choice([1, 16, 320, 18624, 65552]))
+    content = source.choice([support.RUN, support.BATCH, b"", support.RUN[:16], support.recording(source), zeros])
     view = memoryview(content)
     return source.choice(
         [
@@ -112,7 +112,8 @@ def scrap(source: random.Random) -> Any:
         [
             lambda: None,
             lambda: True,
-            lambda: source.choice([0, 1, 2, -1, 9, 255, 256, 1 << 31, 1 << 32, (1 << 63) - 1, 1 << 63, 1 << 64, -(1 << 63), -(1 << 63) - 1, 10**50, -(10**50)]),
+            lambda: source.choice([0, 1, 2, -1, 9, 255, 256, 10**50, -(10**50)]),
+            lambda: source.choice([1 << 31, 1 << 32, (1 << 63) - 1, 1 << 63, 1 << 64, -(1 << 63), -(1 << 63) - 1]),
             lambda: source.choice([0.0, 1.5, float("nan"), float("inf"), -0.0, 1e300]),
             lambda: 1j,
             lambda: source.choice(["", "x", "peaks(A)", "\ud800", "\0" * 300, "é" * 200]),

@@ -11,7 +11,7 @@ ROOT = os.path.dirname(os.path.dirname(os.path.dirname(os.path.abspath(__file__)
 sys.path.insert(0, os.path.join(ROOT, "tests", "calls"))
 
 import declarations  # noqa: E402
-from declarations import NUMBER, PLACE, READ, SIZES, WRITTEN  # noqa: E402
+from declarations import NUMBER, PLACE, READ, SIZES  # noqa: E402
 
 CALLS = declarations.calls(declarations.header())
 DECLARED = {call.name: number for number, call in enumerate(CALLS)}

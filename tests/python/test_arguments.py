@@ -86,11 +86,12 @@ class Buffers(Refused):
     def test_numpy(self) -> None:
         fields = [("time", "<u4"), ("a", "<i4"), ("b", "<i4"), ("slope_a", "u1"), ("slope_b", "u1"), ("pigment", "u1"), ("spare", "u1")]
         table = numpy.frombuffer(RUN, numpy.dtype(fields))
-        for kind in (table, table.copy(), numpy.frombuffer(RUN, "u1"), numpy.frombuffer(RUN, "u1").reshape(8, 16), numpy.frombuffer(RUN, "<u4")):
+        flat = numpy.frombuffer(RUN, "u1")
+        for kind in (table, table.copy(), flat, flat.reshape(8, 16), numpy.frombuffer(RUN, "<u4")):
             self.assertEqual(mill.question(kind, "peaks(A)"), TOPS)
             self.assertEqual(mill.Recording(kind), mill.Recording(RUN))
             self.assertEqual(list(mill.Recording(kind)), list(mill.Recording(RUN)))
-        for scattered in (table[::2], numpy.frombuffer(RUN, "u1").reshape(8, 16).T):
+        for scattered in (table[::2], flat.reshape(8, 16).T):
             self.says((BufferError, ValueError), "contiguous", mill.question, scattered, "peaks(A)")
             self.says((BufferError, ValueError), "contiguous", mill.Recording, scattered)
         self.assertEqual(mill.thin(RUN, numpy.array([40])), mill.thin(RUN, [40]), "marks are numbers, whatever their width")
@@ -178,8 +179,9 @@ class Buffers(Refused):
         for wrong in (None, 5, object()):
             self.says(TypeError, f"marks must be whole numbers or bytes, not {type(wrong).__name__}", mill.thin, RUN, wrong)
             self.says(TypeError, f"sheet must be pairs of pigments or bytes, not {type(wrong).__name__}", mill.order, RUN, wrong)
-            self.says(TypeError, f"entries must be a buffer or entries, not {type(wrong).__name__}", mill.find, wrong, 0, 0)
-            self.says(TypeError, f"a recording must be bytes, another buffer or readings, not {type(wrong).__name__}", mill.Recording, wrong)
+            name = type(wrong).__name__
+            self.says(TypeError, f"entries must be a buffer or entries, not {name}", mill.find, wrong, 0, 0)
+            self.says(TypeError, f"a recording must be bytes, another buffer or readings, not {name}", mill.Recording, wrong)
         self.says(TypeError, "a line of a sheet must be two pigments", mill.order, RUN, [(1, 2, 3)])
         self.says(TypeError, "a line of a sheet must be two pigments", mill.order, RUN, [7])
         self.says(TypeError, "a pigment must be a whole number, not str", mill.order, RUN, [("1", 2)])
@@ -190,7 +192,8 @@ class Buffers(Refused):
 
     def test_of_ctypes(self) -> None:
         """What ctypes itself would unpack is taken for what it is, a buffer, and never followed."""
-        for wrapped in (ctypes.py_object(), ctypes.py_object(RUN), ctypes.c_void_p(1), ctypes.c_char_p(b"x"), ctypes.pointer(ctypes.c_int(5))):
+        pointers = [ctypes.c_void_p(1), ctypes.c_char_p(b"x"), ctypes.pointer(ctypes.c_int(5))]
+        for wrapped in (ctypes.py_object(), ctypes.py_object(RUN), *pointers):
             self.refused(1, mill.question, wrapped, "peaks(A)")
             self.refused(1, mill.thin, wrapped)
             self.refused(6, mill.question, RUN, wrapped)
@@ -353,8 +356,8 @@ class Values(Refused):
     def test_pickles(self) -> None:
         """What a process hands to another arrives."""
         broken = mill.order(mill.Recording([mill.Reading(10, 0, 0, pigment=2)]), [(1, 2)])
-        whole = [TOPS, mill.Recording(RUN), mill.entry(RUN), mill.degree(RUN, "lag", 5), mill.pair(RUN, 0, 40), mill.band(RUN, "low(A)", 1), broken]
-        for value in whole:
+        answers = [TOPS, mill.entry(RUN), mill.degree(RUN, "lag", 5), mill.pair(RUN, 0, 40), mill.band(RUN, "low(A)", 1), broken]
+        for value in [*answers, mill.Recording(RUN)]:
             self.assertEqual(pickle.loads(pickle.dumps(value)), value)
         refusal = pickle.loads(pickle.dumps(mill.Refusal(3, 7)))
         self.assertEqual((refusal.number, refusal.place, str(refusal)), (3, 7, str(mill.Refusal(3, 7))))
@@ -370,7 +373,7 @@ class Values(Refused):
         thinning.take(flat)
         self.assertEqual(len(thinning.held), 32)
         thinning.take(b"")
-        bad = mill.Reading(10000, 5, 6).to_bytes() + b"".join(mill.Reading(time, 5, 6).to_bytes() for time in range(10001, 19000)) + flat[:16]
+        bad = b"".join(mill.Reading(time, 5, 6).to_bytes() for time in range(10000, 19000)) + flat[:16]
         with self.assertRaises(mill.Refusal) as raised:
             thinning.take(bad)
         self.assertEqual((raised.exception.number, raised.exception.place), (3, 9000))

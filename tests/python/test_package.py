@@ -1,5 +1,5 @@
-"""Covers: that the package has the numbers, the sentences, the version and the calls of include/mill.h; that every public item is annotated,
-documented and has an example, and that the examples print what stands there."""
+"""Covers: that the package has the numbers, the sentences, the version and the calls of include/mill.h; that every public item is
+annotated, documented and has an example, and that the examples print what stands there."""
 
 import ctypes
 import doctest
@@ -86,6 +86,9 @@ class Header(unittest.TestCase):
 # ---- what is public
 
 
+SPECIAL = ("__init__", "__getitem__", "__iter__", "__len__", "__contains__", "__eq__", "__enter__")
+
+
 def public() -> Iterator[Tuple[str, Any]]:
     """Every public class and function, and every public method and property of these classes."""
     for name in mill.__all__:
@@ -96,7 +99,7 @@ def public() -> Iterator[Tuple[str, Any]]:
             for below, member in inspect.getmembers(item):
                 kind = inspect.isfunction(member) or inspect.ismethod(member) or isinstance(member, property)
                 ours = str(getattr(member.fget if isinstance(member, property) else member, "__module__", "")).startswith("mill")
-                if kind and ours and (not below.startswith("_") or below in ("__init__", "__getitem__", "__iter__", "__len__", "__contains__")):
+                if kind and ours and (not below.startswith("_") or below in SPECIAL):
                     yield f"{name}.{below}", member
 
 

@@ -1,5 +1,5 @@
-"""Covers: that the lock of the interpreter is given up during a call, and kept where the recording could be written; that every call runs on
-threads with small stacks, and where little stack is left; that a report, a run and a thinning may be shared by threads."""
+"""Covers: that the lock of the interpreter is given up during a call, and kept where the recording could be written; that every call
+runs on threads with small stacks, and where little stack is left; that a report, a run and a thinning may be shared by threads."""
 
 import os
 import random
