@@ -6,9 +6,9 @@
 ** nothing first. A call reads only the bytes that it is given, keeps nothing
 ** from one call to the next (what must last lies in the caller's memory: CARRIED,
 ** below), takes no memory from the heap, and may run in any number of threads at
-** once. This header is for C99 and later, and for C++11 and later. Link with
-** libmill.a, which is for x86-64 and needs memcpy and memset of the C library and no
-** other library.
+** once. Link with libmill.a, which needs memcpy and memset of the C library and
+** no other library. It is for 64-bit little-endian Linux: x86-64 and aarch64.
+** The header is C99, or C++11.
 **
 **
 ** RECORDING. Readings of MILL_RECORD_BYTES bytes each, no header, all numbers
@@ -137,6 +137,10 @@
 #ifndef MILL_H
 #define MILL_H
 
+#if !defined __cplusplus && (!defined __STDC_VERSION__ || __STDC_VERSION__ < 199901L)
+#error "mill.h needs C99 or later, or C++: compile with -std=c99"
+#else
+
 #include <stddef.h>
 #include <stdint.h>
 
@@ -145,7 +149,7 @@ extern "C" {
 #endif
 
 /* The version. Its first number, which is that of libmill.so too, changes where programs must be compiled again. */
-#define MILL_VERSION "1.0.0"
+#define MILL_VERSION "1.1.0"
 
 /* The axis: the numbers of sets, the numbers in texts, the targets. */
 #define MILL_AXIS_LOW (-2000000000)
@@ -844,5 +848,7 @@ static inline const char *mill_sentence(uint32_t number)
     };
     return number < sizeof sentences / sizeof sentences[0] ? sentences[number] : "a refusal that this version does not know";
 }
+
+#endif /* C99 */
 
 #endif /* MILL_H */

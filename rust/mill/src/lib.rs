@@ -49,6 +49,7 @@ mod summary;
 #[allow(missing_docs)] // `include/mill.h` says what each is.
 pub mod sys;
 mod thinning;
+mod version;
 
 pub use calls::{
     assured, band, degree, lab_degree, lab_pair, lab_question, lab_question_into, order, pair, question, question_into, thin,
@@ -61,6 +62,7 @@ pub use report::{Added, Figures, Report};
 pub use set::{Run, Set};
 pub use summary::{entry, entry_into, find, find_into, Entry};
 pub use thinning::Thinning;
+pub use version::version;
 
 /// The version of the library, that of `MILL_VERSION` in `include/mill.h`.
 ///
