@@ -212,6 +212,7 @@ extern "C" {
 #define MILL_STACK_FIND 4096
 #define MILL_STACK_LIVE_ENTRY 4096
 #define MILL_STACK_ASSURED 131072
+#define MILL_STACK_VERSION 4096
 
 /* Slopes of a record. */
 #define MILL_FALLING 0
@@ -812,6 +813,13 @@ uint64_t mill_live_entry(const uint8_t *live, size_t live_len, uint8_t *out, siz
 #define MILL_NOT_ASSURED 0 /* nothing is promised */
 #define MILL_ASSURED 1     /* kept readings answer as the recording did */
 uint64_t mill_assured(const uint8_t *text, size_t text_len, const uint8_t *marks, size_t marks_len);
+
+
+/*
+** The version of the library that is linked, where MILL_VERSION is that of the header:
+** major * 65536 + minor * 256 + patch, so 65792 for 1.1.0. Never refused.
+*/
+uint64_t mill_version(void);
 
 #ifdef __cplusplus
 }

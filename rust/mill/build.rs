@@ -6,7 +6,6 @@ use std::process::Command;
 
 fn main() {
     println!("cargo:rerun-if-changed=build.rs");
-    println!("cargo:rustc-check-cfg=cfg(mill_version)");
     for name in ["MILL_LIB_DIR", "PKG_CONFIG", "PKG_CONFIG_PATH", "PKG_CONFIG_LIBDIR"] {
         println!("cargo:rerun-if-env-changed={name}");
     }
@@ -15,10 +14,6 @@ fn main() {
     println!("cargo:rerun-if-changed={}", archive.display());
     println!("cargo:rustc-link-search=native={}", folder.display());
     println!("cargo:rustc-link-lib=static=mill");
-    // A library of version 1.0 can't tell its version.
-    if has(&archive, b"mill_version") {
-        println!("cargo:rustc-cfg=mill_version");
-    }
 }
 
 /// The folder of the archive; where there is none, what was tried is said.
@@ -65,9 +60,4 @@ fn of_pkg_config() -> Result<PathBuf, String> {
         folder if said.status.success() && !folder.is_empty() => Ok(folder.into()),
         _ => Err("it knows no mill".into()),
     }
-}
-
-/// True where a name stands in the archive.
-fn has(archive: &Path, name: &[u8]) -> bool {
-    std::fs::read(archive).is_ok_and(|bytes| bytes.windows(name.len()).any(|window| window == name))
 }

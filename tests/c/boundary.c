@@ -1022,6 +1022,7 @@ int main(void)
     entries();
     finds();
     assured_texts();
+    EXPECT(mill_version() == 65792 && strcmp(MILL_VERSION, "1.1.0") == 0);
     thinning_of_r3();
     thinning_of_a_plateau();
     printf("boundary.c: %d failures\n", failures);

@@ -291,4 +291,7 @@ extern "C" {
     pub fn mill_live_entry(live: *const u8, live_len: usize, out: *mut u8, out_len: usize) -> u64;
 
     pub fn mill_assured(text: *const u8, text_len: usize, marks: *const u8, marks_len: usize) -> u64;
+
+    /// The version of the library that is linked: major × 65536 + minor × 256 + patch.
+    pub fn mill_version() -> u64;
 }

@@ -123,6 +123,12 @@ fn null_with_length_0_in_summaries() {
 }
 
 #[test]
+fn the_version_is_that_of_the_header() {
+    let numbers: Vec<u32> = mill::VERSION.split('.').map(|part| part.parse().unwrap()).collect();
+    assert_eq!(mill::version(), (numbers[0], numbers[1], numbers[2]));
+}
+
+#[test]
 fn null_with_length_0_in_what_is_assured() {
     let text = b"high(A)";
     // SAFETY: each pointer lies before as many bytes as its length says; null goes with 0.

@@ -72,7 +72,7 @@ fn words(text: &str) -> String {
 
 /// `name(parameters)`, each parameter told by `one`.
 fn call(name: &str, parameters: &str, returned: &str, one: impl Fn(&str) -> (String, String)) -> Call {
-    let each = parameters.split(',').map(words).filter(|parameter| !parameter.is_empty());
+    let each = parameters.split(',').map(words).filter(|parameter| !matches!(parameter.as_str(), "" | "void"));
     Call { name: words(name), parameters: each.map(|parameter| one(&parameter)).collect(), returned: words(returned) }
 }
 

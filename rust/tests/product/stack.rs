@@ -8,7 +8,7 @@ use crate::support::{header, painted};
 use mill::sys::{
     mill_assured, mill_band, mill_degree, mill_entry, mill_find, mill_lab_degree, mill_lab_pair, mill_lab_question,
     mill_live_add, mill_live_entry, mill_live_kept, mill_live_restore, mill_live_save, mill_live_start, mill_order, mill_pair,
-    mill_question, mill_report_add, mill_report_start, mill_thin, MILL_MAX_ENTRIES, MILL_REPORT_BYTES,
+    mill_question, mill_report_add, mill_report_start, mill_thin, mill_version, MILL_MAX_ENTRIES, MILL_REPORT_BYTES,
 };
 use reference::recording::bytes;
 use std::collections::BTreeMap;
@@ -123,6 +123,7 @@ enum Job {
     Find(Vec<u8>),
     LiveEntry(Vec<u8>),
     Assured(String),
+    Version,
 }
 
 impl Job {
@@ -149,12 +150,13 @@ impl Job {
             Job::Find(_) => ("mill_find", header::stack("FIND")),
             Job::LiveEntry(_) => ("mill_live_entry", header::stack("LIVE_ENTRY")),
             Job::Assured(_) => ("mill_assured", header::stack("ASSURED")),
+            Job::Version => ("mill_version", header::stack("VERSION")),
         }
     }
 }
 
 fn jobs() -> Vec<Job> {
-    let mut jobs = Vec::new();
+    let mut jobs = vec![Job::Version];
     for recording in recordings() {
         for text in texts() {
             jobs.push(Job::Question(recording.clone(), text.clone()));
@@ -256,6 +258,7 @@ fn run(job: &Job, out: &mut [u8]) -> u64 {
             Job::LiveKept(live) => mill_live_kept(live.as_ptr(), live.len(), out.as_mut_ptr(), out.len()),
             Job::Entry(recording) => mill_entry(recording.as_ptr(), recording.len(), out.as_mut_ptr(), out.len()),
             Job::LiveEntry(live) => mill_live_entry(live.as_ptr(), live.len(), out.as_mut_ptr(), out.len()),
+            Job::Version => mill_version(),
             Job::Assured(text) => mill_assured(text.as_ptr(), text.len(), MARKS.as_ptr(), MARKS.len()),
             Job::Find(entries) => mill_find(entries.as_ptr(), entries.len(), 1, 0, out.as_mut_ptr(), out.len()),
             Job::ReportStart(text) => mill_report_start(3, text.as_ptr(), text.len(), 7, out.as_mut_ptr(), out.len()),
