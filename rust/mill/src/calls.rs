@@ -315,6 +315,26 @@ pub fn lab_pair(recording: &[u8], curve: Curve, target: i64) -> Result<Option<Pa
     two_times(returned, earlier, later)
 }
 
+/// Whether kept readings answer the text as the recording did, under these marks: the same set or the same refusal, of every
+/// accepted recording, and the same of [`degree`], of a [`Report`](crate::Report) and of [`band`]. `false` promises nothing: the
+/// answer may be the same or another. Refused by 5, 6, 7 and 11.
+///
+/// ```
+/// use mill::{assured, Refusal};
+/// assert!(assured(b"lowafter(A,40)", &[40])?);
+/// assert!(!assured(b"lowafter(A,50)", &[40])?);
+/// assert!(assured(b"F(P=3&A=v)", &[])?);
+/// assert!(!assured(b"F(A=9&X(A=v))", &[])?);
+/// assert_eq!(assured(b"F(A=v", &[]), Err(Refusal::NoReading));
+/// # Ok::<(), Refusal>(())
+/// ```
+pub fn assured(text: &[u8], marks: &[u32]) -> Result<bool, Refusal> {
+    let marks = mark_bytes(marks);
+    // SAFETY: each pointer is a live slice's with its own length.
+    let returned = unsafe { sys::mill_assured(text.as_ptr(), text.len(), marks.as_ptr(), marks.len()) };
+    Refusal::or_result(returned).map(|answer| answer == 1)
+}
+
 pub(crate) fn number_of(curve: Curve) -> u32 {
     match curve {
         Curve::A => sys::MILL_CURVE_A,

@@ -30,6 +30,7 @@
 //! | --- | --- |
 //! | ask a recording | [`question`], [`degree`], [`pair`], [`band`], [`order`] |
 //! | answer a buyer's laboratory | [`lab_question`], [`lab_degree`], [`lab_pair`] |
+//! | know whether kept readings answer a text as the recording did | [`assured`] |
 //! | keep the few readings that answer later | [`thin`]; piece by piece [`Thinning`]; reading by reading [`Live`] |
 //! | put one question to a year of batches | [`Report`] |
 //! | find old recordings by a summary | [`entry`], [`find`], [`Entry`] |
@@ -50,8 +51,8 @@ pub mod sys;
 mod thinning;
 
 pub use calls::{
-    band, degree, lab_degree, lab_pair, lab_question, lab_question_into, order, pair, question, question_into, thin, thin_into,
-    Band, Curve, Degree, Order, Pair,
+    assured, band, degree, lab_degree, lab_pair, lab_question, lab_question_into, order, pair, question, question_into, thin,
+    thin_into, Band, Curve, Degree, Order, Pair,
 };
 pub use live::Live;
 pub use reading::{decode, encode, Reading, Slope};

@@ -285,4 +285,6 @@ extern "C" {
     pub fn mill_find(entries: *const u8, entries_len: usize, curve: u32, level: i64, out: *mut u8, out_len: usize) -> u64;
 
     pub fn mill_live_entry(live: *const u8, live_len: usize, out: *mut u8, out_len: usize) -> u64;
+
+    pub fn mill_assured(text: *const u8, text_len: usize, marks: *const u8, marks_len: usize) -> u64;
 }
