@@ -3,7 +3,7 @@
 # install.sh uninstall  takes away exactly what it put there
 #
 # Installed are the header, the archive, a shared object made of the archive, a pkg-config file, the program `ask` and, where it
-# is built, the tool `mill`. share/mill/installed lists them, and the folders that were made for them; it is there first, so that
+# is built, the tool `mill`, stripped, with its man pages and its completions for bash, zsh and fish. share/mill/installed lists them, and the folders that were made for them; it is there first, so that
 # what an install leaves that was stopped can be taken away, or installed again. A file that is there and is not on that list is
 # another's: then nothing is installed.
 set -eu
@@ -82,7 +82,9 @@ Cflags: -I\${includedir}
 END
 
     places="include/mill.h lib/libmill.a lib/libmill.so.$version lib/$soname lib/libmill.so lib/pkgconfig/mill.pc bin/ask"
-    [ ! -x rust/target/release/mill ] || places="$places bin/mill"
+    man='share/man/man1/mill.1 share/man/man5/mill.5'
+    completions='share/bash-completion/completions/mill share/zsh/site-functions/_mill share/fish/vendor_completions.d/mill.fish'
+    [ ! -x rust/target/release/mill ] || places="$places bin/mill $man $completions"
     places="$places share/mill/installed"
 
     # What an earlier install put there, and what it made.
@@ -108,7 +110,15 @@ END
     put 644 "$made/mill.pc" lib/pkgconfig/mill.pc
     put 755 target/bin/ask bin/ask
     case $places in
-        *bin/mill*) put 755 rust/target/release/mill bin/mill ;;
+        *bin/mill*)
+            strip -o "$made/mill" rust/target/release/mill
+            put 755 "$made/mill" bin/mill
+            put 644 rust/tool/man/mill.1 share/man/man1/mill.1
+            put 644 rust/tool/man/mill.5 share/man/man5/mill.5
+            put 644 rust/tool/completions/mill.bash share/bash-completion/completions/mill
+            put 644 rust/tool/completions/_mill share/zsh/site-functions/_mill
+            put 644 rust/tool/completions/mill.fish share/fish/vendor_completions.d/mill.fish
+            ;;
         *) echo "install.sh: the tool mill is not built, and is left out" >&2 ;;
     esac
 
