@@ -3,7 +3,7 @@
 //! `NAME.marks` is text: the line `mill marks`, and then each mark on a line of its own, ascending, none twice.
 
 use crate::replace::named_beside;
-use crate::trouble::Trouble;
+use crate::trouble::{shown, Trouble};
 use crate::{input, tin};
 use mill::sys::{MILL_MAX_MARK, MILL_MAX_MARKS};
 use std::ffi::OsStr;
@@ -49,13 +49,22 @@ pub fn remove(file: &Path, marks: &[u32]) {
     }
 }
 
-/// The marks that a file has, which those that are given must be, if any are.
+/// The marks that a tin has, which those that are given must be, if any are.
 pub fn agreed(file: &Path, own: Vec<u32>, given: &[u32]) -> Result<Vec<u32>, Trouble> {
+    agreed_by(file, own, given, "")
+}
+
+/// The same of the marks that stand beside a file.
+pub fn agreed_beside(file: &Path, own: Vec<u32>, given: &[u32]) -> Result<Vec<u32>, Trouble> {
+    agreed_by(file, own, given, &format!(" as {} says,", shown(&beside(file))))
+}
+
+fn agreed_by(file: &Path, own: Vec<u32>, given: &[u32], who_says: &str) -> Result<Vec<u32>, Trouble> {
     if given.is_empty() || plain(given) == own {
         return Ok(own);
     }
     let [own, given] = [own, plain(given)].map(|marks| listed(&marks));
-    Err(Trouble::of_file(file, format!("its marks are {own}, and not {given}")))
+    Err(Trouble::of_file(file, format!("its marks are {own},{who_says} and not {given}")))
 }
 
 /// Ascending, none twice: what is kept is the same.

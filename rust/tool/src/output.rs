@@ -97,22 +97,31 @@ pub fn made(arguments: &Arguments, file: Answer, figures: impl FnOnce() -> Strin
     Ok(Answer::text(figures()).noting(file.notes))
 }
 
-/// Writes the file of `-o`: one that is not there, or with `--force` another; never one that the command reads, nor one that `add`
-/// keeps with marks beside it.
+/// Writes the file of `-o`, if it may be.
 pub fn save(arguments: &Arguments, name: &Path, bytes: &[u8]) -> Result<(), Trouble> {
+    may_write(arguments, name)?;
+    replace::output(name, bytes, arguments.has(Opt::Force))
+}
+
+/// Whether the file of `-o` may be written: one that is not there, or with `--force` another; never one that the command reads, nor
+/// one that `add` keeps with marks beside it.
+pub fn may_write(arguments: &Arguments, name: &Path) -> Result<(), Trouble> {
     // Only a plain file can be one that `add` keeps, and only that has a name to look beside: a link may lead to a pipe.
     match fs::metadata(name) {
-        Ok(there) if !there.is_file() => return replace::output(name, bytes, true),
+        Ok(there) if !there.is_file() => return Ok(()),
         Ok(there) => {
             let same = |file: &Path| fs::metadata(file).is_ok_and(|read| (read.dev(), read.ino()) == (there.dev(), there.ino()));
-            if arguments.all().any(same) {
+            if arguments.all().chain([Path::new("/dev/stdin")]).any(same) {
                 return Err(Trouble::of_file(name, "is a file that this command reads, and is not written over"));
             }
         }
         Err(_) => (),
     }
     not_of_add(name, &replace::real(name)?)?;
-    replace::output(name, bytes, arguments.has(Opt::Force))
+    match name.exists() && !arguments.has(Opt::Force) {
+        true => Err(replace::there_already(name)),
+        false => Ok(()),
+    }
 }
 
 /// Refuses the files that `add` keeps beside its own: readings with marks beside them, those marks, and a lock.

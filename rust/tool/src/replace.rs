@@ -52,7 +52,7 @@ pub fn output(file: &Path, bytes: &[u8], over: bool) -> Result<(), Trouble> {
     put(&real, &beside, bytes, if over { rename } else { link })
 }
 
-fn there_already(file: &Path) -> Trouble {
+pub fn there_already(file: &Path) -> Trouble {
     Trouble::of_file(file, "is there already; --force writes over it")
 }
 

@@ -83,10 +83,11 @@ impl Source {
     /// The marks to read it with: its own, which those that are given must be, if any are; else those that are given.
     pub fn marks(&self, file: &Path, given: &[u32]) -> Result<Vec<u32>, Trouble> {
         match &self.kept {
-            Kept::Under { marks, .. } => marks::agreed(file, marks.clone(), given),
+            Kept::Under { marks, tin: Some(_) } => marks::agreed(file, marks.clone(), given),
+            Kept::Under { marks, tin: None } => marks::agreed_beside(file, marks.clone(), given),
             Kept::Unknown => Ok(given.to_vec()),
             Kept::Doubtful(_) => match marks::stored(&real(file)?)? {
-                Some(stored) => marks::agreed(file, stored, given),
+                Some(stored) => marks::agreed_beside(file, stored, given),
                 None => Ok(given.to_vec()),
             },
         }

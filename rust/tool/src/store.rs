@@ -62,7 +62,7 @@ impl Store {
             return Err(Trouble::of_file(&self.file, why));
         }
         let marks = match stored {
-            Some(stored) => marks::agreed(&self.file, stored, given)?,
+            Some(stored) => marks::agreed_beside(&self.file, stored, given)?,
             None => given.to_vec(),
         };
         let begun = Thinning::start(&marks).and_then(|_| Thinning::start(&marks::plain(&marks)));

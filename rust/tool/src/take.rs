@@ -43,13 +43,16 @@ fn begun(store: &Store, arguments: &Arguments, piece: &Path, bytes: &[u8]) -> Re
     }
     let other = Tin::read(bytes).map_err(|why| Trouble::of_file(piece, why))?;
     let own = marks::agreed(piece, other.marks, &arguments.marks)?;
-    let before = store.tin(&arguments.marks)?;
+    let before = store.tin(&own)?;
     if before.held() > 0 {
         let why = "is a tin, and lacks readings that may have to be kept behind others: take its recording";
         return Err(Trouble::of_file(piece, why));
     }
-    let begun = Tin { marks: own, ..before };
-    Ok((begun, other.readings, other.taken))
+    if before.marks != own {
+        let [own, begun] = [own, before.marks].map(|marks| marks::listed(&marks));
+        return Err(Trouble::of_file(piece, format!("its marks are {own}, and not {begun}")));
+    }
+    Ok((before, other.readings, other.taken))
 }
 
 fn said(arguments: &Arguments, taken: usize, tin: &Tin) -> Answer {

@@ -5,7 +5,7 @@ use crate::arguments::{usage, Arguments};
 use crate::hints::Hint;
 use crate::layout::Layout;
 use crate::options::Opt;
-use crate::output::{made, save, Answer};
+use crate::output::{made, may_write, save, Answer};
 use crate::replace::named_beside;
 use crate::store::can_be_kept;
 use crate::take::take;
@@ -95,9 +95,8 @@ fn one(arguments: &Arguments, file: &Path, all: Vec<mill::Reading>, recording: V
 fn pieces(arguments: &Arguments, name: &Path, recording: &[u8]) -> Result<Answer, Trouble> {
     let all: Vec<&[u8]> = recording.chunks(MILL_MAX_RECORDS * MILL_RECORD_BYTES).collect();
     let names: Vec<_> = (1..=all.len()).map(|number| named_beside(name, &format!("-{number}"))).collect();
-    if let Some(there) = names.iter().find(|name| name.exists() && !arguments.has(Opt::Force)) {
-        return Err(Trouble::of_file(there, "is there already; --force writes over it"));
-    }
+    // All of them, before the first is written.
+    names.iter().try_for_each(|name| may_write(arguments, name))?;
     for (name, piece) in names.iter().zip(&all) {
         save(arguments, name, piece)?;
     }

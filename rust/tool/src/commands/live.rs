@@ -64,6 +64,8 @@ fn run(arguments: &Arguments) -> Result<Answer, Trouble> {
     let [] = arguments.operands("live", [])?;
     let marks = marks::plain(&arguments.marks);
     let live = Live::start(&arguments.marks).and_then(|_| Live::start(&marks)).map_err(Trouble::refused_alone)?;
+    // At once, and not when the run is at its end.
+    arguments.output.iter().try_for_each(|name| output::may_write(arguments, name))?;
     let mut run = Run { arguments, marks, live, count: 0, moments: BTreeMap::new(), status: 0, bad: 0 };
     let mut input = io::stdin().lock();
     for number in 1.. {

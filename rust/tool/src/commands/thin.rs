@@ -35,13 +35,12 @@ fn run(arguments: &Arguments) -> Result<Answer, Trouble> {
     let kept = mill::thin(&source.readings, &marks).map_err(refused)?;
     let [full, count] = [source.readings.len(), kept.len()].map(|bytes| bytes / MILL_RECORD_BYTES);
     let taken = source.counts().map_or(Some(full as u64), |counts| counts.taken);
-    let note = taken.and_then(|taken| noise::of_kept(recording, taken, &kept));
+    let tin = Tin { marks: marks::plain(&marks), taken, pins: 0, readings: kept };
+    let notes = noise::of_tin(recording, &tin);
     let file = match (&arguments.output, arguments.json) {
-        (None, true) => Answer::text(readings::listed(&mill::decode(&kept).map_err(refused)?)),
-        (Some(_), _) if !arguments.has(Opt::Raw) => {
-            Answer::bytes(Tin { marks: marks::plain(&marks), taken, pins: 0, readings: kept }.bytes())
-        }
-        _ => Answer::bytes(kept),
+        (None, true) => Answer::text(readings::listed(&mill::decode(&tin.readings).map_err(refused)?)),
+        (Some(_), _) if !arguments.has(Opt::Raw) => Answer::bytes(tin.bytes()),
+        _ => Answer::bytes(tin.readings),
     };
     let answer = made(arguments, file, || {
         if arguments.json {
@@ -52,7 +51,7 @@ fn run(arguments: &Arguments) -> Result<Answer, Trouble> {
         }
         format!("readings {full}\nkept     {count}\n")
     });
-    answer.map(|answer| answer.noting(note))
+    answer.map(|answer| answer.noting(notes))
 }
 
 /// The marks to thin with. Kept readings may lack what other marks than their own would keep.
@@ -61,7 +60,7 @@ fn marks_for(file: &Path, source: &Source, given: &[u32]) -> Result<Vec<u32>, Tr
         Kept::Under { marks: own, .. } if given.iter().all(|mark| own.contains(mark)) => {
             Ok(if given.is_empty() { own.clone() } else { given.to_vec() })
         }
-        Kept::Under { marks: own, .. } => marks::agreed(file, own.clone(), given),
+        Kept::Under { .. } => source.marks(file, given),
         _ => Ok(given.to_vec()),
     }
 }

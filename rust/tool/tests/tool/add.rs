@@ -130,7 +130,7 @@ fn marks_stay_as_they_were_set() {
     for words in [&["add", "kept", "r2.rec"][..], &["add", "-m40", "kept", "r2.rec", "-m10"]] {
         std::fs::remove_file(folder.at("kept")).unwrap();
         folder.put("kept.marks", b"mill marks\n10\n40\n");
-        folder.mill(&["add", "-m", "50", "kept", "r2.rec"]).troubles("kept: its marks are 10 40, and not 50");
+        folder.mill(&["add", "-m", "50", "kept", "r2.rec"]).troubles("kept: its marks are 10 40, as kept.marks says, and not 50");
         assert_eq!(folder.read("kept"), None);
         folder.mill(words).answers("taken 9\nheld  8\n");
         assert_eq!(folder.tin("kept").unwrap().marks, [10, 40]);

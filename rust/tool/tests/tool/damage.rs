@@ -306,6 +306,12 @@ fn a_tin_as_a_piece_can_only_begin_a_tin() {
     folder.mill(&["add", "new", "two"]).troubles_with("two: is a tin, and lacks readings that may have to be kept behind others");
     folder.mill(&["add", "-m", "10", "other", "one"]).troubles("one: its marks are 40, and not 10");
     assert_eq!((folder.read("new"), folder.read("other")), (before, None));
+    // Marks that are set stay, though nothing is held yet.
+    folder.mill(&["add", "-m", "10", "begun", "empty.rec"]).answers("taken 0\nheld  0\n");
+    folder.mill(&["add", "begun", "one"]).troubles("begun: its marks are 10, and not 40");
+    folder.mill(&["add", "unmarked", "first"]).answers("taken 4\nheld  4\n");
+    folder.mill(&["add", "begun", "unmarked"]).troubles("unmarked: its marks are none, and not 10");
+    assert_eq!(folder.tin("begun"), Some(Tin::of(&[10], 0, &[])));
     folder.mill(&["add", "new", "second"]).answers("taken 5\nheld  8\n");
     assert_eq!(folder.tin("new"), Some(Tin::of(&[40], 9, &reference::thin(&r3, &mark_bytes(&[40]), 4096).unwrap())));
 }

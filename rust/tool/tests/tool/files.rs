@@ -94,6 +94,10 @@ fn no_command_writes_over_a_file_that_it_reads() {
     folder.put("one.csv", b"time,a,b,slope_a,slope_b\n");
     folder.mill(&["import", "one.csv", "-o", "one.csv", "--force"]).troubles(&format!("one.csv: {reads}"));
     assert_eq!((folder.names(), folder.read("tin")), (before, tin));
+    // Standard input is read too.
+    let child = folder.command(Path::new(MILL), &["thin", "-", "-o", "r3.rec", "--force"]);
+    let ran = { child }.stdin(std::fs::File::open(folder.at("r3.rec")).unwrap()).spawn().unwrap();
+    Ran::of(ran, &["thin"]).troubles(&format!("r3.rec: {reads}"));
     // A glob that takes the first for the file of -o.
     let globbed = folder.mill(&["entry", "-o", "r1.rec", "r2.rec", "r3.rec"]);
     globbed.troubles("r1.rec: is there already; --force writes over it");

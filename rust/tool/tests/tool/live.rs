@@ -29,7 +29,8 @@ fn what_is_kept_is_what_thinning_keeps() {
     folder.put("rest", &r3_bytes()[80..]);
     assert_eq!(folder.mill(&["add", "tin", "rest"]).status, Some(0));
     assert_eq!(folder.tin("tin"), Some(Tin::of(&[10], 9, &reference::thin(&r3_bytes(), &mark_bytes(&[10]), 4096).unwrap())));
-    folder.mill_reads(&["live", "-o", "tin"], b"").troubles("tin: is there already; --force writes over it");
+    // Said at once, and not when the run is at its end.
+    folder.mill_reads(&["live", "-o", "tin"], b"kept\n").troubles("tin: is there already; --force writes over it");
     let told = folder.mill_reads(&["live", "--force", "--json", "-o", "tin"], b"");
     told.answers("{\"readings\":0,\"kept\":0}\n");
 }

@@ -39,4 +39,6 @@ fn a_tin_that_is_nearly_full_is_named() {
     assert_eq!((ran.status, ran.err.lines().count()), (Some(0), 2), "{}", ran.err);
     let line = "mill: tin: holds 3840 of at most 4096 readings (A turns 0 times, B 0 times, they cross 0 times, 3840 additions): begin another tin soon";
     assert_eq!(ran.err.lines().last(), Some(line));
+    let ran = folder.mill(&["thin", "-o", "other", "tin"]);
+    assert_eq!((ran.status, ran.err.lines().last()), (Some(0), Some(line)));
 }

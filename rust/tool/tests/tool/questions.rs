@@ -186,7 +186,9 @@ fn lab_goes_by_the_marks_beside_the_readings() {
     folder.put("kept", &folder.kept("kept").unwrap());
     folder.put("kept.marks", b"mill marks\n40\n");
     folder.mill(&["lab", "ask", "lowafter(A,40)", "kept"]).answers(answer);
-    folder.mill(&["lab", "ask", "-m", "10", "lowafter(A,40)", "kept"]).troubles("kept: its marks are 40, and not 10");
+    folder
+        .mill(&["lab", "ask", "-m", "10", "lowafter(A,40)", "kept"])
+        .troubles("kept: its marks are 40, as kept.marks says, and not 10");
     folder.put("kept.marks", b"nonsense");
     folder.mill(&["lab", "ask", "peaks(A)", "kept"]).troubles("kept.marks: holds no list of marks");
     std::os::unix::fs::symlink("kept", folder.at("link")).unwrap();

@@ -52,7 +52,7 @@ fn a_tin_is_thinned_under_its_own_marks() {
     folder.put("pair", &kept(&[40]));
     folder.put("pair.marks", b"mill marks\n40\n");
     folder.mill(&["thin", "pair"]).gives(&kept(&[40]));
-    folder.mill(&["thin", "-m10", "pair"]).troubles("pair: its marks are 40, and not 10");
+    folder.mill(&["thin", "-m10", "pair"]).troubles("pair: its marks are 40, as pair.marks says, and not 10");
 }
 
 #[test]
