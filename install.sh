@@ -3,7 +3,8 @@
 # install.sh uninstall  takes away exactly what it put there
 #
 # Installed are the header, the archive, a shared object made of the archive, a pkg-config file, the program `ask`, the Python package
-# under share/mill/python and, where they are built, the tool `mill` and the library for 64-bit Arm under lib/aarch64-linux-gnu.
+# under share/mill/python and, where they are built, the tool `mill`, stripped, with
+# its man pages and its completions for bash, zsh and fish, and the library for 64-bit Arm under lib/aarch64-linux-gnu.
 # share/mill/installed lists them, and the folders that were made for them; it is there first, so that what an install leaves that was
 # stopped can be taken away, or installed again. A file that is there and is not on that list is another's: then nothing is installed.
 set -eu
@@ -106,7 +107,9 @@ install() {
 
     python=$(cd python && echo pyproject.toml README.md build_backend/backend.py mill/py.typed mill/*.py)
     places="include/mill.h $(libraries lib) bin/ask"
-    [ ! -x rust/target/release/mill ] || places="$places bin/mill"
+    man='share/man/man1/mill.1 share/man/man5/mill.5'
+    completions='share/bash-completion/completions/mill share/zsh/site-functions/_mill share/fish/vendor_completions.d/mill.fish'
+    [ ! -x rust/target/release/mill ] || places="$places bin/mill $man $completions"
     if [ -f target/aarch64/libmill.a ]; then
         [ -f "target/aarch64/libmill.so.$version" ] ||
             fail "target/aarch64 has no libmill.so.$version: run 'make build TARGET=aarch64' again"
@@ -135,11 +138,18 @@ install() {
     put 644 include/mill.h include/mill.h
     put_libraries staticlib lib
     put 755 target/bin/ask bin/ask
-    if [ -x rust/target/release/mill ]; then
-        put 755 rust/target/release/mill bin/mill
-    else
-        echo "install.sh: the tool mill is not built, and is left out" >&2
-    fi
+    case $places in
+        *bin/mill*)
+            strip -o "$made/mill" rust/target/release/mill
+            put 755 "$made/mill" bin/mill
+            put 644 rust/tool/man/mill.1 share/man/man1/mill.1
+            put 644 rust/tool/man/mill.5 share/man/man5/mill.5
+            put 644 rust/tool/completions/mill.bash share/bash-completion/completions/mill
+            put 644 rust/tool/completions/_mill share/zsh/site-functions/_mill
+            put 644 rust/tool/completions/mill.fish share/fish/vendor_completions.d/mill.fish
+            ;;
+        *) echo "install.sh: the tool mill is not built, and is left out" >&2 ;;
+    esac
     [ ! -d "$made/aarch64" ] || put_libraries aarch64 lib/aarch64-linux-gnu
     for file in $python; do put 644 "python/$file" "share/mill/python/$file"; done
 

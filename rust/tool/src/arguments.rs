@@ -1,28 +1,11 @@
 //! The words behind a command: options, which may stand anywhere before `--`, and operands.
 
+use crate::options::Opt;
+use crate::similar;
 use crate::trouble::Trouble;
 use std::ffi::{OsStr, OsString};
 use std::os::unix::ffi::{OsStrExt, OsStringExt};
 use std::path::{Path, PathBuf};
-
-/// Which options a command has, besides `--help` and `--json`.
-#[derive(Clone, Copy, PartialEq, Eq)]
-pub enum Takes {
-    Nothing,
-    Marks,
-    Output,
-    MarksAndOutput,
-}
-
-impl Takes {
-    fn marks(self) -> bool {
-        matches!(self, Takes::Marks | Takes::MarksAndOutput)
-    }
-
-    fn output(self) -> bool {
-        matches!(self, Takes::Output | Takes::MarksAndOutput)
-    }
-}
 
 #[derive(Debug, Default)]
 pub struct Arguments {
@@ -31,11 +14,14 @@ pub struct Arguments {
     pub marks: Vec<u32>,
     /// The file of `-o`; `-` is standard output and counts as none.
     pub output: Option<PathBuf>,
+    flags: Vec<Opt>,
+    values: Vec<(Opt, OsString)>,
     operands: Vec<OsString>,
 }
 
 impl Arguments {
-    pub fn read(command: &str, takes: Takes, words: impl IntoIterator<Item = OsString>) -> Result<Arguments, Trouble> {
+    /// The words of a command that takes these options, beside `--json` and `--help`.
+    pub fn read(command: &str, takes: &[Opt], words: impl IntoIterator<Item = OsString>) -> Result<Arguments, Trouble> {
         let mut read = Arguments::default();
         let mut words = words.into_iter();
         let mut options = true;
@@ -43,35 +29,75 @@ impl Arguments {
             let bytes = word.as_bytes();
             if !options || !looks_like_option(bytes) {
                 read.operands.push(word);
-                continue;
-            }
-            if bytes == b"--" {
+            } else if bytes == b"--" {
                 options = false;
-                continue;
-            }
-            let (name, mut value) = split(&word);
-            match name.as_slice() {
-                b"-h" | b"--help" if value.is_none() => read.help = true,
-                b"--json" if value.is_none() => read.json = true,
-                b"-m" | b"--mark" if takes.marks() => {
-                    let value = value.take().or_else(|| words.next());
-                    read.marks.push(mark(command, value)?);
-                }
-                b"-o" | b"--output" if takes.output() => {
-                    let value = value.take().or_else(|| words.next());
-                    let Some(file) = value.filter(|file| !file.is_empty()) else {
-                        return Err(usage(command, "-o wants the name of a file"));
-                    };
-                    read.output = (file != "-").then(|| PathBuf::from(file));
-                }
-                _ => return Err(usage(command, &format!("no option '{}'", word.to_string_lossy().escape_debug()))),
+            } else {
+                read.option(command, takes, &word, &mut words)?;
             }
         }
         Ok(read)
     }
 
+    fn option(
+        &mut self,
+        command: &str,
+        takes: &[Opt],
+        word: &OsStr,
+        words: &mut impl Iterator<Item = OsString>,
+    ) -> Result<(), Trouble> {
+        let (name, value) = split(word);
+        let all = || takes.iter().chain(&[Opt::Json, Opt::Help]).map(|opt| opt.form());
+        let unknown = || {
+            let typed = word.to_string_lossy();
+            let words: Vec<String> = all().map(|form| format!("--{}", form.word)).collect();
+            let hint = similar::hint(&typed, words.iter().map(String::as_str));
+            usage(command, &format!("no option '{}'{hint}", typed.escape_debug()))
+        };
+        let form = all().find(|form| form.is(&name)).ok_or_else(unknown)?;
+        if form.value.is_none() && value.is_some() {
+            return Err(unknown());
+        }
+        let value = match form.value {
+            Some(_) => value.or_else(|| words.next()),
+            None => None,
+        };
+        match (form.opt, value) {
+            (Opt::Help, _) => self.help = true,
+            (Opt::Json, _) => self.json = true,
+            (Opt::Mark, value) => self.marks.push(mark(command, value)?),
+            (Opt::Output, value) => {
+                let Some(file) = value.filter(|file| !file.is_empty()) else {
+                    return Err(usage(command, "-o wants the name of a file"));
+                };
+                self.output = (file != "-").then(|| PathBuf::from(file));
+            }
+            (opt, Some(value)) => self.values.push((opt, value)),
+            (opt, None) if form.value.is_none() => self.flags.push(opt),
+            (_, None) => return Err(usage(command, &format!("--{} wants a value", form.word))),
+        }
+        Ok(())
+    }
+
+    pub fn has(&self, opt: Opt) -> bool {
+        self.flags.contains(&opt)
+    }
+
+    /// The value of an option, the last where it is given twice.
+    pub fn value(&self, opt: Opt) -> Option<&OsStr> {
+        self.values.iter().rev().find(|(given, _)| *given == opt).map(|(_, value)| value.as_os_str())
+    }
+
     pub fn first(&self) -> Option<&OsStr> {
         self.operands.first().map(OsString::as_os_str)
+    }
+
+    /// All operands: among them are the files that the command reads.
+    pub fn all(&self) -> impl Iterator<Item = &Path> {
+        self.operands.iter().map(Path::new)
+    }
+
+    pub fn count(&self) -> usize {
+        self.operands.len()
     }
 
     /// The operands, which must be as many as there are names. What a name stands for is said where one is missing.
@@ -80,33 +106,32 @@ impl Arguments {
         if let Some(more) = self.operands.get(N) {
             return Err(usage(command, &format!("'{}' is one operand too many", more.to_string_lossy().escape_debug())));
         }
-        let mut found = [OsStr::new(""); N];
-        for (place, operand) in found.iter_mut().zip(&self.operands) {
-            *place = operand;
-        }
         self.one_standard_input(command)?;
-        Ok(found)
+        Ok(self.first_of())
     }
 
-    /// The same, where the last name stands for one or more.
+    /// The same, where one or more files follow; `file` is the name of one.
     pub fn operands_then_files<const N: usize>(
         &self,
         command: &str,
         names: [&str; N],
-    ) -> Result<([&OsStr; N], Vec<&Path>), Trouble> {
+        file: &str,
+    ) -> Result<([&OsStr; N], Vec<&OsStr>), Trouble> {
         self.at_least(command, names)?;
-        let Some((first, rest)) = self.operands.split_at_checked(N) else {
-            return Err(usage(command, "operands are missing"));
-        };
+        let rest: Vec<&OsStr> = self.operands.iter().skip(N).map(OsString::as_os_str).collect();
         if rest.is_empty() {
-            return Err(usage(command, "RECORDING is missing"));
-        }
-        let mut found = [OsStr::new(""); N];
-        for (place, operand) in found.iter_mut().zip(first) {
-            *place = operand;
+            return Err(usage(command, &format!("{file} is missing")));
         }
         self.one_standard_input(command)?;
-        Ok((found, rest.iter().map(Path::new).collect()))
+        Ok((self.first_of(), rest))
+    }
+
+    fn first_of<const N: usize>(&self) -> [&OsStr; N] {
+        let mut found = [OsStr::new(""); N];
+        for (place, operand) in found.iter_mut().zip(&self.operands) {
+            *place = operand;
+        }
+        found
     }
 
     fn at_least<const N: usize>(&self, command: &str, names: [&str; N]) -> Result<(), Trouble> {
@@ -120,6 +145,16 @@ impl Arguments {
         match self.operands.iter().filter(|operand| *operand == "-").count() {
             0 | 1 => Ok(()),
             _ => Err(usage(command, "'-', standard input, can be read only once")),
+        }
+    }
+}
+
+impl crate::options::Form {
+    /// Whether the word is this option's, with its dashes.
+    fn is(&self, name: &[u8]) -> bool {
+        match name.strip_prefix(b"--") {
+            Some(word) => word == self.word.as_bytes(),
+            None => self.letter.is_some_and(|letter| name == format!("-{letter}").as_bytes()),
         }
     }
 }

@@ -4,7 +4,7 @@ use crate::trouble::{shown, Trouble};
 use std::path::Path;
 
 /// The most lines that are named; of more only the count is told.
-const NAMED: usize = 100;
+pub const NAMED: usize = 100;
 
 /// The most characters that are quoted of what a file holds.
 const QUOTED: usize = 40;

@@ -2,6 +2,7 @@
 
 mod add;
 mod ask;
+mod assured;
 mod band;
 mod degree;
 mod entry;
@@ -9,14 +10,20 @@ mod export;
 mod find;
 mod import;
 mod lab;
+mod live;
 mod order;
 mod pair;
+mod pin;
+mod raw;
 mod report;
 mod show;
 mod thin;
+mod verify;
 
-use crate::arguments::{Arguments, Takes};
+use crate::arguments::Arguments;
+use crate::options::Opt;
 use crate::output::Answer;
+use crate::pages;
 use crate::trouble::Trouble;
 
 pub struct Command {
@@ -27,23 +34,29 @@ pub struct Command {
     pub does: &'static str,
     /// What else its page says.
     pub about: &'static str,
-    pub takes: Takes,
+    /// Its options, beside `--json` and `--help`.
+    pub takes: &'static [Opt],
     pub run: fn(&Arguments) -> Result<Answer, Trouble>,
 }
 
-pub const COMMANDS: [Command; 14] = [
+pub const COMMANDS: [Command; 19] = [
     ask::COMMAND,
     degree::COMMAND,
     pair::COMMAND,
     band::COMMAND,
     order::COMMAND,
     report::COMMAND,
+    assured::COMMAND,
     entry::COMMAND,
     find::COMMAND,
     lab::COMMAND,
     show::COMMAND,
     thin::COMMAND,
     add::COMMAND,
+    verify::COMMAND,
+    pin::COMMAND,
+    raw::COMMAND,
+    live::COMMAND,
     import::COMMAND,
     export::COMMAND,
 ];
@@ -60,6 +73,9 @@ pub fn overview() -> String {
         page.push_str(&format!("  {:<7} {}\n", command.name, command.does));
     }
     page.push_str("\n'mill COMMAND --help' says more of each. A file named - is standard input.\n");
+    let pages: Vec<String> = pages::names().map(|name| format!("'mill help {name}'")).collect();
+    let (last, first) = pages.split_last().map_or(("", &pages[..0]), |(last, first)| (last.as_str(), first));
+    page.push_str(&format!("There are pages too: {}\nand {last}.\n", first.join(", ")));
     page.push_str("Every command takes --json. 'mill --version' prints the version.\n\n");
     page + STATUS
 }
@@ -69,14 +85,10 @@ impl Command {
     pub fn page(&self) -> String {
         let mut page = format!("Usage: mill {} {}\n\n{}\n\n{}\n", self.name, self.operands, self.does, self.about);
         page.push_str("Options:\n");
-        if matches!(self.takes, Takes::Marks | Takes::MarksAndOutput) {
-            page.push_str("  -m, --mark K       a mark, an after-time of the thinning; up to 8 times\n");
+        for opt in self.takes.iter().chain(&[Opt::Json, Opt::Help]) {
+            page.push_str(&opt.form().line());
         }
-        if matches!(self.takes, Takes::Output | Takes::MarksAndOutput) {
-            page.push_str("  -o, --output FILE  write FILE, whole or not at all\n");
-        }
-        page.push_str("      --json         the answer, or the refusal, as a line of JSON\n");
-        page.push_str("  -h, --help         this page\n\n");
+        page.push('\n');
         page + STATUS
     }
 }

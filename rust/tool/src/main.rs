@@ -6,24 +6,38 @@
 #![forbid(unsafe_code)]
 
 mod arguments;
+mod assured;
 mod bad_lines;
 mod commands;
+mod crc64;
 mod csv;
 mod events;
+mod hints;
 mod input;
 mod json;
+mod layout;
+mod lock;
 mod marks;
+mod noise;
+mod options;
 mod output;
+mod pages;
 mod readings;
 mod replace;
+mod similar;
+mod source;
+mod store;
+mod summary;
 mod table;
+mod take;
+mod text;
+mod tin;
 mod trouble;
 
 use arguments::Arguments;
 use commands::{Command, COMMANDS};
 use output::Answer;
 use std::ffi::OsString;
-use std::io::Write;
 use std::process::ExitCode;
 use trouble::Trouble;
 
@@ -33,59 +47,56 @@ fn main() -> ExitCode {
         None => Err((Trouble::Usage("no command; see 'mill --help'".to_string()), false)),
         Some(word) => answer(&word, words.collect()),
     };
-    let said = said.and_then(|answer| answer.say().map_err(|trouble| (trouble, false)));
-    match said {
-        Ok(()) => ExitCode::SUCCESS,
-        Err((trouble, json)) => ExitCode::from(complain(trouble, json)),
-    }
+    ExitCode::from(match said.map(|answer| (answer.status, answer.say())) {
+        Ok((status, Ok(()) | Err(Trouble::Unread))) => status,
+        Ok((_, Err(trouble))) => complain(&trouble, false),
+        Err((trouble, json)) => complain(&trouble, json),
+    })
 }
 
 /// The answer to a command, or the trouble and whether it is to be told as JSON.
 fn answer(word: &OsString, words: Vec<OsString>) -> Result<Answer, (Trouble, bool)> {
     match word.to_str() {
-        Some("-h" | "--help") => return Ok(Answer::Text(commands::overview())),
+        Some("-h" | "--help") => return Ok(Answer::text(commands::overview())),
         Some("help") => return help(words).map_err(|trouble| (trouble, false)),
-        Some("-V" | "--version") => return Ok(Answer::Text(format!("mill {}\n", env!("CARGO_PKG_VERSION")))),
+        Some("-V" | "--version") => return Ok(Answer::text(format!("mill {}\n", env!("CARGO_PKG_VERSION")))),
         _ => (),
     }
-    let command = named(word).map_err(|trouble| (trouble, false))?;
+    let command = named(word).ok_or_else(|| (unknown(word, names()), false))?;
     let arguments = Arguments::read(command.name, command.takes, words).map_err(|trouble| (trouble, false))?;
     match arguments.help {
-        true => Ok(Answer::Text(command.page())),
+        true => Ok(Answer::text(command.page())),
         false => (command.run)(&arguments).map_err(|trouble| (trouble, arguments.json)),
     }
 }
 
-/// `mill help` and `mill help COMMAND`.
+/// `mill help`, `mill help COMMAND` and `mill help PAGE`.
 fn help(words: Vec<OsString>) -> Result<Answer, Trouble> {
-    match words.first() {
-        None => Ok(Answer::Text(commands::overview())),
-        Some(word) => named(word).map(|command| Answer::Text(command.page())),
-    }
+    let Some(word) = words.first() else { return Ok(Answer::text(commands::overview())) };
+    let page = named(word).map(Command::page).or_else(|| pages::named(word.to_str()?).map(str::to_string));
+    page.map(Answer::text).ok_or_else(|| unknown(word, names().chain(pages::names())))
 }
 
-fn named(word: &OsString) -> Result<&'static Command, Trouble> {
-    let found = COMMANDS.iter().find(|command| word == command.name);
-    let unknown = || format!("no command '{}'; see 'mill --help'", word.to_string_lossy().escape_debug());
-    found.ok_or_else(|| Trouble::Usage(unknown()))
+fn names() -> impl Iterator<Item = &'static str> {
+    COMMANDS.iter().map(|command| command.name)
 }
 
-/// Says why there is no answer. A refusal that is asked for as JSON goes to standard output, as an answer would.
-fn complain(trouble: Trouble, json: bool) -> u8 {
-    let status = trouble.status();
-    match trouble.json().filter(|_| json) {
-        Some(line) => match Answer::Text(line).say() {
-            Ok(()) | Err(Trouble::Unread) => status,
-            Err(trouble) => complain(trouble, false),
-        },
-        None => {
-            let mut lines = trouble.lines().join("\n");
-            if !lines.is_empty() {
-                lines.push('\n');
-            }
-            // Where standard error can't be written either, the status alone tells.
-            let _ = std::io::stderr().write_all(lines.as_bytes());
-            status
-        }
+fn named(word: &OsString) -> Option<&'static Command> {
+    COMMANDS.iter().find(|command| word == command.name)
+}
+
+fn unknown<'a>(word: &OsString, names: impl Iterator<Item = &'a str>) -> Trouble {
+    let typed = word.to_string_lossy();
+    let hint = similar::hint(&typed, names);
+    Trouble::Usage(format!("no command '{}'{hint}; see 'mill --help'", typed.escape_debug()))
+}
+
+/// Says why there is no answer. What is asked for as JSON goes to standard output, as an answer would.
+fn complain(trouble: &Trouble, json: bool) -> u8 {
+    match trouble.json().filter(|_| json).map(|line| Answer::text(line).say()) {
+        None => output::tell(&trouble.lines()),
+        Some(Ok(()) | Err(Trouble::Unread)) => (),
+        Some(Err(trouble)) => return complain(&trouble, false),
     }
+    trouble.status()
 }

@@ -1,10 +1,10 @@
-//! The marks of a file of kept readings, in a small file beside it.
+//! The marks of kept readings. Before there were tins they stood in a small file beside the readings, which is still read.
 //!
 //! `NAME.marks` is text: the line `mill marks`, and then each mark on a line of its own, ascending, none twice.
 
-use crate::input;
-use crate::replace::{named_beside, new_beside, real, replace};
+use crate::replace::named_beside;
 use crate::trouble::{shown, Trouble};
+use crate::{input, tin};
 use mill::sys::{MILL_MAX_MARK, MILL_MAX_MARKS};
 use std::ffi::OsStr;
 use std::os::unix::ffi::OsStrExt;
@@ -29,35 +29,42 @@ pub fn stored(file: &Path) -> Result<Option<Vec<u32>>, Trouble> {
 /// The kept readings of which a file is the list of marks or the lock, if it is one.
 pub fn kept_of(file: &Path) -> Option<PathBuf> {
     let name = file.as_os_str().as_bytes();
-    let kept = name.strip_suffix(b".marks").or_else(|| name.strip_suffix(b".lock"))?;
+    let (lock, kept) = match name.strip_suffix(b".lock") {
+        Some(kept) => (true, kept),
+        None => (false, name.strip_suffix(b".marks")?),
+    };
     let kept = PathBuf::from(OsStr::from_bytes(kept));
-    // What can't be read may be a list of marks.
-    let listed = input::if_there(&beside(&kept)).map_or(true, |bytes| bytes.is_some_and(|bytes| parsed(&bytes).is_some()));
-    listed.then_some(kept)
+    // What can't be read may be a list of marks, or a tin.
+    let is =
+        |file: &Path, one: fn(&[u8]) -> bool| input::if_there(file).map_or(true, |bytes| bytes.is_some_and(|bytes| one(&bytes)));
+    let listed = is(&beside(&kept), |bytes| parsed(bytes).is_some());
+    (listed || lock && is(&kept, tin::is_one)).then_some(kept)
 }
 
-pub fn store(file: &Path, marks: &[u32]) -> Result<(), Trouble> {
-    let name = beside(file);
-    replace(&name, &new_beside(&name), written(marks).as_bytes())
-}
-
-/// The marks to read a file with: those beside it, which those that are given must be, if any are; else those that are given.
-pub fn of(file: &Path, given: &[u32]) -> Result<Vec<u32>, Trouble> {
-    if file == Path::new("-") {
-        return Ok(given.to_vec());
-    }
-    match stored(&real(file)?)? {
-        Some(stored) => agreed(file, stored, given),
-        None => Ok(given.to_vec()),
+/// Takes the list of marks away that stands beside a file, where it says what the tin in its place says.
+pub fn remove(file: &Path, marks: &[u32]) {
+    if matches!(stored(file), Ok(Some(stored)) if stored == marks) {
+        // Where this fails the list stays, and says what is so.
+        let _ = std::fs::remove_file(beside(file));
     }
 }
 
-pub fn agreed(file: &Path, stored: Vec<u32>, given: &[u32]) -> Result<Vec<u32>, Trouble> {
-    if given.is_empty() || plain(given) == stored {
-        return Ok(stored);
+/// The marks that a tin has, which those that are given must be, if any are.
+pub fn agreed(file: &Path, own: Vec<u32>, given: &[u32]) -> Result<Vec<u32>, Trouble> {
+    agreed_by(file, own, given, "")
+}
+
+/// The same of the marks that stand beside a file.
+pub fn agreed_beside(file: &Path, own: Vec<u32>, given: &[u32]) -> Result<Vec<u32>, Trouble> {
+    agreed_by(file, own, given, &format!(" as {} says,", shown(&beside(file))))
+}
+
+fn agreed_by(file: &Path, own: Vec<u32>, given: &[u32], who_says: &str) -> Result<Vec<u32>, Trouble> {
+    if given.is_empty() || plain(given) == own {
+        return Ok(own);
     }
-    let [stored, given] = [stored, plain(given)].map(|marks| listed(&marks));
-    Err(Trouble::of_file(file, format!("its marks are {stored}, as {} says, and not {given}", shown(&beside(file)))))
+    let [own, given] = [own, plain(given)].map(|marks| listed(&marks));
+    Err(Trouble::of_file(file, format!("its marks are {own},{who_says} and not {given}")))
 }
 
 /// Ascending, none twice: what is kept is the same.
@@ -68,7 +75,7 @@ pub fn plain(marks: &[u32]) -> Vec<u32> {
     plain
 }
 
-fn listed(marks: &[u32]) -> String {
+pub fn listed(marks: &[u32]) -> String {
     match marks {
         [] => "none".to_string(),
         marks => marks.iter().map(u32::to_string).collect::<Vec<_>>().join(" "),

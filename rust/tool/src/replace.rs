@@ -36,9 +36,11 @@ pub fn real(file: &Path) -> Result<PathBuf, Trouble> {
     }
 }
 
-/// The file of `-o`. What is no file and no folder, a device or a pipe, is written as it is.
-pub fn output(file: &Path, bytes: &[u8]) -> Result<(), Trouble> {
+/// The file of `-o`, which is there already only where it may be written over. What is no file and no folder, a device or a pipe,
+/// is written as it is.
+pub fn output(file: &Path, bytes: &[u8], over: bool) -> Result<(), Trouble> {
     let real = match fs::metadata(file) {
+        Ok(there) if there.is_file() && !over => return Err(there_already(file)),
         Ok(there) if there.is_dir() => return Err(Trouble::of_file(file, "Is a directory")),
         Ok(there) if !there.is_file() => {
             let written = OpenOptions::new().write(true).open(file).and_then(|mut opened| opened.write_all(bytes));
@@ -47,17 +49,42 @@ pub fn output(file: &Path, bytes: &[u8]) -> Result<(), Trouble> {
         _ => real(file)?,
     };
     let beside = named_beside(&real, &format!("{NEW}-{}", std::process::id()));
-    replace(&real, &beside, bytes)
+    put(&real, &beside, bytes, if over { rename } else { link })
+}
+
+pub fn there_already(file: &Path) -> Trouble {
+    Trouble::of_file(file, "is there already; --force writes over it")
 }
 
 /// Writes the bytes beside the file, flushes them to disk, puts them in its place and flushes the folder. Where this fails the
 /// file is as it was, unless the line says otherwise.
 pub fn replace(file: &Path, beside: &Path, bytes: &[u8]) -> Result<(), Trouble> {
-    let written = write_beside(file, beside, bytes).map_err(|error| format!("{}: {}", shown(beside), reason(&error)));
-    let put = written.and_then(|()| fs::rename(beside, file).map_err(|error| reason(&error)));
-    if let Err(why) = put {
+    put(file, beside, bytes, rename)
+}
+
+fn rename(beside: &Path, file: &Path) -> Result<(), Trouble> {
+    fs::rename(beside, file).map_err(|error| Trouble::of_file(file, format!("not written: {}", reason(&error))))
+}
+
+/// In the place of no file: another that came there meanwhile stays. Where a disk has no second names, only looking tells.
+fn link(beside: &Path, file: &Path) -> Result<(), Trouble> {
+    match fs::hard_link(beside, file) {
+        Ok(()) => {
+            let _ = fs::remove_file(beside);
+            Ok(())
+        }
+        Err(error) if error.kind() == io::ErrorKind::AlreadyExists => Err(there_already(file)),
+        Err(_) if file.symlink_metadata().is_ok() => Err(there_already(file)),
+        Err(_) => rename(beside, file),
+    }
+}
+
+fn put(file: &Path, beside: &Path, bytes: &[u8], place: fn(&Path, &Path) -> Result<(), Trouble>) -> Result<(), Trouble> {
+    let written = write_beside(file, beside, bytes)
+        .map_err(|error| Trouble::of_file(file, format!("not written: {}: {}", shown(beside), reason(&error))));
+    if let Err(trouble) = written.and_then(|()| place(beside, file)) {
         let _ = fs::remove_file(beside);
-        return Err(Trouble::of_file(file, format!("not written: {why}")));
+        return Err(trouble);
     }
     let flushed = File::open(folder_of(file)).and_then(|folder| folder.sync_all());
     flushed.map_err(|error| {

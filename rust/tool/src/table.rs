@@ -42,4 +42,15 @@ impl Table {
         }
         text
     }
+
+    /// The rows as CSV: a field that says no is empty, and one with a comma or a quote stands in quotes.
+    pub fn csv(&self) -> String {
+        let field = |field: &String| match field.as_str() {
+            "-" => String::new(),
+            field if field.contains([',', '"', '\n', '\r']) => format!("\"{}\"", field.replace('"', "\"\"")),
+            field => field.to_string(),
+        };
+        let line = |row: &Vec<String>| row.iter().map(field).collect::<Vec<_>>().join(",") + "\n";
+        self.rows.iter().map(line).collect()
+    }
 }

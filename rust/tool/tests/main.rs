@@ -7,18 +7,28 @@ mod support;
 mod tool {
     mod add;
     mod any_bytes;
+    mod assured;
     mod at_once;
     mod csv;
+    mod damage;
     mod every;
     mod files;
     mod folder;
+    mod help;
+    mod hints;
+    mod import;
     mod json;
+    mod live;
+    mod noise;
     mod page;
+    mod pin;
     mod questions;
     mod report;
     mod show;
     mod stopped;
+    mod streams;
     mod summary;
     mod terminal;
     mod thin;
+    mod tin;
 }

@@ -1,11 +1,13 @@
 //! `mill band`: what a question says of readings that are good to plus or minus some units.
 
 use super::{ask, Command};
-use crate::arguments::{self, Arguments, Takes};
+use crate::arguments::{self, Arguments};
+use crate::assured::Assurance;
+use crate::options::Opt;
 use crate::output::Answer;
 use crate::trouble::Trouble;
-use crate::{input, json};
-use mill::Run;
+use crate::{input, json, source};
+use mill::{Band, Run};
 use std::path::Path;
 
 pub const COMMAND: Command = Command {
@@ -15,9 +17,9 @@ pub const COMMAND: Command = Command {
     about: "\
 TEXT is high, low, lowafter, capafter or ampl alone, UNITS 0 to 1,000,000. The
 answer is the least and the greatest number that is certain, then those that are
-possible, or 'empty'.
+possible, or 'empty'. Of a tin, standard error says where it is not assured.
 ",
-    takes: Takes::Nothing,
+    takes: &[Opt::Assured, Opt::ExitCode],
     run,
 };
 
@@ -26,17 +28,26 @@ fn run(arguments: &Arguments) -> Result<Answer, Trouble> {
     let units = arguments::whole("band", "UNITS", units)?;
     let recording = Path::new(recording);
     let text = input::text(text)?;
-    let band = mill::band(&input::recording(recording)?, &text, units);
-    let band = band.map_err(|refusal| Trouble::refused(recording, refusal))?;
+    let source = source::asked(recording)?;
+    let band = mill::band(&source.readings, &text, units);
+    let band = band.map_err(|refusal| Trouble::refused(recording, refusal).of_text(&text))?;
+    let assurance = Assurance::of(&source, &text);
+    assurance.allows(arguments, recording)?;
+    let answer = Answer::text(said(arguments, band, &assurance)).noting(assurance.note(recording));
+    Ok(answer.of_something(arguments, band.possible.is_some()))
+}
+
+fn said(arguments: &Arguments, band: Band, assurance: &Assurance) -> String {
     if arguments.json {
         let mut object = json::Object::new();
         for (name, run) in [("certain", band.certain), ("possible", band.possible)] {
             object.raw(name, &run.as_ref().map_or("null".to_string(), ask::ends));
         }
-        return Ok(Answer::Text(object.line()));
+        assurance.put_in(&mut object);
+        return object.line();
     }
     let [certain, possible] = [band.certain, band.possible].map(words);
-    Ok(Answer::Text(format!("certain  {certain}\npossible {possible}\n")))
+    format!("certain  {certain}\npossible {possible}\n")
 }
 
 fn words(run: Option<Run>) -> String {

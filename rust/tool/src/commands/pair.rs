@@ -1,10 +1,11 @@
 //! `mill pair`: the first two tops that lie a wanted time apart.
 
 use super::Command;
-use crate::arguments::{self, Arguments, Takes};
+use crate::arguments::{self, Arguments};
+use crate::options::Opt;
 use crate::output::Answer;
 use crate::trouble::Trouble;
-use crate::{input, json};
+use crate::{json, source};
 use mill::Pair;
 use std::path::Path;
 
@@ -16,7 +17,7 @@ pub const COMMAND: Command = Command {
 CURVE is A or B, APART a time in tenths of a second. The answer is the earlier
 and the later time, of all such pairs the earliest, or 'none'.
 ",
-    takes: Takes::Nothing,
+    takes: &[Opt::ExitCode],
     run,
 };
 
@@ -25,22 +26,20 @@ fn run(arguments: &Arguments) -> Result<Answer, Trouble> {
     let curve = arguments::curve("pair", curve)?;
     let apart = arguments::whole("pair", "APART", apart)?;
     let recording = Path::new(recording);
-    let pair = mill::pair(&input::recording(recording)?, curve, apart);
+    let pair = mill::pair(&source::asked(recording)?.readings, curve, apart);
     pair.map(|pair| said(arguments, pair)).map_err(|refusal| Trouble::refused(recording, refusal))
 }
 
 /// A pair as an answer.
 pub fn said(arguments: &Arguments, pair: Option<Pair>) -> Answer {
-    if arguments.json {
-        let mut object = json::Object::new();
-        match pair {
-            Some(Pair { earlier, later }) => object.raw("pair", &format!("[{earlier},{later}]")),
-            None => object.raw("pair", "null"),
+    let text = match (pair, arguments.json) {
+        (Some(Pair { earlier, later }), false) => format!("{earlier} {later}\n"),
+        (None, false) => "none\n".to_string(),
+        (pair, true) => {
+            let mut object = json::Object::new();
+            object.raw("pair", &pair.map_or("null".to_string(), |pair| format!("[{},{}]", pair.earlier, pair.later)));
+            object.line()
         }
-        return Answer::Text(object.line());
-    }
-    Answer::Text(match pair {
-        Some(Pair { earlier, later }) => format!("{earlier} {later}\n"),
-        None => "none\n".to_string(),
-    })
+    };
+    Answer::text(text).of_something(arguments, pair.is_some())
 }

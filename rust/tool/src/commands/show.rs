@@ -1,12 +1,13 @@
 //! `mill show`: a recording as a table.
 
 use super::Command;
-use crate::arguments::{Arguments, Takes};
+use crate::arguments::Arguments;
 use crate::events::Events;
+use crate::options::Opt;
 use crate::output::Answer;
 use crate::table::Table;
 use crate::trouble::Trouble;
-use crate::{input, json, marks, readings};
+use crate::{json, readings, source};
 use mill::Reading;
 use std::collections::BTreeSet;
 use std::path::Path;
@@ -18,20 +19,20 @@ pub const COMMAND: Command = Command {
     about: "\
 Each reading has a line: its time, both values, both slopes, the pigment; whether it
 is a top or a dip of A, and of B; whether it is a crossing, down or up; whether it
-is kept when the recording is thinned with these marks. - says no. Where
-RECORDING.marks is there, it says which the marks are.
+is kept when the recording is thinned with these marks. - says no. A tin has its
+own marks.
 ",
-    takes: Takes::Marks,
+    takes: &[Opt::Mark],
     run,
 };
 
 fn run(arguments: &Arguments) -> Result<Answer, Trouble> {
     let [recording] = arguments.operands("show", ["RECORDING"])?;
     let recording = Path::new(recording);
-    let bytes = input::recording(recording)?;
-    let marks = marks::of(recording, &arguments.marks)?;
-    let rows = rows(&bytes, &marks).map_err(|refusal| Trouble::refused(recording, refusal))?;
-    Ok(Answer::Text(if arguments.json { listed(&rows) } else { table(&rows) }))
+    let source = source::read(recording)?;
+    let marks = source.marks(recording, &arguments.marks)?;
+    let rows = rows(&source.readings, &marks).map_err(|refusal| Trouble::refused(recording, refusal))?;
+    Ok(Answer::text(if arguments.json { listed(&rows) } else { table(&rows) }))
 }
 
 /// A reading and what is said of it.

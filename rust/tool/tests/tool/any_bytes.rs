@@ -3,6 +3,7 @@
 
 use super::folder::{Folder, Ran};
 use super::json;
+use super::tin::Tin;
 use crate::support::r1::r1_bytes;
 use crate::support::random::Random;
 use std::ffi::OsString;
@@ -10,8 +11,10 @@ use std::os::unix::ffi::OsStringExt;
 
 /// Bytes at random: mostly noise, sometimes a recording or a table that is damaged.
 fn any_bytes(random: &mut Random) -> Vec<u8> {
-    let mut bytes = match random.below(5) {
+    let mut bytes = match random.below(7) {
         0 => r1_bytes(),
+        5 => Tin::of(&[40], 8, &r1_bytes()).bytes(),
+        6 => mill::entry(&r1_bytes()).unwrap().to_bytes().to_vec(),
         1 => b"time,a,b,slope_a,slope_b,pigment\n0,40,50,rising,flat,0\n10,60,50,rising,flat,3\n".to_vec(),
         2 => b"mill marks\n40\n100\n".to_vec(),
         3 => b"7 16\n16 7\n".to_vec(),
@@ -41,7 +44,7 @@ fn any_bytes(random: &mut Random) -> Vec<u8> {
 #[track_caller]
 fn ends_well(ran: &Ran, json: bool) {
     match (ran.status, json) {
-        (Some(0), _) => assert_eq!(ran.err, "", "mill {}", ran.words),
+        (Some(0), _) => assert!(ran.err.lines().all(|line| line.contains(": not assured: ")), "mill {}: {}", ran.words, ran.err),
         (Some(1), true) => assert!(matches!(json::line(&ran.out).at("refused"), json::Value::Number(_)), "mill {}", ran.words),
         (Some(1 | 2), _) => {
             assert_eq!(ran.text(), "", "mill {}", ran.words);
@@ -51,7 +54,8 @@ fn ends_well(ran: &Ran, json: bool) {
                 ran.words,
                 ran.err
             );
-            assert!(ran.status == Some(2) || ran.err.lines().count() == 1, "mill {}: {}", ran.words, ran.err);
+            let lines = if ran.err.contains("refused 6 0: ") { 3 } else { 1 };
+            assert!(ran.status == Some(2) || ran.err.lines().count() == lines, "mill {}: {}", ran.words, ran.err);
         }
         (status, _) => panic!("mill {}: status {status:?}: {}", ran.words, ran.err),
     }
@@ -60,7 +64,7 @@ fn ends_well(ran: &Ran, json: bool) {
 #[test]
 fn any_bytes_as_files() {
     let folder = Folder::with_recordings("any_files");
-    let commands: [&[&str]; 16] = [
+    let commands: [&[&str]; 21] = [
         &["ask", "peaks(A)", "any"],
         &["degree", "high(A)", "5", "any"],
         &["pair", "A", "40", "any"],
@@ -68,21 +72,26 @@ fn any_bytes_as_files() {
         &["order", "any", "r3.rec"],
         &["order", "any", "other"],
         &["report", "peaks(A)", "31", "r1.rec", "any", "other"],
-        &["entry", "r1.rec", "any", "-o", "out"],
+        &["entry", "r1.rec", "any", "--force", "-o", "out"],
+        &["entry", "r1.rec", "--append", "-o", "any"],
         &["find", "A", "40", "any"],
+        &["find", "--raw", "A", "40", "any"],
+        &["raw", "any"],
+        &["assured", "high(A)", "any"],
+        &["pin", "any", "other", "10"],
         &["lab", "ask", "peaks(A)", "any"],
         &["show", "any"],
-        &["thin", "any", "-o", "out"],
+        &["thin", "any", "--force", "-o", "out"],
         &["add", "any", "other"],
         &["add", "out2", "any"],
-        &["import", "any", "-o", "out"],
-        &["export", "any", "-o", "out"],
+        &["import", "any", "--force", "-o", "out"],
+        &["export", "any", "--force", "-o", "out"],
     ];
     let mut counts = [0; 3];
     for case in 0..50 {
         let mut random = Random::of_case("tool any files", case);
         for command in commands {
-            for name in ["any", "other", "any.marks", "out2.marks", "out2"] {
+            for name in ["any", "other", "any.marks", "any.lock", "out2.marks", "out2"] {
                 let _ = std::fs::remove_file(folder.at(name));
             }
             let held = any_bytes(&mut random);

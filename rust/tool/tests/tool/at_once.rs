@@ -44,7 +44,7 @@ fn eight_at_once_lose_no_piece() {
             }
         }
         let kept = reference::thin(&joined, &mark_bytes(&marks), joined.len()).unwrap();
-        assert_eq!(folder.read(&name), Some(kept), "round {round}");
+        assert_eq!(folder.kept(&name), Some(kept), "round {round}");
         // The first that has the lock finds nothing held.
         assert!(!joined.is_empty(), "round {round}");
     }
@@ -69,7 +69,7 @@ fn add_waits_for_the_lock_and_reads_what_was_written_meanwhile() {
     drop(lock);
     Ran::of(second, &["add", "kept", "second"]).answers("taken 5\nheld  7\n");
     let kept = reference::thin(&r2, &mark_bytes(&[10]), r2.len()).unwrap();
-    assert_eq!(folder.read("kept"), Some(kept));
+    assert_eq!(folder.kept("kept"), Some(kept));
 }
 
 /// Whoever waits for a lock file that is taken away meanwhile holds nothing with it: others lock the one that is there now.

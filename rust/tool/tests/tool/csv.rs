@@ -29,8 +29,8 @@ fn r1_there_and_back() {
     folder.mill(&["import", "r1.csv"]).gives(&r1_bytes());
     folder.mill(&["import", "r1.csv", "-o", "back.rec"]).answers("readings 8\n");
     assert_eq!(folder.read("back.rec"), Some(r1_bytes()));
-    folder.mill(&["import", "--json", "r1.csv", "-o", "back.rec"]).answers("{\"readings\":8}\n");
-    folder.mill(&["export", "--json", "r1.rec", "-o", "r1.csv"]).answers("{\"readings\":8}\n");
+    folder.mill(&["import", "--json", "--force", "r1.csv", "-o", "back.rec"]).answers("{\"readings\":8}\n");
+    folder.mill(&["export", "--json", "--force", "r1.rec", "-o", "r1.csv"]).answers("{\"readings\":8}\n");
     assert_eq!(folder.read("r1.csv").as_deref(), Some(R1.as_bytes()));
     let [first, second] = ["export", "import"]
         .map(|command| folder.mill(&[command, "--json", if command == "export" { "r1.rec" } else { "r1.csv" }]));
@@ -152,7 +152,8 @@ fn the_library_has_the_last_word() {
     let lines: String = (0..4097).map(|time| format!("{time},0,0,1,1\n")).collect();
     folder.put("out.rec", b"old");
     folder.put("many.csv", format!("time,a,b,slope_a,slope_b\n{lines}").as_bytes());
-    folder.mill(&["import", "-o", "out.rec", "many.csv"]).refused("many.csv", 2, 0);
+    let hint = ["many.csv: --pieces writes several files, and --into takes the readings into a tin"];
+    folder.mill(&["import", "-o", "out.rec", "many.csv"]).refused_with("many.csv", 2, &hint);
     assert_eq!(folder.read("out.rec").as_deref(), Some(&b"old"[..]));
     folder.mill(&["export", "-o", "out.rec", "bad.rec"]).refused("bad.rec", 3, 2);
     folder.mill(&["export", "short.rec"]).refused("short.rec", 1, 0);

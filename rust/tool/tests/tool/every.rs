@@ -13,23 +13,33 @@ struct Case {
     words: &'static [&'static str],
     /// A file that is answered.
     file: &'static str,
-    /// A file of which the command is refused, and the number.
+    /// A file of which the command is refused, and the number; none where the library refuses nothing of a file.
     refused: (&'static str, u32),
 }
 
-const CASES: [Case; 17] = [
+fn refusing() -> impl Iterator<Item = &'static Case> {
+    CASES.iter().filter(|case| case.refused.1 > 0)
+}
+
+/// Commands that are unlike the others, and have tests of their own.
+const ELSEWHERE: [&str; 3] = ["verify", "pin", "live"];
+
+const CASES: [Case; 20] = [
     Case { name: "ask", words: &["ask", "peaks(A)", "FILE"], file: "r1.rec", refused: ("short.rec", 1) },
     Case { name: "degree", words: &["degree", "peaks(A)", "51", "FILE"], file: "r1.rec", refused: ("bad.rec", 3) },
-    Case { name: "pair", words: &["pair", "A", "40", "FILE"], file: "r1.rec", refused: ("empty.rec", 4) },
-    Case { name: "band", words: &["band", "high(A)", "5", "FILE"], file: "r1.rec", refused: ("empty.rec", 4) },
-    Case { name: "order", words: &["order", "sheet", "FILE"], file: "r3.rec", refused: ("empty.rec", 4) },
+    Case { name: "pair", words: &["pair", "A", "40", "FILE"], file: "r1.rec", refused: ("bad.rec", 3) },
+    Case { name: "band", words: &["band", "high(A)", "5", "FILE"], file: "r1.rec", refused: ("short.rec", 1) },
+    Case { name: "order", words: &["order", "sheet", "FILE"], file: "r3.rec", refused: ("none.tin", 4) },
     Case { name: "order", words: &["order", "FILE", "r3.rec"], file: "sheet", refused: ("long_sheet", 13) },
     Case { name: "report", words: &["report", "peaks(A)", "31", "r2.rec", "FILE"], file: "r1.rec", refused: ("bad.rec", 3) },
     Case { name: "entry", words: &["entry", "r2.rec", "FILE"], file: "r1.rec", refused: ("bad.rec", 3) },
-    Case { name: "find", words: &["find", "A", "60", "FILE"], file: "tins", refused: ("short.rec", 20) },
+    Case { name: "find", words: &["find", "A", "60", "--raw", "FILE"], file: "bare", refused: ("short.rec", 20) },
+    Case { name: "ask", words: &["ask", "lowafter(A,40)", "FILE"], file: "r2.tin", refused: ("none.tin", 4) },
+    Case { name: "assured", words: &["assured", "lowafter(A,40)", "FILE"], file: "r2.tin", refused: ("", 0) },
+    Case { name: "raw", words: &["raw", "FILE"], file: "r2.tin", refused: ("", 0) },
     Case { name: "lab", words: &["lab", "ask", "peaks(A)", "FILE"], file: "r1.rec", refused: ("short.rec", 1) },
     Case { name: "lab", words: &["lab", "degree", "peaks(A)", "51", "FILE"], file: "r1.rec", refused: ("short.rec", 1) },
-    Case { name: "lab", words: &["lab", "pair", "A", "40", "FILE"], file: "r1.rec", refused: ("empty.rec", 4) },
+    Case { name: "lab", words: &["lab", "pair", "A", "40", "FILE"], file: "r1.rec", refused: ("none.tin", 4) },
     Case { name: "show", words: &["show", "FILE"], file: "r1.rec", refused: ("bad.rec", 3) },
     Case { name: "thin", words: &["thin", "-m", "40", "FILE"], file: "r2.rec", refused: ("bad.rec", 3) },
     Case { name: "add", words: &["add", "kept", "FILE"], file: "r2.rec", refused: ("bad.rec", 3) },
@@ -40,7 +50,10 @@ const CASES: [Case; 17] = [
 fn folder(name: &str) -> Folder {
     let folder = Folder::with_recordings(name);
     let entries = ["r1.rec", "r2.rec"].map(|name| mill::entry(&folder.read(name).unwrap()).unwrap().to_bytes());
-    folder.put("tins", entries.as_flattened());
+    folder.put("bare", entries.as_flattened());
+    assert_eq!(folder.mill(&["entry", "-o", "tins", "r1.rec", "r2.rec"]).status, Some(0));
+    assert_eq!(folder.mill(&["thin", "-m", "40", "-o", "r2.tin", "r2.rec"]).status, Some(0));
+    folder.mill(&["add", "none.tin", "empty.rec"]).answers("taken 0\nheld  0\n");
     folder.put("sheet", b"7 16\n16 7\n");
     folder.put("long_sheet", "7 16\n".repeat(33).as_bytes());
     let header = "time,a,b,slope_a,slope_b\n";
@@ -81,9 +94,9 @@ fn every_command_of_the_overview_is_tried_here() {
     assert_eq!((page.status, page.err.as_str()), (Some(0), ""));
     let names: Vec<&str> =
         page.text().lines().filter_map(|line| line.strip_prefix("  ")).filter_map(|line| line.split(' ').next()).collect();
-    assert!(names.len() >= 14, "{names:?}");
+    assert!(names.len() >= 19, "{names:?}");
     for name in &names {
-        assert!(CASES.iter().any(|case| case.name == *name), "{name} has no case");
+        assert!(CASES.iter().any(|case| case.name == *name) || ELSEWHERE.contains(name), "{name} has no case");
     }
     for case in &CASES {
         assert!(names.contains(&case.name), "{} is not in the overview", case.name);
@@ -112,23 +125,32 @@ fn standard_input_is_as_good_as_a_file() {
         assert_eq!((read.status, &read.err), (named.status, &named.err), "mill {}", read.words);
         let told = String::from_utf8_lossy(&read.out).replace("standard input", case.file);
         assert_eq!(told, String::from_utf8_lossy(&named.out), "mill {}", read.words);
+    }
+    for case in refusing() {
         let (file, number) = case.refused;
         let read = folder.mill_reads(&case.with("-"), &folder.read(file).unwrap());
         assert_eq!(read.status, Some(1), "mill {}: {}", read.words, read.err);
         assert!(read.err.contains(&format!("refused {number} ")), "mill {}: {}", read.words, read.err);
+        anew(&folder);
     }
 }
 
 #[test]
 fn refusals_have_number_place_and_sentence() {
     let folder = folder("refusals");
-    for case in &CASES {
+    for case in refusing() {
         let (file, number) = case.refused;
         let ran = folder.mill(&case.with(file));
-        is_one_line(&ran, 1);
         let place = if number == 3 { 2 } else { 0 };
-        let asked = if file == "long_sheet" { "r3.rec" } else { file };
-        ran.refused(asked, number, place);
+        match file {
+            "long_sheet" => ran.refused("long_sheet: line 33", number, place),
+            "many.csv" => ran.refused_with(
+                file,
+                number,
+                &["many.csv: --pieces writes several files, and --into takes the readings into a tin"],
+            ),
+            _ => ran.refused(file, number, place),
+        }
         anew(&folder);
     }
 }
@@ -145,6 +167,8 @@ fn json_is_one_line_for_answers_and_refusals() {
             assert!(matches!(json::line(&ran.out), Value::Object(members) if !members.is_empty()), "mill {}", ran.words);
             anew(&folder);
         }
+    }
+    for case in refusing() {
         let (file, number) = case.refused;
         let mut words = case.with(file);
         words.push("--json");
@@ -171,12 +195,12 @@ fn json_and_trouble_is_a_line_and_no_json() {
 #[test]
 fn each_has_a_page_of_help() {
     let folder = folder("help");
-    for case in &CASES {
-        let page = folder.mill(&[case.name, "--help"]);
-        assert_eq!((page.status, page.err.as_str()), (Some(0), ""), "{}", case.name);
-        assert!(page.text().starts_with(&format!("Usage: mill {} ", case.name)), "{}", page.text());
+    for name in CASES.iter().map(|case| case.name).chain(ELSEWHERE) {
+        let page = folder.mill(&[name, "--help"]);
+        assert_eq!((page.status, page.err.as_str()), (Some(0), ""), "{name}");
+        assert!(page.text().starts_with(&format!("Usage: mill {name} ")), "{}", page.text());
         assert!(page.text().contains("Exit status:") && page.text().contains("--json"), "{}", page.text());
-        for words in [vec![case.name, "-h"], vec!["help", case.name], vec![case.name, "what", "-h", "ever"]] {
+        for words in [vec![name, "-h"], vec!["help", name], vec![name, "what", "-h", "ever"]] {
             folder.mill(&words).answers(page.text());
         }
         assert!(page.text().lines().all(|line| line.len() <= 84), "{}", page.text());
@@ -205,7 +229,7 @@ fn usage_errors_are_one_line() {
         let words = case.with(case.file);
         // One operand less, whichever is left out at the end, and none at all.
         let many = ["report", "entry"].contains(&case.name);
-        let least = if many { words.len() - 1 } else { words.len() };
+        let least = if many || case.name == "assured" { words.len() - 1 } else { words.len() };
         for end in 1..least {
             is_one_line(&folder.mill(&words[..end]), 2);
         }
@@ -224,8 +248,8 @@ fn usage_errors_are_one_line() {
             words.push("more");
             folder.mill(&words).troubles_with("'more' is one operand too many");
         }
-        let marks = ["lab", "show", "thin", "add"].contains(&case.name);
-        let output = ["thin", "import", "export", "entry"].contains(&case.name);
+        let marks = ["lab", "show", "thin", "add", "import", "assured"].contains(&case.name);
+        let output = ["thin", "import", "export", "entry", "raw"].contains(&case.name);
         let mut marked = words.clone();
         marked.extend(["--mark", "-4"]);
         folder.mill(&marked).troubles_with(if marks { "mark -4 is below 0" } else { "no option '--mark'" });
@@ -247,7 +271,7 @@ fn operands_that_look_like_options_follow_two_dashes() {
     let folder = folder("dashes");
     folder.put("--json", &folder.read("r1.rec").unwrap());
     folder.mill(&["ask", "--", "peaks(A)", "--json"]).answers("runs 2\n30 30\n70 70\n");
-    folder.mill(&["ask", "--", "-x", "r1.rec"]).refused("r1.rec", 6, 0);
+    folder.mill(&["ask", "--", "-x", "r1.rec"]).refused_with("r1.rec", 6, &["  -x", "  ^ a question is wanted here"]);
     folder.mill(&["degree", "peaks(A)", "-5", "r1.rec"]).answers("distance 35 degree 0.027777777777777776\n");
 }
 
@@ -272,7 +296,7 @@ fn files_that_can_not_be_read_are_named() {
 #[test]
 fn a_closed_pipe_ends_it_quietly() {
     let folder = folder("pipe");
-    for case in &CASES {
+    for case in refusing() {
         let mut refused = case.with(case.refused.0);
         refused.push("--json");
         for (words, status) in [(case.with(case.file), 0), (vec![case.name, "--help"], 0), (refused, 1)] {
@@ -289,7 +313,7 @@ fn a_closed_pipe_ends_it_quietly() {
 #[test]
 fn a_full_standard_output_is_trouble() {
     let folder = folder("full");
-    for case in &CASES {
+    for case in refusing() {
         let mut refused = case.with(case.refused.0);
         refused.push("--json");
         for words in [case.with(case.file), refused, vec![case.name, "--help"]] {
@@ -309,5 +333,8 @@ fn names_are_escaped_in_json() {
     folder.put(name, b"short");
     let ran = folder.mill(&["ask", "high(A)", "--json", name]);
     assert_eq!(ran.status, Some(1));
-    assert_eq!(json::line(&ran.out).at("file"), &json::string("a \"b\" \\ \\u{7}\u{e9}\u{1f600}\\n.rec"));
+    assert_eq!(json::line(&ran.out).at("file"), &json::string(name));
+    // On standard error it stays on its line.
+    let ran = folder.mill(&["ask", "high(A)", name]);
+    ran.refused("a \"b\" \\ \\u{7}\u{e9}\u{1f600}\\n.rec", 1, 0);
 }

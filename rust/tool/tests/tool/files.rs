@@ -1,6 +1,7 @@
 //! Covers: files that are written with `-o`, and files that can't be: folders, devices, links, missing permission, a full disk.
 
 use super::folder::{Folder, Ran, MILL};
+use super::tin::{crc64, Tin};
 use crate::support::r1::r1_bytes;
 use crate::support::r2::r2_bytes;
 use std::os::unix::fs::{MetadataExt, PermissionsExt};
@@ -12,13 +13,21 @@ use std::process::{Command, Stdio};
 fn writers() -> [(&'static [&'static str], Vec<u8>); 4] {
     let table = b"time,a,b,slope_a,slope_b,pigment\n0,1,2,rising,flat,3\n";
     let reading = [0, 0, 0, 0, 1, 0, 0, 0, 2, 0, 0, 0, 2, 1, 3, 0];
-    let entry = [0, 0, 1, 1, 2, 2, 0, 0].map(u32::to_le_bytes);
     [
-        (&["thin", "r1.rec"], r1_bytes()),
+        (&["thin", "r1.rec"], Tin::of(&[], 8, &r1_bytes()).bytes()),
         (&["import", "one.csv"], reading.to_vec()),
         (&["export", "one.rec"], table.to_vec()),
-        (&["entry", "one.rec"], entry.as_flattened().to_vec()),
+        (&["entry", "one.rec"], summary()),
     ]
+}
+
+/// The summary of `one.rec`, as its page says it is.
+fn summary() -> Vec<u8> {
+    let head = [&b"\x89mill sum\r\n\x1a\nSUM"[..], &[1, 0, 0, 0, 1, 0, 0, 0]].concat();
+    let entry = [0, 0, 1, 1, 2, 2, 0, 0].map(u32::to_le_bytes);
+    let body = [entry.as_flattened(), &[7, 0, 0, 0], b"one.rec"].concat();
+    let sum = crc64(&[&head[..], &body].concat());
+    [&head, &sum.to_le_bytes()[..], &body].concat()
 }
 
 fn folder(name: &str) -> Folder {
@@ -32,32 +41,67 @@ fn to(words: &[&'static str], file: &'static str) -> Vec<&'static str> {
     [words, &["-o", file]].concat()
 }
 
+fn forced(words: &[&'static str], file: &'static str) -> Vec<&'static str> {
+    [words, &["--force", "-o", file]].concat()
+}
+
 #[test]
-fn a_file_is_written_over_a_longer_one() {
+fn a_file_is_written_over_a_longer_one_only_by_force() {
     let folder = folder("over");
     for (words, bytes) in writers() {
         folder.put("out", &[7; 5000]);
         std::fs::set_permissions(folder.at("out"), std::fs::Permissions::from_mode(0o640)).unwrap();
         let before = folder.names();
-        assert_eq!(folder.mill(&to(words, "out")).status, Some(0));
+        folder.mill(&to(words, "out")).troubles("out: is there already; --force writes over it");
+        assert_eq!(folder.read("out"), Some(vec![7; 5000]));
+        assert_eq!(folder.mill(&forced(words, "out")).status, Some(0));
         assert_eq!(folder.read("out"), Some(bytes.clone()));
         assert_eq!(folder.at("out").metadata().unwrap().mode() & 0o777, 0o640);
         assert_eq!(folder.names(), before);
         std::os::unix::fs::symlink("out", folder.at("link")).unwrap();
         folder.put("out", b"old");
-        assert_eq!(folder.mill(&to(words, "link")).status, Some(0));
+        folder.mill(&to(words, "link")).troubles("link: is there already; --force writes over it");
+        assert_eq!(folder.mill(&forced(words, "link")).status, Some(0));
         assert!(folder.at("link").symlink_metadata().unwrap().is_symlink());
         assert_eq!(folder.read("out"), Some(bytes));
         std::fs::remove_file(folder.at("link")).unwrap();
     }
 }
 
+/// Nor by force: what a command reads it never writes over, under whatever name.
 #[test]
-fn a_command_may_write_the_file_that_it_reads() {
+fn no_command_writes_over_a_file_that_it_reads() {
     let folder = folder("itself");
-    folder.put("r2.rec", &r2_bytes());
-    assert_eq!(folder.mill(&["thin", "r2.rec", "-o", "r2.rec"]).status, Some(0));
-    assert_eq!(folder.read("r2.rec").map(|kept| kept.len()), Some(6 * 16));
+    std::os::unix::fs::symlink("r2.rec", folder.at("link")).unwrap();
+    std::fs::hard_link(folder.at("r2.rec"), folder.at("other")).unwrap();
+    assert_eq!(folder.mill(&["add", "tin", "r2.rec"]).status, Some(0));
+    let before = folder.names();
+    let tin = folder.read("tin");
+    let reads = "is a file that this command reads, and is not written over";
+    for file in ["r2.rec", "link", "other", "./r2.rec"] {
+        for words in
+            [&["thin", "r2.rec"][..], &["export", "r2.rec"], &["import", "r2.rec"], &["entry", "r1.rec", "r2.rec", "r3.rec"]]
+        {
+            for force in [&[][..], &["--force"]] {
+                let ran = folder.mill(&[words, &["-o", file], force].concat());
+                // What is no table is no table before it is written anywhere.
+                ran.troubles_with(if words[0] == "import" { "is no" } else { reads });
+                assert_eq!(folder.read("r2.rec"), Some(r2_bytes()));
+            }
+        }
+    }
+    folder.mill(&["raw", "tin", "-o", "tin", "--force"]).troubles(&format!("tin: {reads}"));
+    folder.put("one.csv", b"time,a,b,slope_a,slope_b\n");
+    folder.mill(&["import", "one.csv", "-o", "one.csv", "--force"]).troubles(&format!("one.csv: {reads}"));
+    assert_eq!((folder.names(), folder.read("tin")), (before, tin));
+    // Standard input is read too.
+    let child = folder.command(Path::new(MILL), &["thin", "-", "-o", "r3.rec", "--force"]);
+    let ran = { child }.stdin(std::fs::File::open(folder.at("r3.rec")).unwrap()).spawn().unwrap();
+    Ran::of(ran, &["thin"]).troubles(&format!("r3.rec: {reads}"));
+    // A glob that takes the first for the file of -o.
+    let globbed = folder.mill(&["entry", "-o", "r1.rec", "r2.rec", "r3.rec"]);
+    globbed.troubles("r1.rec: is there already; --force writes over it");
+    assert_eq!(folder.read("r1.rec"), Some(r1_bytes()));
 }
 
 #[test]
@@ -85,7 +129,7 @@ fn a_pipe_is_written() {
     let folder = folder("written_pipe");
     std::os::unix::fs::symlink("/dev/stdout", folder.at("link")).unwrap();
     for (words, bytes) in writers() {
-        let figures = folder.mill(&to(words, "out")).out;
+        let figures = folder.mill(&forced(words, "out")).out;
         let both = [bytes, figures].concat();
         folder.mill(&to(words, "/dev/stdout")).gives(&both);
         folder.mill(&to(words, "link")).gives(&both);
@@ -95,16 +139,18 @@ fn a_pipe_is_written() {
 #[test]
 fn kept_readings_with_marks_are_not_written_over() {
     let folder = folder("marked");
-    assert_eq!(folder.mill(&["add", "kept", "r2.rec"]).status, Some(0));
+    folder.put("kept", &r2_bytes());
+    folder.put("kept.marks", b"mill marks\n");
+    folder.put("kept.lock", b"");
     let held = folder.read("kept");
     std::os::unix::fs::symlink("kept", folder.at("link")).unwrap();
     for (words, _) in writers() {
         let line = "holds kept readings with marks, those of kept.marks: only 'mill add' writes it";
-        folder.mill(&to(words, "kept")).troubles(&format!("kept: {line}"));
-        folder.mill(&to(words, "link")).troubles_with("kept.marks: only 'mill add' writes it");
+        folder.mill(&forced(words, "kept")).troubles(&format!("kept: {line}"));
+        folder.mill(&forced(words, "link")).troubles_with("kept.marks: only 'mill add' writes it");
         for name in ["kept.marks", "kept.lock"] {
             let line = "belongs to the kept readings of kept: only 'mill add' writes it";
-            folder.mill(&to(words, name)).troubles(&format!("{name}: {line}"));
+            folder.mill(&forced(words, name)).troubles(&format!("{name}: {line}"));
         }
         let line = "is a name for what is not yet in its place: only 'mill add' writes it";
         folder.mill(&to(words, "kept.mill-new")).troubles(&format!("kept.mill-new: {line}"));
@@ -114,8 +160,11 @@ fn kept_readings_with_marks_are_not_written_over() {
     assert_eq!(folder.read("kept.lock"), Some(Vec::new()));
     // Only a name.
     folder.put("other.marks", b"what was talked of that day\n");
-    assert_eq!(folder.mill(&["thin", "r1.rec", "-o", "other.marks"]).status, Some(0));
+    assert_eq!(folder.mill(&["thin", "--raw", "r1.rec", "-o", "other.marks", "--force"]).status, Some(0));
     assert_eq!(folder.read("other.marks"), Some(r1_bytes()));
+    // The lock of a tin.
+    assert_eq!(folder.mill(&["add", "tin", "r2.rec"]).status, Some(0));
+    folder.mill(&["thin", "r1.rec", "-o", "tin.lock", "--force"]).troubles_with("tin.lock: belongs to the kept readings of tin");
 }
 
 /// The tool without the rights of a superuser, in a folder that others may read.
@@ -183,7 +232,7 @@ fn a_missing_permission_is_named_and_nothing_is_lost() {
     plain.mill(&["thin", "r2.rec", "-o", "store/out"]).troubles_with("store/out: not written: store/out.mill-new-");
     assert_eq!(folder.read("store/kept"), held);
     plain.mode("store", 0o777);
-    for name in ["store/kept.marks", "store/kept.lock", "store/kept"] {
+    for name in ["store/kept.lock", "store/kept"] {
         plain.mode(name, 0o000);
         plain.mill(&["add", "store/kept", "later.rec"]).troubles(&format!("{name}: Permission denied"));
         plain.mode(name, 0o666);
@@ -296,10 +345,10 @@ fn where_nothing_can_be_written_nothing_is_lost() {
     };
     cramped(&["add", "kept", "later.rec"]).troubles("kept: not written: kept.mill-new: File too large");
     cramped(&["thin", "r1.rec", "-o", "kept2"]).troubles_with("kept2: not written: ");
-    cramped(&["import", "one.csv", "-o", "one.rec"]).troubles_with("one.rec: not written: ");
+    cramped(&["import", "one.csv", "-o", "one.rec", "--force"]).troubles_with("one.rec: not written: ");
     assert_eq!((folder.read("kept"), folder.names()), before);
     let fresh = cramped(&["add", "fresh", "later.rec"]);
-    fresh.troubles("fresh.marks: not written: fresh.marks.mill-new: File too large");
+    fresh.troubles("fresh: not written: fresh.mill-new: File too large");
     assert_eq!(folder.read("fresh"), None);
     assert_eq!(folder.read("fresh.marks"), None);
     let ran = folder.mill(&["add", "kept", "later.rec"]);

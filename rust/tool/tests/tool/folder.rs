@@ -1,5 +1,6 @@
 //! A folder of its own for each test, and the tool run in it.
 
+use super::tin::Tin;
 use crate::support::r1::r1_bytes;
 use crate::support::r2::r2_bytes;
 use crate::support::r3::r3_bytes;
@@ -56,6 +57,18 @@ impl Folder {
 
     pub fn read(&self, name: &str) -> Option<Vec<u8>> {
         std::fs::read(self.at(name)).ok()
+    }
+
+    /// The readings of the tin that a file is.
+    #[track_caller]
+    pub fn kept(&self, name: &str) -> Option<Vec<u8>> {
+        self.tin(name).map(|tin| tin.readings)
+    }
+
+    /// The tin that a file is, none where there is no file.
+    #[track_caller]
+    pub fn tin(&self, name: &str) -> Option<Tin> {
+        self.read(name).map(|bytes| Tin::read(&bytes).unwrap_or_else(|| panic!("{name} is no tin")))
     }
 
     /// The names of all that is there, ascending.
@@ -139,14 +152,58 @@ impl Ran {
         assert!(self.out == bytes, "mill {}: {} bytes are not the {} expected", self.words, self.out.len(), bytes.len());
     }
 
-    /// Status 1, nothing on standard output, and one line with file, number, place and a sentence.
+    /// Status 1, nothing on standard output, and one line with file, number, place and a sentence; with 6 also where reading stops.
     #[track_caller]
     pub fn refused(&self, file: &str, number: u32, place: u32) {
+        let lines = self.refused_in_lines(file, number, place);
+        assert_eq!(lines.len(), if number == 6 { 2 } else { 0 }, "mill {}: {}", self.words, self.err);
+        assert!(number != 6 || lines[1].trim_start().starts_with("mill:   "), "mill {}: {}", self.words, self.err);
+    }
+
+    /// The same with this hint below it.
+    #[track_caller]
+    pub fn refused_with(&self, file: &str, number: u32, hint: &[&str]) {
+        let lines = self.refused_in_lines(file, number, 0);
+        let hint: Vec<String> = hint.iter().map(|line| format!("mill: {line}")).collect();
+        assert_eq!(lines, hint, "mill {}", self.words);
+    }
+
+    /// The lines below that with the refusal.
+    #[track_caller]
+    fn refused_in_lines(&self, file: &str, number: u32, place: u32) -> Vec<&str> {
         assert_eq!((self.status, self.text()), (Some(1), ""), "mill {}: {}", self.words, self.err);
         let file = if file.is_empty() { String::new() } else { format!("{file}: ") };
         let head = format!("mill: {file}refused {number} {place}: ");
-        let sentence = self.err.strip_prefix(&head).and_then(|rest| rest.strip_suffix('\n'));
-        assert!(sentence.is_some_and(|words| words.len() > 10 && !words.contains('\n')), "mill {}: {}", self.words, self.err);
+        let mut lines = self.err.lines();
+        let sentence = lines.next().and_then(|line| line.strip_prefix(&head));
+        assert!(self.err.ends_with('\n') && sentence.is_some_and(|words| words.len() > 10), "mill {}: {}", self.words, self.err);
+        lines.collect()
+    }
+
+    /// Status 0, this on standard output, and this one line on standard error.
+    #[track_caller]
+    pub fn answers_noting(&self, text: &str, line: &str) {
+        let said = (self.status, self.text(), self.err.as_str());
+        assert_eq!(said, (Some(0), text, format!("mill: {line}\n").as_str()), "mill {}", self.words);
+    }
+
+    /// This status, nothing on standard error, and this on standard output.
+    #[track_caller]
+    pub fn with_status(&self, status: i32, text: &str) {
+        assert_eq!((self.status, self.text(), self.err.as_str()), (Some(status), text, ""), "mill {}", self.words);
+    }
+
+    /// This status, nothing on standard output, and one line that begins so on standard error.
+    #[track_caller]
+    pub fn with_lines(&self, status: i32, begin: &str) {
+        assert_eq!(
+            (self.status, self.text(), self.err.lines().count()),
+            (Some(status), "", 1),
+            "mill {}: {}",
+            self.words,
+            self.err
+        );
+        assert!(self.err.starts_with(begin), "mill {}: {}", self.words, self.err);
     }
 
     /// Status 2, nothing on standard output, and this one line on standard error.

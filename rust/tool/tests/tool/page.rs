@@ -31,11 +31,14 @@ fn examples() -> Vec<Example> {
 
 #[test]
 fn the_examples_print_what_the_page_says() {
-    let folder = Folder::with_recordings("page");
-    folder.put("sheet", b"# the dispersant is 9\n7 16\n9 7\n");
+    let folder = Folder::new("page");
+    for example in std::fs::read_dir(Path::new(env!("CARGO_MANIFEST_DIR")).join("../../examples")).unwrap() {
+        let example = example.unwrap();
+        std::fs::copy(example.path(), folder.at(&example.file_name().to_string_lossy())).unwrap();
+    }
     let path = format!("{}:{}", Path::new(MILL).parent().unwrap().display(), std::env::var("PATH").unwrap());
     let examples = examples();
-    assert!(examples.len() >= 40, "{} examples", examples.len());
+    assert!(examples.len() >= 100, "{} examples", examples.len());
     for Example { line, typed, printed } in examples {
         let mut shell = Command::new("/bin/sh");
         shell.args(["-c", &format!("exec 2>&1\n{typed}")]).current_dir(&folder.path).env("PATH", &path).stdin(Stdio::null());
@@ -53,7 +56,7 @@ fn every_command_has_an_example() {
     for name in names {
         for json in [false, true] {
             let shown = |example: &&Example| {
-                example.typed.contains(&format!("mill {name} ")) && (!json || example.typed.contains("--json"))
+                example.typed.contains(&format!("mill {name}")) && (!json || example.typed.contains("--json"))
             };
             assert!(examples.iter().any(|example| shown(&example)), "{name} has no example, with JSON: {json}");
         }

@@ -13,8 +13,8 @@ fn ask_prints_the_runs() {
     folder.mill(&["ask", "lag", "r1.rec"]).answers("runs 0\n");
     folder.mill(&["ask", "high(A)", "r1.rec"]).answers("runs 1\n-2000000000 90\n");
     folder.mill(&["ask", "!low(A)|low(B)", "r1.rec"]).answers("runs 2\n-2000000000 29\n50 2000000000\n");
-    folder.mill(&["ask", "--json", "peaks(A)", "r1.rec"]).answers("{\"runs\":[[30,30],[70,70]]}\n");
-    folder.mill(&["ask", "--json", "lag", "r1.rec"]).answers("{\"runs\":[]}\n");
+    folder.mill(&["ask", "--json", "peaks(A)", "r1.rec"]).answers("{\"runs\":[[30,30],[70,70]],\"assured\":null}\n");
+    folder.mill(&["ask", "--json", "lag", "r1.rec"]).answers("{\"runs\":[],\"assured\":null}\n");
 }
 
 #[test]
@@ -23,7 +23,11 @@ fn ask_reads_its_text_from_standard_input_too() {
     let words = ["ask", "-", "r1.rec"];
     folder.mill_reads(&words, b"peaks(A)\n").answers("runs 2\n30 30\n70 70\n");
     folder.mill_reads(&words, b"peaks(A)").answers("runs 2\n30 30\n70 70\n");
-    folder.mill_reads(&words, b"peaks(A)\n\n").refused("r1.rec", 6, 0);
+    folder.mill_reads(&words, b"peaks(A)\n\n").refused_with(
+        "r1.rec",
+        6,
+        &["  peaks(A)\\n", "          ^ a text is one line: write peaks(A)"],
+    );
     folder.mill_reads(&words, b"").refused("r1.rec", 5, 0);
     folder.mill_reads(&words, b"\n").refused("r1.rec", 5, 0);
     let longest = ["lowafter(A,-2000000000)|".repeat(10), "lowafter(A,2000)".to_string()].concat();
@@ -41,7 +45,7 @@ fn ask_is_refused_as_the_table_says() {
     let folder = Folder::with_recordings("ask_refused");
     folder.mill(&["ask", "high(A)", "short.rec"]).refused("short.rec", 1, 0);
     folder.mill(&["ask", "high(A)", "bad.rec"]).refused("bad.rec", 3, 2);
-    folder.mill(&["ask", "high(A)", "empty.rec"]).refused("empty.rec", 4, 0);
+    folder.mill(&["ask", "high(A)", "empty.rec"]).troubles("empty.rec: is empty: neither a recording nor a tin");
     folder.mill(&["ask", "", "r1.rec"]).refused("r1.rec", 5, 0);
     folder.mill(&["ask", "F(A>v", "r1.rec"]).refused("r1.rec", 6, 0);
     let brackets = format!("{}A>=v{}", "(".repeat(17), ")".repeat(17));
@@ -61,10 +65,10 @@ fn degree_tells_met_distance_and_no_value() {
     folder.mill(&["degree", "peaks(A)", "30", "r1.rec"]).answers("met\n");
     folder.mill(&["degree", "peaks(A)", "51", "r1.rec"]).answers("distance 19 degree 0.05\n");
     folder.mill(&["degree", "lag", "0", "r1.rec"]).answers("no value\n");
-    folder.mill(&["degree", "--json", "peaks(A)", "30", "r1.rec"]).answers("{\"answer\":\"met\"}\n");
-    let short = "{\"answer\":\"short\",\"distance\":19,\"degree\":0.05}\n";
+    folder.mill(&["degree", "--json", "peaks(A)", "30", "r1.rec"]).answers("{\"answer\":\"met\",\"assured\":null}\n");
+    let short = "{\"answer\":\"short\",\"distance\":19,\"degree\":0.05,\"assured\":null}\n";
     folder.mill(&["degree", "--json", "peaks(A)", "51", "r1.rec"]).answers(short);
-    folder.mill(&["degree", "--json", "lag", "0", "r1.rec"]).answers("{\"answer\":\"no value\"}\n");
+    folder.mill(&["degree", "--json", "lag", "0", "r1.rec"]).answers("{\"answer\":\"no value\",\"assured\":null}\n");
     folder
         .mill(&["degree", "low(A)", "-2000000000", "r1.rec"])
         .answers("distance 2000000030 degree 0.0000000004999999922500001\n");
@@ -100,9 +104,11 @@ fn band_tells_two_sets() {
     let folder = Folder::with_recordings("band");
     folder.mill(&["band", "high(A)", "5", "r1.rec"]).answers("certain  -2000000000 85\npossible -2000000000 95\n");
     folder.mill(&["band", "lowafter(A,70)", "5", "r1.rec"]).answers("certain  empty\npossible empty\n");
-    let both = "{\"certain\":[35,2000000000],\"possible\":[25,2000000000]}\n";
+    let both = "{\"certain\":[35,2000000000],\"possible\":[25,2000000000],\"assured\":null}\n";
     folder.mill(&["band", "--json", "(low(A))", "5", "r1.rec"]).answers(both);
-    folder.mill(&["band", "--json", "lowafter(A,70)", "5", "r1.rec"]).answers("{\"certain\":null,\"possible\":null}\n");
+    folder
+        .mill(&["band", "--json", "lowafter(A,70)", "5", "r1.rec"])
+        .answers("{\"certain\":null,\"possible\":null,\"assured\":null}\n");
     folder.mill(&["band", "high(A)", "-1", "r1.rec"]).refused("r1.rec", 16, 0);
     folder.mill(&["band", "high(A)", "99999999999999999999", "r1.rec"]).refused("r1.rec", 16, 0);
     folder.mill(&["band", "peaks(A)", "5", "r1.rec"]).refused("r1.rec", 17, 0);
@@ -122,10 +128,17 @@ fn order_reads_sheets() {
     folder.mill_reads(&json, b"7 16\n").answers("{\"order\":\"met\"}\n");
     folder.mill_reads(&json, b"5 16\n").answers("{\"order\":\"broken\",\"line\":0,\"time\":40,\"pigments\":[5,16]}\n");
     for sheet in ["7 17\n", "0 7\n", "7 256\n", "7 99999999999999999999999\n"] {
-        folder.mill_reads(&words, sheet.as_bytes()).refused("r3.rec", 13, 0);
+        folder.mill_reads(&words, sheet.as_bytes()).refused("standard input: line 1", 13, 0);
     }
+    // The line of the file, remarks and all, and the first that is to blame.
+    folder.mill_reads(&words, b"# remark\n\n7 16\n7 17\n0 1\n").refused("standard input: line 4", 13, 0);
+    let told = folder.mill_reads(&json, b"7 16\n17 7\n");
+    assert_eq!(json::line(&told.out).at("line"), &json::number(2));
+    assert_eq!(json::line(&told.out).at("file"), &json::string("standard input"));
+    // As a spreadsheet writes it.
+    folder.mill_reads(&words, b"\xef\xbb\xbf7 16\r\n").answers("met\n");
     folder.mill_reads(&words, "7 16\n".repeat(32).as_bytes()).answers("met\n");
-    folder.mill_reads(&words, "7 16\n".repeat(33).as_bytes()).refused("r3.rec", 13, 0);
+    folder.mill_reads(&words, "7 16\n".repeat(33).as_bytes()).refused("standard input: line 33", 13, 0);
     let bad = folder.mill_reads(&words, b"7 16\n7\nx y\n1 2 3\n-1 2\n\xff 3\n");
     let line = |number, said| format!("mill: standard input: line {number}: '{said}' is not two pigments\n");
     let lines = [line(2, "7"), line(3, "x y"), line(4, "1 2 3"), line(5, "-1 2"), line(6, "\u{fffd} 3")].concat();
@@ -137,7 +150,12 @@ fn lab_answers_of_a_alone() {
     let folder = Folder::with_recordings("lab");
     folder.mill(&["lab", "ask", "peaks(A)", "r1.rec"]).answers("runs 2\n30 30\n70 70\n");
     folder.mill(&["lab", "ask", "-m", "40", "lowafter(A,40)", "r1.rec"]).answers("runs 1\n45 2000000000\n");
-    folder.mill(&["lab", "ask", "lowafter(A,40)", "r1.rec"]).refused("r1.rec", 14, 0);
+    let no_marks = ["r1.rec: it is no tin and has no marks: -m gives those of its thinning"];
+    folder.mill(&["lab", "ask", "lowafter(A,40)", "r1.rec"]).refused_with("r1.rec", 14, &no_marks);
+    folder.mill(&["lab", "degree", "capafter(A,40)", "3", "r1.rec"]).refused_with("r1.rec", 14, &no_marks);
+    folder.mill(&["lab", "ask", "-m", "50", "lowafter(A,40)", "r1.rec"]).refused("r1.rec", 14, 0);
+    let page = folder.mill(&["lab", "--help"]);
+    assert!(page.text().contains("mill lab degree [-m K].. TEXT") && page.text().contains("-m, --mark K"), "{}", page.text());
     folder.mill(&["lab", "ask", "high(B)", "r1.rec"]).refused("r1.rec", 14, 0);
     folder.mill(&["lab", "ask", "F(A=v)", "r1.rec"]).refused("r1.rec", 14, 0);
     folder.mill(&["lab", "ask", "--mark=2000000001", "high(A)", "r1.rec"]).refused("r1.rec", 11, 0);
@@ -162,8 +180,15 @@ fn lab_goes_by_the_marks_beside_the_readings() {
     for words in [["ask", "-m", "10", "peaks(A)", "kept"].to_vec(), ["pair", "-m", "40", "-m", "10", "A", "40", "kept"].to_vec()]
     {
         let ran = folder.mill(&[vec!["lab"], words].concat());
-        ran.troubles_with("kept: its marks are 40, as kept.marks says, and not 10");
+        ran.troubles_with("kept: its marks are 40, and not 10");
     }
+    // As it was kept before.
+    folder.put("kept", &folder.kept("kept").unwrap());
+    folder.put("kept.marks", b"mill marks\n40\n");
+    folder.mill(&["lab", "ask", "lowafter(A,40)", "kept"]).answers(answer);
+    folder
+        .mill(&["lab", "ask", "-m", "10", "lowafter(A,40)", "kept"])
+        .troubles("kept: its marks are 40, as kept.marks says, and not 10");
     folder.put("kept.marks", b"nonsense");
     folder.mill(&["lab", "ask", "peaks(A)", "kept"]).troubles("kept.marks: holds no list of marks");
     std::os::unix::fs::symlink("kept", folder.at("link")).unwrap();

@@ -41,7 +41,7 @@ fn marks_are_those_given_or_those_beside_the_file() {
     assert_eq!(kept(&["show", "-m40", "r2.rec"]), "0 10 30 40 50 60 80");
     assert_eq!(folder.mill(&["add", "--mark", "10", "kept", "r2.rec"]).status, Some(0));
     assert_eq!(kept(&["show", "kept"]), "0 10 20 30 40 60 80");
-    folder.mill(&["show", "-m", "40", "kept"]).troubles_with("kept: its marks are 10, as kept.marks says, and not 40");
+    folder.mill(&["show", "-m", "40", "kept"]).troubles_with("kept: its marks are 10, and not 40");
     folder.mill(&["show", "-m", "2000000001", "r2.rec"]).refused("r2.rec", 11, 0);
 }
 

@@ -2,6 +2,7 @@
 //! the file is what it was or what it was to be, and the next run goes on from there.
 
 use super::folder::{Folder, Ran, MILL};
+use super::tin::Tin;
 use crate::support::r1::r1_bytes;
 use crate::support::r2::r2_bytes;
 use std::path::PathBuf;
@@ -81,19 +82,15 @@ impl Stopped {
     fn holds(&self, bytes: &[u8]) -> bool {
         self.folder.read("kept").as_deref() == Some(bytes)
     }
-
-    fn marked(&self) -> bool {
-        self.folder.read("kept.marks").as_deref() == Some(b"mill marks\n40\n")
-    }
 }
 
 fn kept(recording: &[u8]) -> Vec<u8> {
     reference::thin(recording, &40u32.to_le_bytes(), recording.len()).unwrap()
 }
 
-/// The kept readings before the second piece, and after it.
+/// The tin before the second piece, and after it.
 fn old_and_new() -> [Vec<u8>; 2] {
-    [kept(&r2_bytes()[..64]), kept(&r2_bytes())]
+    [(4, kept(&r2_bytes()[..64])), (9, kept(&r2_bytes()))].map(|(taken, kept)| Tin::of(&[40], taken, &kept).bytes())
 }
 
 #[test]
@@ -104,11 +101,10 @@ fn add_killed_at_every_call_leaves_the_old_or_the_new() {
     let before = || {
         stopped.clear();
         assert_eq!(stopped.folder.mill(&["add", "-m", "40", "kept", "first"]).status, Some(0));
-        assert!(stopped.holds(&old) && stopped.marked());
+        assert!(stopped.holds(&old));
     };
     let counts = [0, 1].map(|_| std::cell::Cell::new(0));
     let calls = stopped.killed(&words, before, |call| {
-        assert!(stopped.marked(), "call {call}");
         let again = stopped.folder.mill(&words);
         match again.status {
             // It was the old, and goes on from there.
@@ -119,7 +115,7 @@ fn add_killed_at_every_call_leaves_the_old_or_the_new() {
                 counts[1].set(counts[1].get() + 1);
             }
         }
-        assert!(stopped.holds(&new) && stopped.marked(), "call {call}");
+        assert!(stopped.holds(&new), "call {call}");
     });
     // Nothing at once but the old or the new: this is asked of the file itself, before any other run.
     let untouched = stopped.killed(&words, before, |call| assert!(stopped.holds(&old) || stopped.holds(&new), "call {call}"));
@@ -139,35 +135,94 @@ fn the_first_add_killed_at_every_call_leaves_none_or_all() {
         || stopped.clear(),
         |call| {
             let none = stopped.folder.read("kept").is_none();
-            assert!(none || stopped.holds(&first) && stopped.marked(), "call {call}");
+            assert!(none || stopped.holds(&first), "call {call}");
             let again = stopped.folder.mill(&words);
             match none {
                 true => again.answers("taken 4\nheld  3\n"),
                 false => again.refused("first", 3, 0),
             }
-            assert!(stopped.holds(&first) && stopped.marked(), "call {call}");
+            assert!(stopped.holds(&first), "call {call}");
+            assert_eq!(stopped.folder.names().iter().filter(|name| name.starts_with("kept")).count(), 2);
         },
     );
     assert!(calls >= 30, "{calls} calls");
 }
 
-/// What the first run began goes on under its marks, where they were noted and the next run names none.
+/// Readings with marks beside them, as they were kept before, become a tin: at no moment are both gone.
 #[test]
-fn the_first_add_killed_at_every_call_leaves_its_marks_or_none() {
-    let stopped = Stopped::new("kill_marks");
-    let [first, _] = old_and_new();
-    let seen = std::cell::Cell::new(0);
-    let check = |call| {
-        let (none, marked) = (stopped.folder.read("kept").is_none(), stopped.marked());
-        assert!(marked || stopped.folder.read("kept.marks").is_none(), "call {call}");
-        if none && marked {
-            stopped.folder.mill(&["add", "kept", "first"]).answers("taken 4\nheld  3\n");
-            assert!(stopped.holds(&first) && stopped.marked(), "call {call}");
-            seen.set(seen.get() + 1);
-        }
+fn a_pair_of_before_killed_at_every_call_is_the_pair_or_the_tin() {
+    let stopped = Stopped::new("kill_pair");
+    let [_, new] = old_and_new();
+    // Of a pair nobody counted what was taken.
+    let new = Tin { taken: None, ..Tin::read(&new).unwrap() }.bytes();
+    let readings = kept(&r2_bytes()[..64]);
+    let before = || {
+        stopped.clear();
+        stopped.folder.put("kept", &readings);
+        stopped.folder.put("kept.marks", b"mill marks\n40\n");
     };
-    stopped.killed(&["add", "-m", "40", "kept", "first"], || stopped.clear(), check);
-    assert!(seen.get() >= 3, "{} times marks without readings", seen.get());
+    let [pairs, both, tins] = [0, 1, 2].map(|_| std::cell::Cell::new(0));
+    let words = ["add", "kept", "second"];
+    let calls = stopped.killed(&words, before, |call| {
+        let marked = stopped.folder.read("kept.marks").as_deref() == Some(b"mill marks\n40\n");
+        let pair = stopped.holds(&readings) && marked;
+        assert!(pair || stopped.holds(&new), "call {call}");
+        let which = if pair {
+            &pairs
+        } else if marked {
+            &both
+        } else {
+            &tins
+        };
+        which.set(which.get() + 1);
+        // Either answers, and goes on.
+        let asked = stopped.folder.mill(&["ask", "--json", "--assured", "lowafter(A,40)", "kept"]);
+        assert_eq!(asked.status, Some(0), "call {call}: {}", asked.err);
+        let again = stopped.folder.mill(&words);
+        match pair {
+            true => again.answers("taken 5\nheld  7\n"),
+            false => again.refused("second", 3, 0),
+        }
+        assert!(stopped.holds(&new), "call {call}");
+        stopped.folder.mill(&["add", "kept", "empty.rec"]).answers("taken 0\nheld  7\n");
+        assert!(stopped.holds(&new) && stopped.folder.read("kept.marks").is_none(), "call {call}");
+    });
+    let counts = [pairs, both, tins].map(std::cell::Cell::into_inner);
+    assert!(counts.iter().all(|count| *count >= 2), "{counts:?} of {calls}");
+}
+
+/// What else works on a file that is kept.
+#[test]
+fn pins_and_entries_killed_at_every_call_are_there_or_not() {
+    let stopped = Stopped::new("kill_others");
+    let tin = Tin::of(&[40], 9, &kept(&r2_bytes()));
+    let pinned = Tin { pins: 2, readings: r2_bytes(), ..tin.clone() }.bytes();
+    let before = || {
+        stopped.clear();
+        stopped.folder.put("kept", &tin.bytes());
+    };
+    let calls = stopped.killed(&["pin", "kept", "r2.rec", "20", "70"], before, |call| {
+        assert!(stopped.holds(&tin.bytes()) || stopped.holds(&pinned), "call {call}");
+        stopped.folder.mill(&["pin", "kept", "r2.rec", "20", "70"]).answers("pinned 2\nheld   9\n");
+    });
+    assert!(calls >= 20, "{calls} calls");
+    let summary = |words: &[&str]| {
+        stopped.clear();
+        assert_eq!(stopped.folder.mill(&[&["entry", "-o", "kept"][..], words].concat()).status, Some(0));
+        stopped.folder.read("kept").unwrap()
+    };
+    let [one, both] = [summary(&["r1.rec"]), summary(&["r1.rec", "r2.rec"])];
+    let before = || {
+        stopped.clear();
+        stopped.folder.put("kept", &one);
+    };
+    let words = ["entry", "--append", "-o", "kept", "r2.rec"];
+    let calls = stopped.killed(&words, before, |call| {
+        assert!(stopped.holds(&one) || stopped.holds(&both), "call {call}");
+        stopped.folder.mill(&words).answers("entries 2\n");
+        assert!(stopped.holds(&both), "call {call}");
+    });
+    assert!(calls >= 20, "{calls} calls");
 }
 
 #[test]
@@ -175,7 +230,10 @@ fn files_of_o_killed_at_every_call_are_the_old_or_the_new() {
     let stopped = Stopped::new("kill_output");
     stopped.folder.put("r1.csv", b"time,a,b,slope_a,slope_b\n1,2,3,0,1\n");
     let one = [1, 0, 0, 0, 2, 0, 0, 0, 3, 0, 0, 0, 0, 1, 0, 0];
-    for (words, new) in [(["thin", "r1.rec", "-o", "kept"], &r1_bytes()[..]), (["import", "r1.csv", "-o", "kept"], &one)] {
+    let thinned = Tin::of(&[], 8, &r1_bytes()).bytes();
+    for (words, new) in
+        [(["thin", "r1.rec", "-o", "kept", "--force"], &thinned[..]), (["import", "r1.csv", "-o", "kept", "--force"], &one)]
+    {
         for old in [None, Some(&b"what was there"[..])] {
             let before = || {
                 stopped.clear();
@@ -183,7 +241,8 @@ fn files_of_o_killed_at_every_call_are_the_old_or_the_new() {
                     stopped.folder.put("kept", old);
                 }
             };
-            let calls = stopped.killed(&words, before, |call| {
+            let words = if old.is_none() { &words[..4] } else { &words[..] };
+            let calls = stopped.killed(words, before, |call| {
                 let there = stopped.folder.read("kept");
                 assert!(there.as_deref() == old || there.as_deref() == Some(new), "call {call}");
             });
@@ -204,7 +263,6 @@ fn add_with_any_call_failing_says_so_and_loses_nothing() {
     for errno in [ENOSPC, EIO, EACCES] {
         let troubled = std::cell::Cell::new(0);
         let calls = stopped.failed(errno, "second", &words, before, |call, ran| {
-            assert!(stopped.marked(), "call {call}");
             let taken = stopped.holds(&new);
             assert!(taken || stopped.holds(&old), "call {call}");
             assert!(ran.status != Some(0) || taken, "call {call}: {}", ran.err);
@@ -215,8 +273,8 @@ fn add_with_any_call_failing_says_so_and_loses_nothing() {
                 true => again.refused("second", 3, 0),
                 false => again.answers("taken 5\nheld  7\n"),
             }
-            assert!(stopped.holds(&new) && stopped.marked(), "call {call}");
-            assert_eq!(stopped.folder.names().iter().filter(|name| name.starts_with("kept")).count(), 3);
+            assert!(stopped.holds(&new), "call {call}");
+            assert_eq!(stopped.folder.names().iter().filter(|name| name.starts_with("kept")).count(), 2);
         });
         assert!(calls >= 15 && troubled.get() >= 10, "{} of {calls} calls", troubled.get());
     }
@@ -236,13 +294,13 @@ fn the_first_add_with_any_call_failing_loses_nothing() {
             |call, ran| {
                 let taken = stopped.holds(&first);
                 assert!(taken || stopped.folder.read("kept").is_none(), "call {call}");
-                assert!(ran.status != Some(0) || taken && stopped.marked(), "call {call}: {}", ran.err);
+                assert!(ran.status != Some(0) || taken, "call {call}: {}", ran.err);
                 let again = stopped.folder.mill(&words);
                 match taken {
                     true => again.refused("first", 3, 0),
                     false => again.answers("taken 4\nheld  3\n"),
                 }
-                assert!(stopped.holds(&first) && stopped.marked(), "call {call}");
+                assert!(stopped.holds(&first), "call {call}");
             },
         );
         assert!(calls >= 15, "{calls} calls");
@@ -252,24 +310,29 @@ fn the_first_add_with_any_call_failing_loses_nothing() {
 #[test]
 fn files_of_o_with_any_call_failing_are_the_old_or_the_new() {
     let stopped = Stopped::new("fail_output");
-    let words = ["thin", "r1.rec", "-o", "kept"];
-    let new = r1_bytes();
-    for errno in [ENOSPC, EIO] {
-        let calls = stopped.failed(
-            errno,
-            "r1.rec",
-            &words,
-            || stopped.folder.put("kept", b"old"),
-            |call, ran| {
-                let there = stopped.folder.read("kept");
-                let old = there.as_deref() == Some(b"old");
-                assert!(old || there.as_deref() == Some(&new), "call {call}");
-                assert!(ran.status != Some(0) || !old, "call {call}");
-                assert!(!ran.err.contains("not written") || old, "call {call}: {}", ran.err);
-                let beside: Vec<String> = stopped.folder.names().into_iter().filter(|name| name.contains("-new")).collect();
-                assert!(beside.is_empty(), "call {call}: {beside:?}");
-            },
-        );
+    let new = Tin::of(&[], 8, &r1_bytes()).bytes();
+    for (errno, old) in [(ENOSPC, Some(&b"old"[..])), (EIO, Some(b"old")), (ENOSPC, None), (EIO, None)] {
+        let words = ["thin", "r1.rec", "-o", "kept", "--force"];
+        let words = if old.is_none() { &words[..4] } else { &words[..] };
+        let before = || {
+            stopped.clear();
+            if let Some(old) = old {
+                stopped.folder.put("kept", old);
+            }
+        };
+        let calls = stopped.failed(errno, "r1.rec", words, before, |call, ran| {
+            let there = stopped.folder.read("kept");
+            let as_it_was = there.as_deref() == old;
+            assert!(as_it_was || there.as_deref() == Some(&new), "call {call}");
+            assert!(ran.status != Some(0) || !as_it_was, "call {call}");
+            assert!(!ran.err.contains("not written") || as_it_was, "call {call}: {}", ran.err);
+            // The second name of a file that could not be taken away is all that may be left.
+            let beside: Vec<String> = stopped.folder.names().into_iter().filter(|name| name.contains("-new")).collect();
+            assert!(beside.is_empty() || old.is_none() && !as_it_was, "call {call}: {beside:?}");
+            for left in beside {
+                std::fs::remove_file(stopped.folder.at(&left)).unwrap();
+            }
+        });
         assert!(calls >= 10, "{calls} calls");
     }
 }

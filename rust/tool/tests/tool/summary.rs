@@ -23,13 +23,20 @@ number  first_time  last_time  greatest_a  least_a  greatest_b  least_b  tops_a 
     folder.mill(&["entry", "-o", "tins", "r1.rec", "r2.rec"]).answers("entries 2\n");
     folder.mill(&["entry", "--json", "-o", "one", "r1.rec"]).answers("{\"entries\":1}\n");
     let tins = folder.read("tins").unwrap();
-    assert_eq!((tins.len(), &tins[..32]), (64, &folder.read("one").unwrap()[..]));
-    folder.mill(&["find", "A", "10", "tins"]).answers("0\n1\n");
-    folder.mill(&["find", "A", "11", "tins"]).answers("0\n");
+    let entries = ["r1.rec", "r2.rec"].map(|name| mill::entry(&folder.read(name).unwrap()).unwrap().to_bytes());
+    assert_eq!(tins[32..96], *entries.as_flattened());
+    assert_eq!(folder.read("one").unwrap()[32..64], entries[0]);
+    folder.mill(&["find", "A", "10", "tins"]).answers("0 r1.rec\n1 r2.rec\n");
+    folder.mill(&["find", "A", "11", "tins"]).answers("0 r1.rec\n");
     folder.mill(&["find", "A", "91", "tins"]).answers("");
-    folder.mill(&["find", "B", "-5", "--json", "tins"]).answers("{\"found\":[0,1]}\n");
-    folder.mill(&["find", "B", "51", "--json", "tins"]).answers("{\"found\":[]}\n");
-    folder.mill_reads(&["find", "B", "50", "-"], &tins).answers("0\n");
+    folder.mill(&["find", "B", "-5", "--json", "tins"]).answers("{\"found\":[0,1],\"names\":[\"r1.rec\",\"r2.rec\"]}\n");
+    folder.mill(&["find", "B", "51", "--json", "tins"]).answers("{\"found\":[],\"names\":[]}\n");
+    folder.mill_reads(&["find", "B", "50", "-"], &tins).answers("0 r1.rec\n");
+    // Bare entries, as summaries were before.
+    folder.mill(&["entry", "--raw", "-o", "bare", "r1.rec", "r2.rec"]).answers("entries 2\n");
+    assert_eq!(folder.read("bare").as_deref(), Some(entries.as_flattened()));
+    folder.mill(&["find", "--raw", "A", "10", "bare"]).answers("0\n1\n");
+    folder.mill(&["find", "--raw", "--json", "A", "10", "bare"]).answers("{\"found\":[0,1]}\n");
     // Kept readings give the same entry.
     assert_eq!(folder.mill(&["thin", "r2.rec", "-o", "kept.rec"]).status, Some(0));
     let [full, kept] = ["r2.rec", "kept.rec"].map(|name| folder.mill(&["entry", "--json", name]).text().replace(name, ""));
@@ -40,13 +47,13 @@ number  first_time  last_time  greatest_a  least_a  greatest_b  least_b  tops_a 
 fn what_is_refused() {
     let folder = Folder::with_recordings("entry_refused");
     folder.put("tins", b"old");
-    folder.mill(&["entry", "-o", "tins", "r1.rec", "empty.rec"]).refused("empty.rec", 4, 0);
+    folder.mill(&["entry", "-o", "tins", "r1.rec", "empty.rec"]).troubles("empty.rec: is empty: neither a recording nor a tin");
     folder.mill(&["entry", "-o", "tins", "r1.rec", "bad.rec", "short.rec"]).refused("bad.rec", 3, 2);
     folder.mill(&["entry", "-o", "tins", "r1.rec", "none.rec"]).troubles("none.rec: No such file or directory");
     folder.mill(&["entry"]).troubles_with("RECORDING is missing");
-    folder.mill(&["find", "A", "5", "tins"]).refused("tins", 20, 0);
+    folder.mill(&["find", "--raw", "A", "5", "tins"]).refused("tins", 20, 0);
     for level in ["2000000001", "-2000000001", "99999999999999999999"] {
-        folder.mill(&["find", "A", level, "empty.rec"]).refused("empty.rec", 12, 0);
+        folder.mill(&["find", "--raw", "A", level, "empty.rec"]).refused("empty.rec", 12, 0);
     }
     folder.mill(&["find", "C", "5", "tins"]).troubles_with("curve 'C' is neither A nor B");
     folder.mill(&["find", "A", "five", "tins"]).troubles_with("LEVEL 'five' is not a whole number");
@@ -62,10 +69,12 @@ fn a_summary_has_at_most_2048_entries() {
     let found = folder.mill(&["find", "A", "90", "tins"]);
     assert_eq!(found.text().lines().count(), 2048);
     words.push("r1.rec");
-    folder.mill(&words).refused("", 20, 0);
-    assert_eq!(folder.read("tins").map(|tins| tins.len()), Some(65_536));
-    folder.put("tins", &[folder.read("tins").unwrap(), vec![0; 32]].concat());
-    folder.mill(&["find", "A", "90", "tins"]).refused("tins", 20, 0);
+    let tins = folder.read("tins");
+    folder.mill(&[&words[..], &["--force"]].concat()).refused("", 20, 0);
+    folder.mill(&["entry", "--append", "-o", "tins", "r2.rec"]).refused("", 20, 0);
+    assert_eq!(folder.read("tins"), tins);
+    folder.put("bare", &vec![0; 2049 * 32]);
+    folder.mill(&["find", "--raw", "A", "90", "bare"]).refused("bare", 20, 0);
 }
 
 #[test]
@@ -92,4 +101,67 @@ fn what_is_found_is_what_asking_each_finds() {
         }
     }
     assert!(some > 20, "{some} lists have not all");
+}
+
+/// What `find` is given by mistake: a recording is an even number of bare entries, often enough.
+#[test]
+fn what_is_no_summary_is_named() {
+    let folder = Folder::with_recordings("no_summary");
+    let line = "is no summary: 'mill entry -o' writes one; --raw reads bare entries";
+    folder.mill(&["find", "A", "5", "r1.rec"]).troubles(&format!("r1.rec: {line}"));
+    folder.mill(&["thin", "-o", "tin", "r2.rec"]).answers("readings 9\nkept     6\n");
+    for name in ["tin", "empty.rec"] {
+        folder.mill(&["find", "A", "5", name]).troubles(&format!("{name}: {line}"));
+    }
+    folder.mill(&["entry", "-o", "tins", "r1.rec"]).answers("entries 1\n");
+    folder.mill(&["find", "--raw", "A", "5", "tins"]).troubles("tins: is a summary with names: leave --raw out");
+    for words in [&["ask", "high(A)", "tins"][..], &["show", "tins"], &["add", "kept", "tins"], &["entry", "tins"]] {
+        let ran = folder.mill(words);
+        assert_ne!(ran.status, Some(0), "mill {}", ran.words);
+    }
+    folder.mill(&["ask", "high(A)", "tins"]).troubles("tins: is a summary, and no recording");
+    let mut damaged = folder.read("tins").unwrap();
+    damaged[40] ^= 1;
+    folder.put("tins", &damaged);
+    folder.mill(&["find", "A", "5", "tins"]).troubles("tins: is a damaged summary");
+    folder.mill(&["entry", "--append", "-o", "tins", "r2.rec"]).troubles("tins: is a damaged summary");
+    assert_eq!(folder.read("tins"), Some(damaged));
+}
+
+#[test]
+fn entries_are_added_by_their_names() {
+    let folder = Folder::with_recordings("append");
+    folder.mill(&["entry", "--append", "-o", "tins", "r2.rec"]).answers("entries 1\n");
+    folder.mill(&["entry", "--append", "-o", "tins", "r1.rec", "r3.rec"]).answers("entries 3\n");
+    folder.mill(&["find", "A", "10", "tins"]).answers("0 r2.rec\n1 r1.rec\n2 r3.rec\n");
+    // A name that is there keeps its number and gets its new entry.
+    folder.put("r2.rec", &folder.read("r1.rec").unwrap());
+    folder.mill(&["entry", "--append", "--json", "-o", "tins", "r2.rec"]).answers("{\"entries\":3}\n");
+    folder.mill(&["find", "A", "11", "tins"]).answers("0 r2.rec\n1 r1.rec\n");
+    // The same as if all were named again.
+    folder.mill(&["entry", "-o", "all", "r2.rec", "r1.rec", "r3.rec"]).answers("entries 3\n");
+    assert_eq!(folder.read("all"), folder.read("tins"));
+    folder.mill(&["entry", "--append", "r1.rec"]).troubles_with("--append and --raw want a summary, with -o");
+    folder.mill(&["entry", "--append", "--raw", "-o", "tins", "r1.rec"]).troubles_with("--append goes with no --raw");
+    folder.mill(&["entry", "--append", "-o", "r1.rec", "r2.rec"]).troubles_with("r1.rec: is no summary");
+}
+
+/// Each waits for the one before it.
+#[test]
+fn entries_added_at_once_are_all_there() {
+    let folder = Folder::with_recordings("append_at_once");
+    let names: Vec<String> = (0..12).map(|number| format!("{number}.rec")).collect();
+    for name in &names {
+        folder.put(name, &folder.read("r1.rec").unwrap());
+    }
+    let runs: Vec<_> = names
+        .iter()
+        .map(|name| {
+            folder.command(std::path::Path::new(super::folder::MILL), &["entry", "--append", "-o", "tins", name]).spawn().unwrap()
+        })
+        .collect();
+    for run in runs {
+        assert_eq!(super::folder::Ran::of(run, &["entry"]).status, Some(0));
+    }
+    assert_eq!(folder.mill(&["find", "A", "10", "tins"]).text().lines().count(), 12);
 }

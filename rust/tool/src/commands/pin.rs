@@ -1,0 +1,87 @@
+//! `mill pin`: readings put back into a tin by choice.
+
+use super::Command;
+use crate::arguments::{self, Arguments};
+use crate::output::Answer;
+use crate::store::{can_be_kept, Store};
+use crate::tin::Tin;
+use crate::trouble::{shown, Trouble};
+use crate::{input, json, tin};
+use mill::sys::{MILL_MAX_RECORDS, MILL_RECORD_BYTES};
+use mill::{Reading, Thinning};
+use std::collections::BTreeSet;
+use std::ffi::OsStr;
+use std::path::Path;
+
+pub const COMMAND: Command = Command {
+    name: "pin",
+    operands: "TIN FULL TIME..",
+    does: "Put readings of the full recording back into its tin.",
+    about: "\
+FULL is the recording of which TIN holds the kept readings, TIME the time of a
+reading of it. What is assured stays assured. The head of TIN counts its pins;
+'mill add' and 'mill thin' drop them.
+",
+    takes: &[],
+    run,
+};
+
+fn run(arguments: &Arguments) -> Result<Answer, Trouble> {
+    let ([kept, full], times) = arguments.operands_then_files("pin", ["TIN", "FULL"], "TIME")?;
+    let (kept, full) = (Path::new(kept), Path::new(full));
+    can_be_kept("pin", "TIN", kept)?;
+    let times = times.into_iter().map(time).collect::<Result<BTreeSet<i64>, Trouble>>()?;
+    let bytes = input::whole(full)?;
+    if tin::is_one(&bytes) {
+        return Err(Trouble::of_file(full, "is a tin: a pin is taken from the full recording"));
+    }
+    if !kept.exists() {
+        return Err(Trouble::of_file(kept, "No such file or directory"));
+    }
+    let store = Store::open(kept)?;
+    let before = store.tin(&[])?;
+    let pinned = pinned(kept, full, &before, &bytes, &times)?;
+    store.put(&pinned)?;
+    let [pins, held] = [pinned.pins as usize, pinned.held()];
+    if arguments.json {
+        let mut object = json::Object::new();
+        object.number("pinned", pins);
+        object.number("held", held);
+        return Ok(Answer::text(object.line()));
+    }
+    Ok(Answer::text(format!("pinned {pins}\nheld   {held}\n")))
+}
+
+fn time(word: &OsStr) -> Result<i64, Trouble> {
+    arguments::whole("pin", "TIME", word)
+}
+
+/// The tin with the readings of these times among its own, if it is what is kept of the recording.
+fn pinned(kept: &Path, full: &Path, before: &Tin, bytes: &[u8], times: &BTreeSet<i64>) -> Result<Tin, Trouble> {
+    let refused = |refusal| Trouble::refused(full, refusal);
+    let mut thinning = Thinning::start(&before.marks).map_err(refused)?;
+    thinning.take(bytes).map_err(refused)?;
+    let own = mill::thin(&before.readings, &before.marks).map_err(|refusal| Trouble::refused(kept, refusal))?;
+    let (all, _) = bytes.as_chunks::<MILL_RECORD_BYTES>();
+    let (held, _) = before.readings.as_chunks::<MILL_RECORD_BYTES>();
+    let mut held: BTreeSet<&[u8; MILL_RECORD_BYTES]> = held.iter().collect();
+    let mut missing = times.clone();
+    let mut readings = Vec::new();
+    for reading in all {
+        let wanted = Reading::from_bytes(*reading).is_ok_and(|reading| missing.remove(&i64::from(reading.time)));
+        if held.remove(reading) || wanted {
+            readings.extend_from_slice(reading);
+        }
+    }
+    if thinning.held() != own || !held.is_empty() {
+        return Err(Trouble::of_file(kept, format!("does not hold what is kept of {}", shown(full))));
+    }
+    if let Some(time) = missing.first() {
+        return Err(Trouble::of_file(full, format!("has no reading at {time}")));
+    }
+    let [held, pins] = [readings.len(), readings.len() - own.len()].map(|bytes| bytes / MILL_RECORD_BYTES);
+    if held > MILL_MAX_RECORDS {
+        return Err(Trouble::of_file(kept, format!("would hold {held} readings, and a tin holds at most {MILL_MAX_RECORDS}")));
+    }
+    Ok(Tin { marks: before.marks.clone(), taken: Some(all.len() as u64), pins: pins as u32, readings })
+}
