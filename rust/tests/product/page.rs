@@ -5,6 +5,7 @@
 //! axis ends; or `refused` with number and place. ```` ```mill kept ```` asks R1's kept readings without marks,
 //! ```` ```mill kept 40 50 ```` those with these marks, ```` ```mill kept 40 with 20 50 ```` these with the readings at 20 and 50 put back.
 //! ```` ```mill kept 40 lab 40 ```` asks them as a laboratory does that comes with the marks behind `lab`.
+//! ```` ```mill assured 40 50 ```` asks whether texts are assured under these marks: `assured` or `no promise`.
 //! ```` ```mill degree 51 ```` asks for degrees of this target: `met`,
 //! `distance d, degree g` or `no value`. ```` ```mill band 5 ```` asks within this band: `certain` and a set, `; possible` and a
 //! set. ```` ```mill order ```` checks order sheets, lines `a b` parted by `, `: `met`, or `line k broken at t`.
@@ -49,6 +50,8 @@ enum Asked {
     /// Of those with these marks, as a laboratory that comes with those marks.
     OfLaboratory(Vec<u32>, Vec<u32>),
     OfOldList,
+    /// Whether kept readings with these marks answer it as the recording did.
+    Assured(Vec<u32>),
     Degree(i64),
     Band(i64),
     Order,
@@ -139,6 +142,10 @@ fn block_of(name: &str) -> Result<Block, String> {
                 Some(at) => Asked::OfPinned(read(&numbers[..at])?, read(&numbers[at + 1..])?),
             }
         }
+        ["assured", marks @ ..] => {
+            let marks: Result<Vec<u32>, _> = marks.iter().map(|word| word.parse()).collect();
+            Asked::Assured(marks.map_err(unread)?)
+        }
         ["degree", target] => Asked::Degree(target.parse().map_err(unread)?),
         ["band", e] => Asked::Band(e.parse().map_err(unread)?),
         ["order"] => Asked::Order,
@@ -213,6 +220,14 @@ fn answer(example: &Example) -> String {
         Asked::OfOldList => {
             let old = kept_by(Rule::Document01, &in_rules(&recording).unwrap(), &[]);
             mill::question(&bytes(&old), text).map(|set| on_the_page(set.runs()))
+        }
+        Asked::Assured(marks) => {
+            let kept = mill::thin(&recording, marks).expect("accepted marks");
+            let assured = mill::assured(text, marks);
+            if assured == Ok(true) {
+                assert_eq!(mill::question(&kept, text), mill::question(&recording, text), "{}", example.text);
+            }
+            assured.map(|assured| if assured { "assured" } else { "no promise" }.into())
         }
         Asked::Degree(target) => mill::degree(&recording, text, *target).map(|degree| match degree {
             Degree::Met => "met".into(),
