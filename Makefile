@@ -15,12 +15,13 @@ help:
 build: build-$(TARGET)
 
 build-x86_64:
+	rt check mill ask
 	rt staticlib mill
 	sh shared.sh target/staticlib/libmill.a target/shared
-	rt check ask
 	cd rust && env -u CARGO_BUILD_TARGET cargo build --offline --release --package tool --target-dir target
 
 build-aarch64:
+	rt check mill
 	rt staticlib mill
 	sh aarch64.sh
 
