@@ -1,7 +1,7 @@
 /*
 ** mill.h: questions about recordings of bead mills, and their thinning.
 **
-** Twenty calls on plain bytes. Each answers with its result or with one numbered
+** Twenty-one calls on plain bytes. Each answers with its result or with one numbered
 ** refusal, for every input that can be handed in; a caller needs to test
 ** nothing first. A call reads only the bytes that it is given, keeps nothing
 ** from one call to the next (what must last lies in the caller's memory: CARRIED,
