@@ -74,6 +74,7 @@ pub const MILL_STACK_ENTRY: usize = 4_096;
 pub const MILL_STACK_FIND: usize = 4_096;
 pub const MILL_STACK_LIVE_ENTRY: usize = 4_096;
 pub const MILL_STACK_ASSURED: usize = 131_072;
+pub const MILL_STACK_VERSION: usize = 4_096;
 
 pub const MILL_FALLING: u8 = 0;
 pub const MILL_FLAT: u8 = 1;
