@@ -167,13 +167,16 @@ extern "C" {
 
 /*
 ** Bytes of stack with which each call does. Measured on x86-64 with the deepest
-** inputs known, and rounded up: 170,615 for questions and degrees, a laboratory's
-** and a report's among them (31 times ! before lag), 103,119 for bands and for
-** naming a report (256 times an open bracket), 10,551 for a reading of a growing
-** run, 8,391 for thinning, 1,303 for pairs, 503 for order sheets, 135 for entries, 119
-** for the entry of a growing run, 103 for its other calls, 87 for finding. No proof
-** bounds the stack.
+** inputs known, and rounded up: 168,871 for questions and degrees, a laboratory's
+** and a report's among them (31 times ! before lag), 103,135 for bands and for
+** naming a report (256 times an open bracket), 10,687 for a reading of a growing
+** run, 8,527 for thinning, 1,303 for pairs, 503 for order sheets, 127 for entries, 111
+** for the entry of a growing run, 103 for its other calls, 87 for finding. Where the
+** text is one listed question or one atom, in brackets or not, every call with a
+** text does with MILL_STACK_LISTED (23,079), whatever the recording. No proof bounds
+** the stack.
 */
+#define MILL_STACK_LISTED 32768
 #define MILL_STACK_QUESTION 196608
 #define MILL_STACK_DEGREE 196608
 #define MILL_STACK_PAIR 4096
