@@ -190,8 +190,11 @@ extern "C" {
 /*
 ** Bytes of stack with which each call does: measured on x86-64 with the deepest
 ** inputs known, and rounded up. docs/SPEED.md has what was measured, and a test fails
-** where a call takes more than is named here. No proof bounds the stack.
+** where a call takes more than is named here. Where the text is one listed question
+** or one atom, in brackets or not, every call with a text does with
+** MILL_STACK_LISTED, whatever the recording. No proof bounds the stack.
 */
+#define MILL_STACK_LISTED 32768
 #define MILL_STACK_QUESTION 196608
 #define MILL_STACK_DEGREE 196608
 #define MILL_STACK_PAIR 4096

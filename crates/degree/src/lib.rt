@@ -1,10 +1,12 @@
 // The degree call: how near the answered set of a question comes to a wanted number.
 ghost use mathlib.Core.Path.{_≡_};
 ghost use mathlib.Core.List.{_∷_};
-ghost use Prim.Native.Nat.{_<_};
+ghost use Prim.Native.Nat.{_-_, _<_};
 ghost use Rattle.number.specs.Axis.{axis};
 ghost use Rattle.refusal.specs.Outcome.{result, judged};
 ghost use Rattle.runs.specs.Set.{member, Valid};
+ghost use Rattle.grammar.specs.inner.Kinds.{NOT};
+ghost use Rattle.grammar.specs.inner.Table.{rowAt};
 ghost use Rattle.meaning.specs.inner.Coded.{coded};
 ghost use Rattle.meaning.specs.inner.Coded.{index as indexOf};
 ghost use Rattle.meaning.specs.inner.Truth.{val};
@@ -75,17 +77,41 @@ fn near_set(set: &[u32], index: u32) -> Reached
     }
 }
 
-// How far the number at an index is from the set of a text that was read.
-fn near_text(rec: &[u8], table: &[u32], count: usize, index: u32) -> Reached
-    requires { ⌜ Answerable (now table) count (now rec) × (index < axis) ⌝ }
+// How far the number at an index is from the set of a text of one leaf.
+fn near_leaf(rec: &[u8], table: &[u32], count: usize, index: u32) -> Reached
+    requires { ⌜ Answerable (now table) count (now rec) × (index < axis) × (rowAt (now table) (count - 1) .kind < NOT) ⌝ }
     ensures { λ r. ⌜ reachedOf r ≡ judged (setLines (now (rec .entry)) (textOf (now (table .entry)) count)) (reachIn (λ n. val (coded (now (rec .entry))) n (textOf (now (table .entry)) count) 0) index) ⌝ }
 {
     let mut set = [0u32; runset::SLOT];
-    let verdict = question::answered::set_of(rec, table, count, &mut set);
+    let verdict = question::answered::of_leaf(rec, table, count, &mut set);
     match verdict {
         Verdict::Refused(x) => Reached::Refused(x),
         Verdict::Fine => near_set(&set, index),
     }
+}
+
+// The same of any other text.
+fn near_tree(rec: &[u8], table: &[u32], count: usize, index: u32) -> Reached
+    requires { ⌜ Answerable (now table) count (now rec) × (index < axis) ⌝ }
+    ensures { λ r. ⌜ reachedOf r ≡ judged (setLines (now (rec .entry)) (textOf (now (table .entry)) count)) (reachIn (λ n. val (coded (now (rec .entry))) n (textOf (now (table .entry)) count) 0) index) ⌝ }
+{
+    let mut set = [0u32; runset::SLOT];
+    let verdict = question::answered::of_tree(rec, table, count, &mut set);
+    match verdict {
+        Verdict::Refused(x) => Reached::Refused(x),
+        Verdict::Fine => near_set(&set, index),
+    }
+}
+
+// The same of a text that was read.
+fn near_text(rec: &[u8], table: &[u32], count: usize, index: u32) -> Reached
+    requires { ⌜ Answerable (now table) count (now rec) × (index < axis) ⌝ }
+    ensures { λ r. ⌜ reachedOf r ≡ judged (setLines (now (rec .entry)) (textOf (now (table .entry)) count)) (reachIn (λ n. val (coded (now (rec .entry))) n (textOf (now (table .entry)) count) 0) index) ⌝ }
+{
+    if question::answered::is_leaf(table, count) {
+        return near_leaf(rec, table, count, index);
+    }
+    near_tree(rec, table, count, index)
 }
 
 // How near the set of a text that was read comes to a target.

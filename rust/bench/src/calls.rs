@@ -54,7 +54,7 @@ fn degrees() {
     }
 }
 
-/// 256 tops, 15 apart, the last two 16.
+/// 256 tops, 15 seconds apart, the last two 16.
 pub fn with_one_pair() -> Vec<u8> {
     let mut tops = evenly(256, RECORDS);
     tops[255] += 1;
@@ -63,7 +63,7 @@ pub fn with_one_pair() -> Vec<u8> {
 
 fn pairs() {
     let recording = with_one_pair();
-    for (name, target) in [("found from the first", 15 * 100), ("found at the last two", 16), ("none", 17)] {
+    for (name, target) in [("found from the first", 150 * 100), ("found at the last two", 160), ("none", 170)] {
         answering(
             &format!("pair, 256 tops, {name}"),
             Some(2.0),
@@ -98,8 +98,8 @@ fn laboratory() {
     answering(
         "laboratory, pair, 256 tops, found from the first",
         Some(2.0),
-        || mill::lab_pair(&recording, Curve::A, 1_500).map(times_of),
-        || plain::lab_pair(&recording, 0, 1_500),
+        || mill::lab_pair(&recording, Curve::A, 15_000).map(times_of),
+        || plain::lab_pair(&recording, 0, 15_000),
     );
 }
 

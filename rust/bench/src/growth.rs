@@ -1,4 +1,5 @@
-//! How the library's times grow with the records: 64 tops of A, 32 of both for `lag`.
+//! How the library's times grow: with the records (64 tops of A, 32 of both for `lag`), with the nodes of a text, with the runs of its
+//! sets and with the tops; and the slowest question that is known.
 
 use crate::calls::{nearness, sheet};
 use crate::measure::{best, microseconds, wanted};
@@ -48,6 +49,55 @@ pub fn rows() {
     grows_over("find, half as many entries, none", summaries, |summary| {
         mill::find_into(summary, Curve::A, 2_000_000, &mut out.borrow_mut())
     });
+}
+
+/// How the times grow with the nodes of a text, with the runs of its sets and with the tops of a recording, on 4,096 records.
+pub fn of_texts_and_tops() {
+    let readings = with_tops(&evenly(64, RECORDS), &evenly(64, RECORDS));
+    let out = RefCell::new(vec![0; RECORDS * sys::MILL_RECORD_BYTES]);
+    let time = |readings: &[Reading], text: &str| {
+        let recording = bytes(readings);
+        let call = || mill::question_into(black_box(&recording), text.as_bytes(), &mut out.borrow_mut());
+        call().expect(text);
+        best(call, call).0
+    };
+    // `or` over so many F of an atom: three nodes each, but for the first.
+    let nodes = |terms: usize| vec!["F(A<=v)"; terms].join("|");
+    table("4,096 records, by nodes", &["2", "5", "8", "17", "32"], "32 by 2", || {
+        [1, 2, 3, 6, 11].map(|terms| time(&readings, &nodes(terms))).to_vec()
+    });
+    table("32 nodes, by runs of its sets", &["1", "61", "125", "249"], "249 by 1", || {
+        let of = |values: usize| time(&with_values(readings.clone(), values), MANY_RUNS);
+        vec![time(&readings, ONE_RUN), of(30), of(62), of(124)]
+    });
+    for text in ["peaks(A)", "gaps(A)", "steps(A)"] {
+        table(&format!("`{text}`, by tops"), &["0", "64", "128", "256"], "256 by 64", || {
+            [0, 64, 128, 256].map(|tops| time(&with_tops(&evenly(tops, RECORDS), &[]), text)).to_vec()
+        });
+    }
+    // 32 nodes, 29 of them F, each of which joins a set of 256 values to another at every record.
+    let deep = |open: usize, atom: &str| format!("{}{atom}{}", "F(".repeat(open), ")".repeat(open));
+    let slowest = format!("{}|{}", deep(15, "A=v"), deep(14, "B=v"));
+    table("the slowest question that is known: F fifteen and fourteen deep, by values", &["1", "256"], "256 by 1", || {
+        let values = |count: usize| {
+            let mut readings = with_values(readings.clone(), count);
+            readings.iter_mut().enumerate().for_each(|(index, reading)| reading.b = (index * 41 % count * 4) as i32);
+            readings
+        };
+        vec![time(&values(1), &slowest), time(&values(256), &slowest)]
+    });
+}
+
+/// One table of one row: the columns, and the last column by another, which `by` names.
+fn table(name: &str, columns: &[&str], by: &str, times: impl Fn() -> Vec<f64>) {
+    if !wanted(name) {
+        return;
+    }
+    let times = times();
+    let first = columns.iter().position(|column| by.ends_with(&format!(" by {column}"))).expect("a column");
+    println!("\n| {name} | {} | {by} |\n|{}", columns.join(" | "), " --- |".repeat(columns.len() + 2));
+    let cells: Vec<String> = times.iter().map(|time| microseconds(*time)).collect();
+    println!("| µs | {} | {:.1} |", cells.join(" | "), times[times.len() - 1] / times[first]);
 }
 
 fn asks(name: &str, readings: impl Fn(usize) -> Vec<Reading>, text: &str, out: &RefCell<Vec<u8>>) {

@@ -1,7 +1,7 @@
 //! The question call.
 
 use crate::measure::writing;
-use crate::recordings::{bytes, evenly, twos_and, with_additions, with_plateaus, with_tops, RECORDS};
+use crate::recordings::{bytes, dense_bytes, evenly, stepping, twos_and, with_additions, with_plateaus, with_tops, RECORDS};
 use mill::{sys, Reading};
 
 // Atoms that hold from some number upward: so does all that is made of them without `!`.
@@ -36,12 +36,16 @@ fn differences() {
     question("`gaps(A)`, 0 tops", 1.2, &with_tops(&[], &[]), "gaps(A)");
     question("`gaps(A)`, 64 tops evenly", 2.0, &with_tops(&evenly(64, RECORDS), &[]), "gaps(A)");
     question("`gaps(A)`, 256 tops evenly", 2.0, &with_tops(&many, &[]), "gaps(A)");
-    question("`gaps(A)`, 256 tops, dense and often the same", 2.0, &with_tops(&twos_and(3), &[]), "gaps(A)");
-    question("`gaps(A)`, 256 tops, dense and far", 2.0, &with_tops(&twos_and(29), &[]), "gaps(A)");
+    dense("`gaps(A)`, 256 tops, dense and often the same", &with_tops(&twos_and(3), &[]), "gaps(A)");
+    dense("`gaps(A)`, 256 tops, dense and far", &with_tops(&twos_and(29), &[]), "gaps(A)");
+    question("`steps(A)`, 64 tops evenly", 2.0, &with_tops(&evenly(64, RECORDS), &[]), "steps(A)");
+    question("`steps(A)`, 256 tops evenly", 2.0, &with_tops(&many, &[]), "steps(A)");
+    // Steps of 2, 3, .. 30 readings, by turns: as many as there are room for.
+    question("`steps(A)`, 256 tops, 29 steps", 2.0, &with_tops(&stepping(29), &[]), "steps(A)");
     question("`lag`, 32 tops evenly", 2.0, &with_tops(&evenly(32, RECORDS), &evenly(32, RECORDS)), "lag");
     question("`lag`, 256 tops evenly", 2.0, &with_tops(&many, &many), "lag");
-    question("`lag`, 256 tops, dense and often the same", 2.0, &with_tops(&by(2), &by(3)), "lag");
-    question("`lag`, 256 tops, dense and far", 2.0, &with_tops(&by(2), &by(15)), "lag");
+    dense("`lag`, 256 tops, dense and often the same", &with_tops(&by(2), &by(3)), "lag");
+    dense("`lag`, 256 tops, dense and far", &with_tops(&by(2), &by(15)), "lag");
 }
 
 fn looking_ahead() {
@@ -76,4 +80,10 @@ fn of_32_nodes(name: &str, aim: f64, readings: &[Reading], text: &str) {
 fn question(name: &str, aim: f64, readings: &[Reading], text: &str) {
     let (recording, text) = (bytes(readings), text.as_bytes());
     writing(name, aim, |out| mill::question_into(&recording, text, out), |out| plain::question(&recording, text, out));
+}
+
+/// Of readings a tenth of a second apart.
+fn dense(name: &str, readings: &[Reading], text: &str) {
+    let (recording, text) = (dense_bytes(readings), text.as_bytes());
+    writing(name, 2.0, |out| mill::question_into(&recording, text, out), |out| plain::question(&recording, text, out));
 }

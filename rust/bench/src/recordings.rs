@@ -1,4 +1,4 @@
-//! The recordings that are measured: a reading every tenth of a second.
+//! The recordings that are measured: a reading every second, as a mill has them, unless a row says dense.
 
 use mill::{Reading, Slope};
 
@@ -12,6 +12,12 @@ pub fn evenly(count: usize, records: usize) -> Vec<usize> {
 /// 256 record indices, every second one and then at such steps, whose differences join into few runs.
 pub fn twos_and(step: usize) -> Vec<usize> {
     (0..128).map(|i| 1 + 2 * i).chain((0..128).map(|i| 260 + step * i)).collect()
+}
+
+/// 256 record indices at `steps` different steps by turns, the least of 2.
+pub fn stepping(steps: usize) -> Vec<usize> {
+    let step = |i: usize| 2 + i % steps;
+    (0..256).scan(1, |at, i| Some(std::mem::replace(at, *at + step(i)))).filter(|at| *at < RECORDS).collect()
 }
 
 /// Slow waves for values, and tops at just these records.
@@ -52,6 +58,12 @@ pub fn with_additions(additions: usize) -> Vec<Reading> {
     readings
 }
 
+/// A reading every second. Times count tenths of a second.
 pub fn bytes(readings: &[Reading]) -> Vec<u8> {
+    dense_bytes(&readings.iter().map(|reading| Reading { time: 10 * reading.time, ..*reading }).collect::<Vec<_>>())
+}
+
+/// A reading every tenth of a second.
+pub fn dense_bytes(readings: &[Reading]) -> Vec<u8> {
     readings.iter().copied().flat_map(Reading::to_bytes).collect()
 }

@@ -4,7 +4,7 @@ use crate::measure::writing;
 use crate::recordings::{bytes, evenly, with_additions, with_plateaus, with_tops, RECORDS};
 
 pub fn rows() {
-    const MARKS: [u32; 8] = [100, 600, 1_100, 1_600, 2_100, 2_600, 3_100, 3_600];
+    const MARKS: [u32; 8] = [1_000, 6_000, 11_000, 16_000, 21_000, 26_000, 31_000, 36_000];
     for tops in [0, 64, 256] {
         let recording = bytes(&with_tops(&evenly(tops, RECORDS), &[]));
         thinning(&format!("thin, {tops} tops, 0 marks"), &recording, &[]);

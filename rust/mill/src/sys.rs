@@ -54,6 +54,7 @@ pub const MILL_MAX_MOMENTS: u32 = 8;
 pub const MILL_MAX_ENTRIES: usize = 2048;
 
 /// Bytes of stack with which each call does.
+pub const MILL_STACK_LISTED: usize = 32_768;
 pub const MILL_STACK_QUESTION: usize = 196_608;
 pub const MILL_STACK_DEGREE: usize = 196_608;
 pub const MILL_STACK_PAIR: usize = 4_096;

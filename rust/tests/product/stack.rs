@@ -79,6 +79,24 @@ fn texts() -> Vec<String> {
     ]
 }
 
+/// Texts of one listed question or atom, as they are and in as many brackets as a text may have open.
+fn leaves() -> Vec<String> {
+    let bare = [
+        "A=v", "T<5", "A>=B", "fall(A)", "rise(B)", "P=16", "high(A)", "low(B)", "lowafter(A,1)", "capafter(B,256)", "peaks(A)",
+        "dips(B)", "cross", "crossup", "dose(1)", "ampl(A)", "gaps(A)", "steps(B)", "lag",
+    ];
+    let bracketed = |leaf: &str| {
+        let open = 16 - usize::from(leaf.contains('('));
+        format!("{}{leaf}{}", "(".repeat(open), ")".repeat(open))
+    };
+    bare.iter().flat_map(|leaf| [leaf.to_string(), bracketed(leaf)]).collect()
+}
+
+/// A report that was begun with a text; one that is none where the text is refused.
+fn report_of(text: &str) -> Vec<u8> {
+    mill::Report::start(2, text.as_bytes(), 7).map_or(vec![0; MILL_REPORT_BYTES], |report| report.as_bytes().to_vec())
+}
+
 fn recordings() -> Vec<Vec<u8>> {
     vec![wide(), bytes(&with_tops(4096, [256, 256])), bytes(&with_tops(600, [60, 3])), bytes(&flat(1))]
 }
@@ -124,6 +142,8 @@ enum Job {
     LiveEntry(Vec<u8>),
     Assured(String),
     Version,
+    /// A call with a text, which is one listed question or atom.
+    Listed(Box<Job>),
 }
 
 impl Job {
@@ -151,6 +171,7 @@ impl Job {
             Job::LiveEntry(_) => ("mill_live_entry", header::stack("LIVE_ENTRY")),
             Job::Assured(_) => ("mill_assured", header::stack("ASSURED")),
             Job::Version => ("mill_version", header::stack("VERSION")),
+            Job::Listed(_) => ("a text of one listed question or atom", header::stack("LISTED")),
         }
     }
 }
@@ -164,9 +185,7 @@ fn jobs() -> Vec<Job> {
             jobs.push(Job::Band(recording.clone(), text.clone()));
             jobs.push(Job::ReportStart(text.clone()));
             jobs.push(Job::Assured(text.clone()));
-            let report = mill::Report::start(2, text.as_bytes(), 7)
-                .map_or(vec![0; MILL_REPORT_BYTES], |report| report.as_bytes().to_vec());
-            jobs.push(Job::ReportAdd(report, recording.clone()));
+            jobs.push(Job::ReportAdd(report_of(&text), recording.clone()));
             let mut stored = mill::Report::start(2, b"lag", 7).unwrap().as_bytes().to_vec();
             stored[48..52].copy_from_slice(&(text.len() as u32).to_le_bytes());
             stored[52..][..text.len()].copy_from_slice(text.as_bytes());
@@ -178,6 +197,18 @@ fn jobs() -> Vec<Job> {
                 jobs.push(Job::LabQuestion(recording.clone(), text.clone()));
                 jobs.push(Job::LabDegree(recording.clone(), text));
             }
+        }
+        for text in leaves() {
+            let alone = [
+                Job::Question(recording.clone(), text.clone()),
+                Job::Degree(recording.clone(), text.clone()),
+                Job::LabQuestion(recording.clone(), text.clone()),
+                Job::LabDegree(recording.clone(), text.clone()),
+                Job::ReportStart(text.clone()),
+                Job::ReportAdd(report_of(&text), recording.clone()),
+                Job::Band(recording.clone(), text),
+            ];
+            jobs.extend(alone.map(|job| Job::Listed(Box::new(job))));
         }
         for text in ["lowafter(A,1)&capafter(A,256)".to_string(), "!".repeat(29) + "lowafter(A,1)", "!".repeat(31) + "peaks(A)"] {
             jobs.push(Job::LabQuestion(recording.clone(), text.clone()));
@@ -242,6 +273,7 @@ fn run(job: &Job, out: &mut [u8]) -> u64 {
                 let (at, length) = (recording.as_ptr(), recording.len());
                 mill_band(at, length, text.as_ptr(), text.len(), 9, &mut low, &mut high, &mut lowest, &mut highest)
             }
+            Job::Listed(job) => run(job, out),
             Job::LiveStart => mill_live_start(MARKS.as_ptr(), MARKS.len(), out.as_mut_ptr(), out.len()),
             Job::LiveAdd(live, reading) => {
                 out[..live.len()].copy_from_slice(live);
@@ -355,6 +387,7 @@ fn a_stack_that_is_too_small_is_seen() {
         (Job::LiveEntry(live), 16),
         (Job::Entry(bytes(&flat(3))), 16),
         (Job::Find(vec![9; 96]), 16),
+        (Job::Listed(Box::new(Job::Question(bytes(&flat(1)), "dose(1)".into()))), 8_192),
     ];
     if let Ok(which) = std::env::var(LESS) {
         let which: usize = which.parse().unwrap();

@@ -1,46 +1,30 @@
--- Refused by 9 or 8, or by the set.
-use Rattle.evaluation.specs.inner.Evaluation.{textOf}
-use Rattle.degree.specs.laws.Call.{text-refused, text-near}
+-- One leaf, or any other text.
+use Prim.Native.Nat.{_-_}
+use mathlib.Core.Path.{sym, _∙_}
+use borrow.Author.Tests.{ltb-true}
+use Rattle.grammar.specs.inner.Kinds.{NOT}
+use Rattle.grammar.specs.inner.Table.{rowAt}
 use borrow.Author.Needs.{needs}
 use Rattle.degree.proofs.near_text.Statement.{statement}
 use Rattle.degree.proofs.near_text.Tie as tie
 
-slice-aggregate-set-of : tie.Need-slice-aggregate-set-of
-slice-aggregate-set-of c = search needs
+is-leaf-requires : tie.Need-is-leaf-requires
+is-leaf-requires c κs = search needs
 
-set-of-requires : tie.Need-set-of-requires
-set-of-requires c κs = search needs
-
-enum-known-verdict : tie.Need-enum-known-verdict
-enum-known-verdict c = search needs
-
-enum-told : tie.Need-enum-told
-enum-told c = search needs
-
-slice-aggregate-near-set : tie.Need-slice-aggregate-near-set
-slice-aggregate-near-set c = search needs
-
-near-set-requires : tie.Need-near-set-requires
-near-set-requires c κs = (c .before .before .before .before .set-of .ensures .set (c .before .enum-told .given .1) .valid, c .before .before .before .before .before .before .before .before .pre .1)
+near-leaf-requires : tie.Need-near-leaf-requires
+near-leaf-requires c κs =
+    let s = c .before .before .before .before in
+    (s .pre .0, s .pre .1, ltb-true (rowAt (s .args .table .now) (s .args .count - 1) .kind) NOT (sym (c .before .is-leaf .ensures) ∙ c .if1 .taken))
 
 returns : tie.Need-returns
-returns c = let a = c .before .before .before .before .before .before .before .before .args in text-refused (a .rec .now) (textOf (a .table .now) (a .count)) _ _ (c .before .before .before .before .set-of .ensures) (a .index) _ (c .before .verdict .given .1)
+returns c = search needs
+
+near-tree-requires : tie.Need-near-tree-requires
+near-tree-requires c κs = search needs
 
 returns-2 : tie.Need-returns-2
-returns-2 c =
-    let s = c .before .before .before .before .before .before .before .before .before in
-    let a = s .args in
-    text-near (a .rec .now) (textOf (a .table .now) (a .count)) _ _ (c .before .before .before .before .before .set-of .ensures) (a .index) (c .before .before .enum-told .given .1) (s .pre .1) _ (c .near-set .ensures)
+returns-2 c = search needs
 
 pub near-text-spec : {M : Type 1} → statement M
 near-text-spec =
-    tie.close
-    (tie.spec
-    slice-aggregate-set-of
-    set-of-requires
-    enum-known-verdict
-    enum-told
-    slice-aggregate-near-set
-    near-set-requires
-    returns
-    returns-2)
+    tie.close (tie.spec is-leaf-requires near-leaf-requires returns near-tree-requires returns-2)

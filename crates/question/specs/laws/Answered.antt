@@ -3,28 +3,31 @@ use Prim.Native.Nat.{ℕ, _-_, _<_}
 use native.Mathlib.Omega.{arith}
 use mathlib.Core.Path.{subst, refl, _≡_, sym, ap, _∙_}
 use mathlib.Core.List.{List, [], _∷_}
-use mathlib.Core.Bool.{Bool, true, false}
+use mathlib.Core.Bool.{Bool, true, false, false≢true}
+use lib.ListN.{length}
 use Rattle.refusal.specs.Outcome.{Outcome, refused, judged, line}
 use Rattle.refusal.specs.Numbers.{numberOf, placeOf}
 use Rattle.refusal.specs.declared.Refusal.{Refusal}
 use Rattle.refusal.specs.declared.Refusal.the-variants.{TooManyTops, TooManyRuns}
+use Rattle.recording.specs.Recording.{Accepted}
 use Rattle.recording.specs.laws.Outcome.{judged-first, judged-skip}
 use Rattle.runs.specs.Set.{Holds, Makes}
-use Rattle.grammar.specs.Syntax.{Text}
+use Rattle.grammar.specs.Syntax.{Text, atom, listed, or, and, neg, finally, globally, next, until, weakUntil}
 use Rattle.grammar.specs.declared.Row.{Row}
-use Rattle.grammar.specs.inner.Kinds.{NOT}
+use Rattle.grammar.specs.inner.Kinds.{NOT, GAPS}
 use Rattle.grammar.specs.inner.Table.{rowAt}
-use Rattle.meaning.specs.inner.Coded.{coded}
-use Rattle.meaning.specs.inner.Truth.{val, refused8, refused9, asksTooMany, ofListed}
-use Rattle.leaves.specs.inner.Leaf.{leafOf}
+use Rattle.meaning.specs.inner.Coded.{Coded, coded}
+use Rattle.meaning.specs.inner.Truth.{val, refused8, refused9, someNode, asksTooMany, ofListed}
+use Rattle.leaves.specs.inner.Leaf.{leafOf, Asked}
 use Rattle.leaves.specs.inner.Differing.{Differs}
 use Rattle.leaves.specs.declared.Differing.{Differing}
 use Rattle.leaves.specs.declared.Differing.the-variants as found
 use Rattle.evaluation.specs.inner.Evaluation.{textOf, Asking, Evaluates}
 use Rattle.evaluation.specs.laws.Alone.{alone-evaluates}
+use Rattle.evaluation.specs.laws.Leaf.{isLeaf, row-leaf}
 use Rattle.question.specs.Question.{setLines}
 use Rattle.question.specs.inner.Answered.{Answerable, verdictOf, Gives}
-use Rattle.question.specs.laws.Limit.{asks-leaf}
+use Rattle.question.specs.laws.Limit.{asks-leaf, leaf-none}
 use Rattle.question.specs.declared.answered.Verdict.{Verdict}
 use Rattle.question.specs.declared.answered.Verdict.the-variants.{Fine, Refused}
 
@@ -98,3 +101,27 @@ module _ (table : List ℕ) (count : ℕ) (bytes : List ℕ) (ready : Answerable
 
     pub gives-alone : (d : Differing) → Differs asked (λ v. val (coded bytes) v (leafOf root) 0) words d → (v : Verdict) → v ≡ verdictOf d → Gives bytes (textOf table count) words v
     gives-alone d h v e = subst (Gives bytes (textOf table count) words) (sym e) (gives-found d h)
+
+-- a leaf asks what its own question asks
+leaf-nine : (r : List Coded) (p : Text) → isLeaf p ≡ true → refused9 r p ≡ ofListed (asksTooMany r) p
+unfolding refused9 someNode
+leaf-nine r (atom a) h = refl
+leaf-nine r (listed q) h = refl
+leaf-nine r (or p q) h = absurd (false≢true h)
+leaf-nine r (and p q) h = absurd (false≢true h)
+leaf-nine r (neg p) h = absurd (false≢true h)
+leaf-nine r (finally p) h = absurd (false≢true h)
+leaf-nine r (globally p) h = absurd (false≢true h)
+leaf-nine r (next p) h = absurd (false≢true h)
+leaf-nine r (until p q) h = absurd (false≢true h)
+leaf-nine r (weakUntil p q) h = absurd (false≢true h)
+
+-- a leaf that takes no differences can be asked
+pub leaf-asked : (bytes : List ℕ) (root : Row) → Accepted bytes → 0 < length (coded bytes) → root .kind < NOT → root .kind < GAPS → Asked bytes 0 root
+leaf-asked bytes root a some leaf below =
+    record {
+      accepted = a;
+      index = some;
+      leaf = leaf;
+      few-tops = leaf-nine (coded bytes) (leafOf root) (row-leaf root) ∙ leaf-none (coded bytes) (root .first) (root .second) (root .number) (root .kind) below;
+    }

@@ -1,47 +1,44 @@
--- Refused by 9 or 8, or the set is written.
-use Rattle.evaluation.specs.inner.Evaluation.{textOf}
-use Rattle.question.specs.laws.Call.{answer-refused, answer-fine}
+-- One leaf, or any other text.
+use Prim.Native.Nat.{_-_}
+use mathlib.Core.Path.{sym, _∙_}
+use borrow.Author.Tests.{ltb-true}
+use Rattle.grammar.specs.inner.Kinds.{NOT}
+use Rattle.grammar.specs.inner.Table.{rowAt}
 use borrow.Author.Needs.{needs}
 use Rattle.question.proofs.call.answer.Statement.{statement}
 use Rattle.question.proofs.call.answer.Tie as tie
 
-slice-aggregate-set-of : tie.Need-slice-aggregate-set-of
-slice-aggregate-set-of c = search needs
+is-leaf-requires : tie.Need-is-leaf-requires
+is-leaf-requires c κs = search needs
 
-set-of-requires : tie.Need-set-of-requires
-set-of-requires c κs = search needs
-
-enum-known-verdict : tie.Need-enum-known-verdict
-enum-known-verdict c = search needs
-
-enum-told : tie.Need-enum-told
-enum-told c = search needs
-
-slice-aggregate-write-set : tie.Need-slice-aggregate-write-set
-slice-aggregate-write-set c = search needs
-
-write-set-requires : tie.Need-write-set-requires
-write-set-requires c κs = c .before .before .before .before .before .set-of .ensures .set (c .before .before .enum-told .given .1) .valid
-
-returns : tie.Need-returns
-returns c = let a = c .before .before .before .before .before .before .before .before .before .args in answer-refused (a .rec .now) (textOf (a .table .now) (a .count)) _ _ (c .before .before .before .before .set-of .ensures) (a .out .now) _ (c .before .verdict .given .1)
+answer-leaf-requires : tie.Need-answer-leaf-requires
+answer-leaf-requires c κs =
+    let s = c .before .before .before .before .before .before in
+    (s .pre, ltb-true (rowAt (s .args .table .now) (s .args .count - 1) .kind) NOT (sym (c .before .before .is-leaf .ensures) ∙ c .before .if1 .taken))
 
 same-length : tie.Need-same-length
 same-length c = search needs
 
+returns : tie.Need-returns
+returns c = search needs
+
+answer-tree-requires : tie.Need-answer-tree-requires
+answer-tree-requires c κs = search needs
+
+same-length-2 : tie.Need-same-length-2
+same-length-2 c = search needs
+
 returns-2 : tie.Need-returns-2
-returns-2 c = let a = c .before .before .before .before .before .before .before .before .before .before .before .before .before .args in answer-fine (a .rec .now) (textOf (a .table .now) (a .count)) _ _ (c .before .before .before .before .before .before .before .before .set-of .ensures) (a .out .now) (c .before .before .before .before .before .enum-told .given .1) _ _ (c .before .before .write-set .ensures)
+returns-2 c = search needs
 
 pub answer-spec : {M : Type 1} → statement M
 answer-spec =
     tie.close
     (tie.spec
-    slice-aggregate-set-of
-    set-of-requires
-    enum-known-verdict
-    enum-told
-    slice-aggregate-write-set
-    write-set-requires
-    returns
+    is-leaf-requires
+    answer-leaf-requires
     same-length
+    returns
+    answer-tree-requires
+    same-length-2
     returns-2)

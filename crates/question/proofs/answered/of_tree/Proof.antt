@@ -3,8 +3,8 @@ use mathlib.Core.Path.{sym, _∙_}
 use Rattle.evaluation.specs.inner.Evaluation.{textOf}
 use Rattle.question.specs.laws.Answered.{gives-nine, gives-eight, gives-set, asking}
 use borrow.Author.Needs.{needs}
-use Rattle.question.proofs.answered.evaluated.Statement.{statement}
-use Rattle.question.proofs.answered.evaluated.Tie as tie
+use Rattle.question.proofs.answered.of_tree.Statement.{statement}
+use Rattle.question.proofs.answered.of_tree.Tie as tie
 
 sub-asks : tie.Need-sub-asks
 sub-asks c = search needs
@@ -36,8 +36,8 @@ same-length-2 c = search needs
 returns-3 : tie.Need-returns-3
 returns-3 c = let a = c .before .before .before .before .before .before .before .before .before .before .before .args in gives-set (a .rec .now) (textOf (a .table .now) (a .count)) _ (sym (c .before .before .before .before .before .before .before .asks .ensures) ∙ c .before .before .before .before .before .before .if1 .left) (sym (c .before .before .before .evaluate .ensures .flag) ∙ c .if2 .left) (c .before .before .before .evaluate .ensures .holds (c .if2 .left))
 
-pub evaluated-spec : {M : Type 1} → statement M
-evaluated-spec =
+pub of-tree-spec : {M : Type 1} → statement M
+of-tree-spec =
     tie.close
     (tie.spec
     sub-asks
