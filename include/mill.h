@@ -1,14 +1,14 @@
 /*
 ** mill.h: questions about recordings of bead mills, and their thinning.
 **
-** Nineteen calls on plain bytes. Each answers with its result or with one numbered
+** Twenty calls on plain bytes. Each answers with its result or with one numbered
 ** refusal, for every input that can be handed in; a caller needs to test
 ** nothing first. A call reads only the bytes that it is given, keeps nothing
 ** from one call to the next (what must last lies in the caller's memory: CARRIED,
 ** below), takes no memory from the heap, and may run in any number of threads at
-** once. This header is for C99 and later, and for C++11 and later. Link with
-** libmill.a, which is for x86-64 and needs memcpy and memset of the C library and no
-** other library.
+** once. Link with libmill.a, which needs memcpy and memset of the C library and
+** no other library. It is for 64-bit little-endian Linux: x86-64 and aarch64.
+** The header is C99, or C++11.
 **
 **
 ** RECORDING. Readings of MILL_RECORD_BYTES bytes each, no header, all numbers
@@ -105,22 +105,22 @@
 ** setting up before mill_report_start and mill_live_start, and no freeing. They must
 ** not overlap an input or an output.
 **
-** Bytes hold a report if they are as many, begin as a naming leaves them, and all that
-** they say is in its range, the text too: a report that was given or stopped is held
-** no more. Bytes hold a run if they are as many, begin as a start leaves them, and
-** have accepted marks and counts within their limits. Bytes that are too few, all zero
-** or all 255 hold neither. Of bytes that hold none a call says MILL_NO_REPORT or
-** MILL_BAD_MARKS. Other bytes that no call left there do no harm: a call answers with
-** a result or a refusal of its list, and touches nothing else.
+** Bytes hold a report if they are at least as many, begin as a naming leaves them, and
+** all that they say is in its range, the text too: a report that was given or stopped
+** is held no more. Bytes hold a run if they are at least as many, begin as a start
+** leaves them, and have accepted marks and counts within their limits. Bytes that are
+** too few, all zero or all 255 hold neither. Of bytes that hold none a call says
+** MILL_NO_REPORT or MILL_BAD_MARKS. Other bytes that no call left there do no harm: a
+** call answers with a result or a refusal of its list, and touches nothing else.
 **
 ** They may be stored, and read by another program. The first four bytes name what
 ** they are, the format, and the rule by which readings are kept. A library with
 ** another format or another rule finds no report and no run in them; so does this one
 ** in those of version 1.0, which name neither. A program then begins anew: it names
 ** the report and hands in its recordings from the first, or starts a run and adds its
-** readings. So it keeps these until the report is given or the run is thinned. Bytes
-** that no call writes stay as the caller's memory was: clear it before the start where
-** others will read what is stored.
+** readings. So it keeps these until the report is given, or what the run holds is read
+** out and stored. Bytes that no call writes stay as the caller's memory was: clear it
+** before the start where others will read what is stored.
 **
 ** A null pointer with length 0 serves as an empty input or an empty output.
 ** This is tested, and it is not part of what is proved. distance, degree,
@@ -137,6 +137,10 @@
 #ifndef MILL_H
 #define MILL_H
 
+#if !defined __cplusplus && (!defined __STDC_VERSION__ || __STDC_VERSION__ < 199901L)
+#error "mill.h needs C99 or later, or C++: compile with -std=c99"
+#else
+
 #include <stddef.h>
 #include <stdint.h>
 
@@ -145,7 +149,7 @@ extern "C" {
 #endif
 
 /* The version. Its first number, which is that of libmill.so too, changes where programs must be compiled again. */
-#define MILL_VERSION "1.0.0"
+#define MILL_VERSION "1.1.0"
 
 /* The axis: the numbers of sets, the numbers in texts, the targets. */
 #define MILL_AXIS_LOW (-2000000000)
@@ -207,6 +211,8 @@ extern "C" {
 #define MILL_STACK_ENTRY 4096
 #define MILL_STACK_FIND 4096
 #define MILL_STACK_LIVE_ENTRY 4096
+#define MILL_STACK_ASSURED 131072
+#define MILL_STACK_VERSION 4096
 
 /* Slopes of a record. */
 #define MILL_FALLING 0
@@ -337,8 +343,9 @@ uint64_t mill_pair(const uint8_t *recording, size_t recording_len, uint32_t curv
 ** of F, G, X, U and W and whose after-times (the k of lowafter and capafter)
 ** are among the marks gets the same bytes or the same refusal, in mill_degree
 ** and mill_band too; mill_pair gives the same two times, mill_order the same
-** time and line, and mill_entry the same entry. Other questions may be asked of
-** kept readings and are answered of those alone. Take five readings at the times
+** time and line, and mill_entry the same entry. So do further questions, with F, G,
+** X, U and W: mill_assured tells which. All others may be asked of kept readings
+** too and are answered of those alone. Take five readings at the times
 ** 0 to 4, all of one value, A flat, rising, flat, flat and falling: kept are those
 ** at 0, 1, 3 and 4. peaks(A) is 4 of these as of the five; but F(T=v), which is 0
 ** to 4 of the five, lacks 2.
@@ -767,6 +774,53 @@ uint64_t mill_find(const uint8_t *entries, size_t entries_len, uint32_t curve, i
 */
 uint64_t mill_live_entry(const uint8_t *live, size_t live_len, uint8_t *out, size_t out_len);
 
+/*
+** Whether kept readings answer a text as their recording did. It looks at the text
+** and at the marks of the thinning alone, which are as for mill_thin.
+**
+** MILL_ASSURED: of every accepted recording, and of every selection of its readings that
+** includes those kept under these marks, mill_question gives the same bytes or the same
+** refusal as of the recording, given outputs of one length. So do mill_degree and
+** mill_band, and a report over such readings is the report over the recordings. The same
+** holds of readings thinned piece by piece and of those of a growing run.
+**
+** MILL_NOT_ASSURED PROMISES NOTHING. The text may be asked, and is answered of the kept
+** readings alone: perhaps as of the recording, perhaps not.
+**
+** Assured are, with c for A or B, r for one of >= <= > <, and k, n for numbers:
+**
+** 1. texts without F, G, X, U and W whose after-times are marks;
+** 2. parts of these kinds, joined by |, & and !: F(P=k&..) and G(!P=k|..) with atoms in
+**    the dots; F, G, U and W over A>B, A<=B and parts of this line; F(fall(c)),
+**    F(rise(c)), G(!fall(c)), G(!rise(c));
+** 3. parts of these kinds, joined by |, & and !: an atom by itself, which speaks of the
+**    first reading; F or G over one bound, c r v or c r n; F(T>k&c r v) and
+**    G(!(T>k)|c r v) with k a mark; F(G(atom)), which speaks of the last reading; parts
+**    of line 2 that do not write v, in which T>n may stand with & in F, !(T>n) with | in G.
+**
+** And some more: crates/assured/specs/Assured.antt is the definition, docs/QUESTIONS.md has
+** examples.
+**
+** Before the batch is asked what it read when pigment 3 went in:
+**
+**     uint64_t r = mill_assured((const uint8_t *)"F(P=3&A=v)", 10, marks, marks_len);
+**     if (MILL_NUMBER(r) != 0)
+**         return report(MILL_NUMBER(r), MILL_PLACE(r));
+**     printf("%s\n", r == MILL_ASSURED ? "answered as of the recording" : "nothing is promised");
+**
+** Refusals, in order: 5, 6, 7, 11.
+*/
+#define MILL_NOT_ASSURED 0 /* nothing is promised */
+#define MILL_ASSURED 1     /* kept readings answer as the recording did */
+uint64_t mill_assured(const uint8_t *text, size_t text_len, const uint8_t *marks, size_t marks_len);
+
+
+/*
+** The version of the library that is linked, where MILL_VERSION is that of the header:
+** major * 65536 + minor * 256 + patch, so 65792 for 1.1.0. Never refused.
+*/
+uint64_t mill_version(void);
+
 #ifdef __cplusplus
 }
 #endif
@@ -802,5 +856,7 @@ static inline const char *mill_sentence(uint32_t number)
     };
     return number < sizeof sentences / sizeof sentences[0] ? sentences[number] : "a refusal that this version does not know";
 }
+
+#endif /* C99 */
 
 #endif /* MILL_H */

@@ -922,6 +922,33 @@ static void finds(void)
     EXPECT(listed && found[MILL_FOUND_BYTES] == 0x5A);
 }
 
+/* Whether a text is assured under the mark 40; a mark too many, a half mark and a late one are refused behind the text. */
+static void assured_texts(void)
+{
+    static const char *const assured[] = {"high(A)", "lowafter(A,40)", "F(P=3&A=v)", "G(!P=3|A>B)", "F(P=3&X(F(P=4&A=v)))", "F(A>=v)",
+                                          "F(T>40&A<=v)", "G(!(T>40)|A<=v)", "F(A>B)", "F(fall(A))", "F(G(A=v))", "A>=v&F(P=3)"};
+    static const char *const others[] = {"lowafter(A,41)", "F(A=v)", "F(T>41&A<=v)", "X(A>=v)", "F(A>=B)", "F(P=3&A=v)|A=v"};
+    uint8_t marks[(MILL_MAX_MARKS + 1) * MILL_MARK_BYTES];
+    size_t i;
+    for (i = 0; i <= MILL_MAX_MARKS; i++)
+        put32(marks + MILL_MARK_BYTES * i, 40);
+#define ASSURED(text, marks_len) mill_assured((const uint8_t *)(text), strlen(text), marks, marks_len)
+    for (i = 0; i < sizeof assured / sizeof assured[0]; i++)
+        EXPECT(ASSURED(assured[i], MILL_MARK_BYTES) == MILL_ASSURED);
+    for (i = 0; i < sizeof others / sizeof others[0]; i++)
+        EXPECT(ASSURED(others[i], MILL_MAX_MARKS * MILL_MARK_BYTES) == MILL_NOT_ASSURED);
+    EXPECT(ASSURED("lowafter(A,40)", 0) == MILL_NOT_ASSURED && ASSURED("F(T>40&A<=v)", 0) == MILL_NOT_ASSURED);
+    EXPECT(ASSURED("", 3) == (uint64_t)MILL_TEXT_LENGTH << 32);
+    EXPECT(ASSURED("F(lag)", 3) == (uint64_t)MILL_NO_READING << 32);
+    EXPECT(ASSURED("((((((((((((((((((A=v))))))))))))))))))", 3) == (uint64_t)MILL_TEXT_TOO_LARGE << 32);
+    EXPECT(ASSURED("lag", 3) == (uint64_t)MILL_BAD_MARKS << 32);
+    EXPECT(ASSURED("lag", sizeof marks) == (uint64_t)MILL_BAD_MARKS << 32);
+    put32(marks, MILL_MAX_MARK + 1u);
+    EXPECT(ASSURED("lag", MILL_MARK_BYTES) == (uint64_t)MILL_BAD_MARKS << 32 && ASSURED("lag", 0) == MILL_ASSURED);
+    EXPECT(mill_assured(NULL, 0, NULL, 0) == (uint64_t)MILL_TEXT_LENGTH << 32);
+#undef ASSURED
+}
+
 /* Each addition is kept, without the record before it, and what is kept answers as the whole. */
 static void thinning_of_r3(void)
 {
@@ -994,6 +1021,8 @@ int main(void)
     full_runs();
     entries();
     finds();
+    assured_texts();
+    EXPECT(mill_version() == 65792 && strcmp(MILL_VERSION, "1.1.0") == 0);
     thinning_of_r3();
     thinning_of_a_plateau();
     printf("boundary.c: %d failures\n", failures);

@@ -204,6 +204,14 @@ void summaries()
     EXPECT(MILL_NUMBER(mill_entry(r1, length, found, MILL_ENTRY_BYTES - 1)) == MILL_SHORT_OUTPUT);
 }
 
+void assured()
+{
+    const uint8_t mark[MILL_MARK_BYTES] = {40, 0, 0, 0};
+    EXPECT(mill_assured(reinterpret_cast<const uint8_t *>("F(T>40&A<=v)"), 12, mark, sizeof mark) == MILL_ASSURED);
+    EXPECT(mill_assured(reinterpret_cast<const uint8_t *>("F(T>40&A<=v)"), 12, nullptr, 0) == MILL_NOT_ASSURED);
+    EXPECT(MILL_NUMBER(mill_assured(reinterpret_cast<const uint8_t *>("lag"), 3, mark, 3)) == MILL_BAD_MARKS);
+}
+
 }  // namespace
 
 int main()
@@ -219,6 +227,7 @@ int main()
     thinning();
     growing_runs();
     summaries();
+    assured();
     std::printf("boundary.cpp: %d failures\n", failures);
     return failures == 0 ? 0 : 1;
 }

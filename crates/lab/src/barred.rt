@@ -5,7 +5,7 @@ ghost use lib.ListN.{length};
 ghost use Rattle.grammar.specs.Syntax.{Text};
 ghost use Rattle.parser.specs.inner.Rows.{Laid};
 ghost use Rattle.marks.specs.Marks.{marksOf};
-ghost use Rattle.lab.specs.inner.Barred.{isMarkIndex, namesBoth, hasCurve, rowNamesB, isTemporal, rowBarred, notForLaboratory};
+ghost use Rattle.lab.specs.inner.Barred.{namesBoth, hasCurve, rowNamesB, isTemporal, rowBarred, notForLaboratory};
 use grammar::Row;
 use grammar::kinds;
 use text::table::between;
@@ -52,16 +52,6 @@ fn names_b(kind: u32, first: u32) -> bool
     false
 }
 
-// Whether the number with this index on the axis is a mark.
-fn is_mark(marks: &[u8], index: u32) -> bool
-    ensures { λ r. ⌜ r ≡ isMarkIndex (marksOf (now (marks .entry))) index ⌝ }
-{
-    if index < number::ORIGIN {
-        return false;
-    }
-    marks::has(marks, index - number::ORIGIN)
-}
-
 // Whether a node of this kind is F, G, X, U or W.
 fn is_temporal(kind: u32) -> bool
     ensures { λ r. ⌜ r ≡ isTemporal kind ⌝ }
@@ -81,7 +71,7 @@ fn is_barred(row: Row, marks: &[u8]) -> bool
         return true;
     }
     if between(kind, kinds::LOWAFTER, kinds::CAPAFTER) {
-        return !is_mark(marks, row.number);
+        return !marks::has_index(marks, row.number);
     }
     is_temporal(kind)
 }

@@ -6,7 +6,7 @@ ghost use Rattle.promises.specs.Page as call;
 ghost use Rattle.promises.specs.Page.{Complete};
 ghost use Rattle.promises.specs.InTurn.{made, Carries};
 ghost use Rattle.promises.specs.Reports.{ReportLent};
-ghost use Rattle.promises.specs.LiveRuns as run;
+ghost use Rattle.promises.specs.LiveCalls as run;
 ghost use Rattle.promises.specs.LiveRuns.{LiveLent};
 ghost use Rattle.promises.specs.inner.Machines.{reportMachine, liveMachine};
 
@@ -247,6 +247,15 @@ pub extern "C" fn mill_find(entries: &[u8], curve: u32, level: i64, out: &mut [u
 {
     let written = listing::find(entries, curve, level, out);
     reply::written(written)
+}
+
+// THE ASSURED CALL. Returns 1 where kept readings answer the text as the recording did, under these marks, 0 where nothing is promised, or the refusal.
+#[no_mangle]
+pub extern "C" fn mill_assured(text: &[u8], marks: &[u8]) -> u64
+    ensures { λ r. ⌜ Complete (call.assured (now (marks .entry))) (now (text .entry)) [] r [] ⌝ }
+{
+    let verdict = assured::assured(text, marks);
+    assured::tell(verdict)
 }
 
 // THE VERSION of the library that is linked: major × 65536 + minor × 256 + patch.

@@ -4,26 +4,28 @@ use Prim.Native.Nat.{ℕ, _*_, _/_, _%_, _≤_, _<_}
 use mathlib.Core.Path.{_≡_}
 use mathlib.Core.Bool.{true, false}
 use mathlib.Core.Logic.{_⊎_}
-use mathlib.Core.List.{List, [], _∷_, _++_, List·Memᴰ}
+use mathlib.Core.List.{List, [], _∷_, _++_, map, List·Memᴰ}
 use lib.IntN.{ℤ, pos}
 use lib.ListN.{length}
 use lib.Signed.{_≤ℤ_}
 use Rattle.number.specs.Axis.{OfAxis}
 use Rattle.recording.specs.Condition.{pick}
-use Rattle.recording.specs.Reading.{Reading, top, curveOf}
+use Rattle.recording.specs.Reading.{Reading, Curve, B, top, curveOf}
 use Rattle.recording.specs.Recording.{Raw, records, readings, lawful, mostRecords, mostPigments}
 use Rattle.runs.specs.Runs.{mostRuns}
 use Rattle.tops.specs.Tops.{mostTops}
-use Rattle.grammar.specs.Syntax.{Text, Listed, listed}
+use Rattle.grammar.specs.Syntax.{Atom, Text, atom, Listed, listed, lowafter, capafter}
 use Rattle.grammar.specs.Grammar.{ReadsWhole}
 use Rattle.grammar.specs.Size.{temporal, nodes, openAt, mostBytes, mostNodes, mostOpen}
 use Rattle.meaning.specs.Meaning.{Holds}
 use Rattle.meaning.specs.Overfull.{Node, TooManyTops}
+use Rattle.meaning.specs.Alike.{markIndex}
+use Rattle.meaning.specs.Named as named
+use Rattle.meaning.specs.Named.{atomNames, listedNames}
 use Rattle.band.specs.Band.{widest, OfExtremes}
 use Rattle.marks.specs.Marks.{marksOf, mostMarks, latestMark}
 use Rattle.sheet.specs.Sheet.{mostLines}
 use Rattle.report.specs.Report.{mostBatches}
-use Rattle.lab.specs.Lab.{LaboratoryText}
 use Rattle.entry.specs.Entry.{entryBytes}
 use Rattle.listing.specs.Listing.{mostEntries, entryCount}
 use Rattle.listing.specs.Opened.{Exactly, SaidToReach}
@@ -115,7 +117,27 @@ TargetBad curve target = (1 < curve) ⊎ TargetOff target
 abbrev pub SheetBad : List ℕ → Type 0
 SheetBad sheet = ¬ (length sheet % 2 ≡ 0) ⊎ ((mostLines < length sheet / 2) ⊎ ((k : ℕ) × List·Memᴰ k sheet × ¬ ((1 ≤ k) × (k ≤ mostPigments))))
 
--- 14: what a laboratory asks is no laboratory text under these marks; or a pair of tops of B, whose number is 1
+-- an after-time: "the k of `lowafter` and `capafter`"
+pub data AfterTime : Listed → ℕ → Type 0 where
+  of-lowafter : {c : Curve} {k : ℕ} → AfterTime (lowafter c k) k
+  of-capafter : {c : Curve} {k : ℕ} → AfterTime (capafter c k) k
+
+-- those of the text are among the marks
+abbrev pub Marked : (marks : List ℕ) → Text → Type 0
+Marked marks t = (q : Listed) (k : ℕ) → Node (listed q) t → AfterTime q k → List·Memᴰ k (map markIndex marks)
+
+-- a node that names B, `cross`, `crossup` or `lag`
+pub data TellsOfB : Text → Type 0 where
+  b-atom : {a : Atom} → List·Memᴰ (named.curve B) (atomNames a) → TellsOfB (atom a)
+  b-question : {q : Listed} → List·Memᴰ (named.curve B) (listedNames q) → TellsOfB (listed q)
+
+-- a laboratory text: none of F, G, X, U and W, its after-times among the marks, and nothing of B
+pub record LaboratoryText (marks : List ℕ) (t : Text) : Type 0 where
+  pub plain : temporal t ≡ false
+  pub marked : Marked marks t
+  pub no-B : (n : Text) → Node n t → ¬ TellsOfB n
+
+-- 14: what a laboratory asks is no such text under these marks; or a pair of tops of B, whose number is 1
 abbrev pub NotLaboratory : (marks text : List ℕ) → Type 0
 NotLaboratory marks text = ReadWith text (λ t. ¬ LaboratoryText (marksOf marks) t)
 
@@ -156,10 +178,7 @@ n upon P = record { number = n; Met = λ place. (place ≡ 0) × P }
 -- 1 to 3 of a recording
 abbrev pub recordingTable : List ℕ → List TableLine
 recordingTable recording =
-    1 upon NotWholeRecords recording
-    ∷ 2 upon RecordsOver recording
-    ∷ record { number = 3; Met = FirstBroken (records recording) }
-    ∷ []
+    1 upon NotWholeRecords recording ∷ 2 upon RecordsOver recording ∷ record { number = 3; Met = FirstBroken (records recording) } ∷ []
 
 -- 5 to 7 of a text
 abbrev pub textTable : List ℕ → List TableLine

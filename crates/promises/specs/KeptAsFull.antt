@@ -4,21 +4,20 @@
 use Prim.Native.Nat.{ℕ, _*_, _≤_}
 use mathlib.Core.Path.{_≡_}
 use mathlib.Core.Logic.{_↔_}
-use mathlib.Core.List.{List, map, List·Memᴰ}
+use mathlib.Core.List.{List, List·Memᴰ}
 use lib.ListN.{length}
 use Rattle.refusal.specs.Outcome.{Outcome}
 use Rattle.recording.specs.Recording.{readings}
 use Rattle.grammar.specs.Bytes.{bytes}
 use Rattle.grammar.specs.Syntax.{Text}
 use Rattle.grammar.specs.Grammar.{ReadsWhole}
-use Rattle.grammar.specs.Size.{afterTimes}
-use Rattle.meaning.specs.Alike.{markIndex}
+use Rattle.assured.specs.Assured.{Assured}
 use Rattle.kept.specs.Kept.{mostKept}
 use Rattle.marks.specs.Marks.{marksOf}
 use Rattle.thin.specs.Thin.{keptBytes}
 use Rattle.thin.specs.Selection.{Selection}
-use Rattle.promises.specs.Conditions.{recordingTable, textTable, NoneMet}
-use Rattle.promises.specs.Page.{Call, question, degree, pair, thin, band, order, entry, find, labQuestion, labDegree, labPair, version, Effect, Right}
+use Rattle.promises.specs.Conditions.{recordingTable, textTable, ReadWith, Marked, LaboratoryText, NoneMet}
+use Rattle.promises.specs.Page.{Call, question, degree, pair, thin, band, order, entry, find, labQuestion, labDegree, labPair, assured, version, Effect, Right}
 
 -- "A recording is accepted if none of 1 to 3 meets it"
 abbrev pub AcceptedRecording : List ℕ → Type 0
@@ -27,11 +26,11 @@ AcceptedRecording g = NoneMet (recordingTable g)
 -- "every question whose text writes none of F, G, X, U and W, and whose after-times are among the marks"
 pub record AskedOfKept (marks text : List ℕ) : Type 0 where
   pub none-written : (b : ℕ) → List·Memᴰ b (bytes "FGXUW") → ¬ List·Memᴰ b text
-  pub marked : (t : Text) → ReadsWhole text t → (k : ℕ) → List·Memᴰ k (afterTimes t) → List·Memᴰ k (map markIndex (marksOf marks))
+  pub marked : (t : Text) → ReadsWhole text t → Marked (marksOf marks) t
 
--- a text that 5, 6 or 7 refuses is refused alike, whatever it writes
+-- a text that may be asked of kept readings: its reading is assured, which the assured call tells. One that 5, 6 or 7 refuses is refused alike
 abbrev pub Askable : (marks text : List ℕ) → Type 0
-Askable marks text = NoneMet (textTable text) → AskedOfKept marks text
+Askable marks text = NoneMet (textTable text) → (t : Text) → ReadsWhole text t → Assured (marksOf marks) t
 
 -- what may be asked of kept readings: of a text, where it is asked, that condition; thinning again and a laboratory's text, under the same marks
 abbrev pub OfKept : (marks : List ℕ) → Call → Type 0
@@ -46,6 +45,7 @@ OfKept marks (find curve level) = ⊥
 OfKept marks (labQuestion ks text) = ks ≡ marks
 OfKept marks (labDegree ks text target) = ks ≡ marks
 OfKept marks (labPair curve target) = Unit {0}
+OfKept marks (assured ks) = ⊥
 OfKept marks version = Unit {0}
 
 pub record KeptAsFull : Type 0 where
@@ -58,6 +58,9 @@ pub record KeptAsFull : Type 0 where
   -- and it is accepted; with room it "thins back to exactly the kept readings" (`in-place` of thinning)
   pub selection-accepted : (marks : List ℕ) {recording held : List ℕ} → AcceptedRecording recording → Selection (marksOf marks) recording held
       → AcceptedRecording held
+  -- the texts of demand 3, and those that a laboratory may ask, are assured
+  pub demand-3 : (marks text : List ℕ) → AskedOfKept marks text → Askable marks text
+  pub laboratory : (marks text : List ℕ) → ReadWith text (LaboratoryText (marksOf marks)) → Askable marks text
   -- the limit on kept readings (01, Papers 1, 3 and 5), of the bytes that thinning writes; "repeats are harmless", and so is the order of marks
   pub limit : (marks recording : List ℕ) → length (keptBytes (marksOf marks) recording) ≤ 16 * mostKept (marksOf marks) (readings recording)
   pub repeats : (marks marks′ recording : List ℕ) → ((k : ℕ) → List·Memᴰ k (marksOf marks) ↔ List·Memᴰ k (marksOf marks′))

@@ -7,6 +7,7 @@ pub mod Summary
 pub mod InTurn
 pub mod Thinning
 pub mod Reports
+pub mod LiveCalls
 pub mod LiveRuns
 pub mod Lines
 pub mod inner

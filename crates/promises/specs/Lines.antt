@@ -33,44 +33,27 @@ pub data MarkedLine : Type 0 where
 -- THE MARKED LINES OF R1, in the order of the document, and then those of the names of Paper 1
 abbrev pub markedLines : List MarkedLine
 markedLines =
-    asks (bytes "high(A)") ((Lo to pos 90) ∷ [])
-    ∷ asks (bytes "low(A)") ((pos 30 to Hi) ∷ [])
-    ∷ asks (bytes "ampl(A)") ((Lo to pos 60) ∷ [])
-    ∷ asks (bytes "peaks(A)") (just 30 ∷ just 70 ∷ [])
-    ∷ asks (bytes "gaps(A)") (just 40 ∷ [])
-    ∷ asks (bytes "cross") (just 40 ∷ just 70 ∷ [])
-    ∷ asks (bytes "lag") []
-    ∷ asks (bytes "lowafter(A,40)") ((pos 45 to Hi) ∷ [])
-    ∷ asks (bytes "lowafter(A,70)") []
+    asks (bytes "high(A)") ((Lo to pos 90) ∷ []) ∷ asks (bytes "low(A)") ((pos 30 to Hi) ∷ [])
+    ∷ asks (bytes "ampl(A)") ((Lo to pos 60) ∷ []) ∷ asks (bytes "peaks(A)") (just 30 ∷ just 70 ∷ [])
+    ∷ asks (bytes "gaps(A)") (just 40 ∷ []) ∷ asks (bytes "cross") (just 40 ∷ just 70 ∷ []) ∷ asks (bytes "lag") []
+    ∷ asks (bytes "lowafter(A,40)") ((pos 45 to Hi) ∷ []) ∷ asks (bytes "lowafter(A,70)") []
     ∷ asks (bytes "capafter(A,70)") ((Lo to Hi) ∷ [])
     ∷ asks (bytes "U(A>=40,A=v)") (just 30 ∷ just 40 ∷ just 60 ∷ just 70 ∷ just 80 ∷ [])
-    ∷ keeps [] (0 ∷ 10 ∷ 20 ∷ 30 ∷ 40 ∷ 50 ∷ 60 ∷ 70 ∷ [])
-    ∷ keeps (40 ∷ []) (0 ∷ 10 ∷ 20 ∷ 30 ∷ 40 ∷ 50 ∷ 60 ∷ 70 ∷ [])
-    ∷ asks (bytes "dips(A)") (just 50 ∷ [])
-    ∷ asks (bytes "crossup") (just 10 ∷ just 50 ∷ [])
-    ∷ []
+    ∷ keeps [] (0 ∷ 10 ∷ 20 ∷ 30 ∷ 40 ∷ 50 ∷ 60 ∷ 70 ∷ []) ∷ keeps (40 ∷ []) (0 ∷ 10 ∷ 20 ∷ 30 ∷ 40 ∷ 50 ∷ 60 ∷ 70 ∷ [])
+    ∷ asks (bytes "dips(A)") (just 50 ∷ []) ∷ asks (bytes "crossup") (just 10 ∷ just 50 ∷ []) ∷ []
 
 -- LINES OF R2, which keeps some of its readings, and more of them with a mark
 abbrev pub R2Lines : List MarkedLine
 R2Lines =
-    asks (bytes "peaks(A)") (just 40 ∷ [])
-    ∷ asks (bytes "dips(A)") []
-    ∷ keeps [] (0 ∷ 10 ∷ 30 ∷ 40 ∷ 60 ∷ 80 ∷ [])
-    ∷ keeps (40 ∷ []) (0 ∷ 10 ∷ 30 ∷ 40 ∷ 50 ∷ 60 ∷ 80 ∷ [])
-    ∷ keeps (10 ∷ []) (0 ∷ 10 ∷ 20 ∷ 30 ∷ 40 ∷ 60 ∷ 80 ∷ [])
-    ∷ []
+    asks (bytes "peaks(A)") (just 40 ∷ []) ∷ asks (bytes "dips(A)") [] ∷ keeps [] (0 ∷ 10 ∷ 30 ∷ 40 ∷ 60 ∷ 80 ∷ [])
+    ∷ keeps (40 ∷ []) (0 ∷ 10 ∷ 30 ∷ 40 ∷ 50 ∷ 60 ∷ 80 ∷ []) ∷ keeps (10 ∷ []) (0 ∷ 10 ∷ 20 ∷ 30 ∷ 40 ∷ 60 ∷ 80 ∷ []) ∷ []
 
 -- LINES OF R3, which has additions: of pigment 7 at T 20, which is kept for it alone, and of pigment 16 at T 40
 abbrev pub R3Lines : List MarkedLine
 R3Lines =
-    asks (bytes "dose(7)") (just 20 ∷ [])
-    ∷ asks (bytes "dose(16)") (just 40 ∷ [])
-    ∷ asks (bytes "dose(3)") []
-    ∷ asks (bytes "P=7") []
-    ∷ asks (bytes "X(X(P=7))") ((Lo to Hi) ∷ [])
-    ∷ asks (bytes "F(P=7&T=v)") (just 20 ∷ [])
-    ∷ keeps [] (0 ∷ 10 ∷ 20 ∷ 30 ∷ 40 ∷ 60 ∷ 80 ∷ [])
-    ∷ []
+    asks (bytes "dose(7)") (just 20 ∷ []) ∷ asks (bytes "dose(16)") (just 40 ∷ []) ∷ asks (bytes "dose(3)") []
+    ∷ asks (bytes "P=7") [] ∷ asks (bytes "X(X(P=7))") ((Lo to Hi) ∷ []) ∷ asks (bytes "F(P=7&T=v)") (just 20 ∷ [])
+    ∷ keeps [] (0 ∷ 10 ∷ 20 ∷ 30 ∷ 40 ∷ 60 ∷ 80 ∷ []) ∷ []
 
 -- the bytes of runs: low and high of each, as signed numbers of 32 bits
 abbrev pub bytesOfRuns : List Run → List ℕ

@@ -1,56 +1,20 @@
--- Document 02, Papers 11 and 12: A LIVE RUN, call by call, beside its history: "plain lists of readings, the run's and each set moment's" (live/specs/
--- History). That all of it holds of the live calls is `live-runs` (laws/LiveRuns).
-use Prim.Native.Nat.{ℕ, _*_, _≤_, _<_}
+-- Document 02, Papers 11 and 12: A LIVE RUN, call by call, beside its history: "plain lists of readings, the run's and each set moment's". That all of
+-- it holds of the live calls is `live-runs` (laws/LiveRuns).
+use Prim.Native.Nat.{ℕ, _*_, _≤_}
 use mathlib.Core.Path.{_≡_}
-use mathlib.Core.Bool.{false}
-use mathlib.Core.Logic.{_⊎_}
 use mathlib.Core.List.{List, [], _∷_, _++_, map, List·Memᴰ}
 use lib.ListN.{length}
 use Rattle.refusal.specs.Outcome.{Outcome, result, refused}
-use Rattle.recording.specs.Recording.{Raw, concat, lawful, mostRecords}
-use Rattle.marks.specs.Marks.{marksOf}
-use Rattle.entry.specs.Entry.{entryBytes}
-use Rattle.live_state.specs.Limits.{mostHeld, mostMoments}
+use Rattle.recording.specs.Recording.{Raw, concat}
+use Rattle.live_state.specs.Limits.{mostHeld}
 use Rattle.live_state.specs.State.{liveBytes}
-use Rattle.live.specs.History.{History, begun, unset, set, lastSet, keptOf, keptRun}
-use Rattle.promises.specs.Conditions.{TableLine, _upon_, MarksOff, NoneMet, FirstMet}
+use Rattle.live.specs.History.{History, begun, set, lastSet, keptRun}
+use Rattle.promises.specs.Conditions.{TableLine, MarksOff, NoneMet, FirstMet}
 use Rattle.promises.specs.Page as call
 use Rattle.promises.specs.Page.{Effect, effect, writing, IsAnswer}
 use Rattle.promises.specs.KeptAsFull.{AcceptedRecording}
+use Rattle.promises.specs.LiveCalls.{LiveCall, start, add, save, restore, read, entry, LiveStage, no-run, running, liveRefusals}
 use Rattle.promises.specs.InTurn.{Exchange, InTurn, ByHistory, Machine, Carries, HoldsNone, OfAnyBytes}
-
--- a run starts with its marks; a reading of any bytes arrives, a moment is set, the run goes back to one; the readings held, and the run's entry, are
--- read out
-pub data LiveCall : Type 0 where
-  start : (marks : List ℕ) → LiveCall
-  add : (reading : List ℕ) → LiveCall
-  save restore : (name : ℕ) → LiveCall
-  read entry : LiveCall
-
--- no run, before a start and after one that is refused; or a run, by its history
-pub data LiveStage : Type 0 where
-  no-run : LiveStage
-  running : History → LiveStage
-
-abbrev pub runIn : LiveStage → History
-runIn no-run = begun []
-runIn (running h) = h
-
-abbrev pub Name : ℕ → Type 0
-Name name = (1 ≤ name) × (name ≤ mostMoments)
-
--- THE REFUSALS of each call, in turn: "a run so refused answers 11 to every step"; the place of 3 is the reading's index in the run. 10 of a start is
--- ours: `size`, the bytes lent for the run, are fewer than it takes
-abbrev pub liveRefusals : (size : ℕ) → LiveStage → LiveCall → (room : ℕ) → List TableLine
-liveRefusals size s (start marks) room = 11 upon MarksOff marks ∷ 10 upon (size < liveBytes) ∷ []
-liveRefusals size s (add x) room =
-    11 upon (s ≡ no-run) ∷ 1 upon (¬ (length x ≡ 16)) ∷ 2 upon (mostRecords < length (runIn s .run ++ x ∷ []))
-    ∷ record { number = 3; Met = λ place. (place ≡ length (runIn s .run)) × (lawful (runIn s .run ++ x ∷ []) (length (runIn s .run)) ≡ false) }
-    ∷ 19 upon (mostHeld < length (keptOf (marksOf (runIn s .marks)) (runIn s .run ++ x ∷ []))) ∷ []
-liveRefusals size s (save name) room = 11 upon (s ≡ no-run) ∷ 18 upon (¬ Name name) ∷ []
-liveRefusals size s (restore name) room = 11 upon (s ≡ no-run) ∷ 18 upon ((¬ Name name) ⊎ (lastSet name (runIn s .moments) ≡ unset)) ∷ []
-liveRefusals size s read room = 11 upon (s ≡ no-run) ∷ 10 upon (room < length (keptRun (runIn s))) ∷ []
-liveRefusals size s entry room = 11 upon (s ≡ no-run) ∷ 4 upon (length (runIn s .run) ≡ 0) ∷ 10 upon (room < entryBytes) ∷ []
 
 pub data IsStart : LiveCall → Type 0 where
   a-start : {marks : List ℕ} → IsStart (start marks)

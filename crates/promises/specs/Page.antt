@@ -21,6 +21,7 @@ use Rattle.recording.specs.Recording.{readings}
 use Rattle.grammar.specs.Syntax.{Text, Listed, listed}
 use Rattle.grammar.specs.Grammar.{ReadsWhole}
 use Rattle.meaning.specs.Meaning.{Holds}
+use Rattle.assured.specs.Assured.{Assured}
 use Rattle.binary64.specs.Degree.{distanceOf, degreeOf}
 use Rattle.degree.specs.Nearest.{Member, Distance}
 use Rattle.pair.specs.Pair.{timeAt, Fits, Foremost}
@@ -34,9 +35,10 @@ use Rattle.listing.specs.Listing.{entryCount}
 use Rattle.listing.specs.Opened.{Exactly, SaidToReach}
 use Rattle.reply.specs.Reply.{numberIn, lowIn}
 use Rattle.promises.specs.MaximalRuns.{Interval, MaximalRuns, runsBytes}
-use Rattle.promises.specs.Conditions.{TableLine, _upon_, recordingTable, askingTable, WithoutRecord, TopsOver, RunsOver, SetLonger, MarksOff, TargetOff, TargetBad, TopsOfCurveOver, SheetBad, NotLaboratory, BandBad, NotOneExtreme, SummaryBad, FoundLonger, NoneMet, FirstMet}
+use Rattle.promises.specs.Conditions.{TableLine, _upon_, recordingTable, askingTable, textTable, WithoutRecord, TopsOver, RunsOver, SetLonger, MarksOff, TargetOff, TargetBad, TopsOfCurveOver, SheetBad, NotLaboratory, BandBad, NotOneExtreme, SummaryBad, FoundLonger, NoneMet, FirstMet}
 
--- ---- THE CALLS. Beside what stands here a call is handed some bytes first, `g`: a recording; `find` a summary; `version` nothing.
+-- ---- THE CALLS. Beside what stands here a call is handed some bytes first, `g`: a recording; `find` a summary, `assured` a text,
+-- `version` nothing.
 pub data Call : Type 0 where
   question : (text : List ℕ) → Call
   degree : (text : List ℕ) (target : ℤ) → Call
@@ -49,6 +51,7 @@ pub data Call : Type 0 where
   labQuestion : (marks text : List ℕ) → Call
   labDegree : (marks text : List ℕ) (target : ℤ) → Call
   labPair : (curve : ℕ) (target : ℤ) → Call
+  assured : (marks : List ℕ) → Call
   version : Call
 
 -- the memory that a call is lent to write to is a list too: the bytes of an output, however many; or what stands at its places, in the order of
@@ -65,6 +68,7 @@ Lent (find curve level) before = Unit {0}
 Lent (labQuestion marks text) before = Unit {0}
 Lent (labDegree marks text target) before = length before ≡ 2
 Lent (labPair curve target) before = length before ≡ 2
+Lent (assured marks) before = length before ≡ 0
 Lent version before = length before ≡ 0
 
 -- ---- WHAT A CALLER IS TOLD
@@ -120,6 +124,7 @@ refusals (labDegree marks text target) g room =
     ∷ 12 upon TargetOff target ∷ 9 upon TopsOver g text ∷ 8 upon RunsOver g text ∷ []
 refusals (labPair curve target) g room =
     recordingTable g ++ 4 upon WithoutRecord g ∷ 12 upon TargetBad curve target ∷ 14 upon (curve ≡ 1) ∷ 9 upon TopsOfCurveOver g curve ∷ []
+refusals (assured marks) g room = textTable g ++ 11 upon MarksOff marks ∷ []
 refusals version g room = []
 
 -- ---- THE ANSWERS of each call, a line for each kind
@@ -172,6 +177,9 @@ pub data IsAnswer (g : List ℕ) : Call → Effect → Type 0 where
   lab-question : {marks text : List ℕ} {x : Effect} → IsAnswer g (question text) x → IsAnswer g (labQuestion marks text) x
   lab-degree : {marks text : List ℕ} {target : ℤ} {x : Effect} → IsAnswer g (degree text target) x → IsAnswer g (labDegree marks text target) x
   lab-pair : {curve : ℕ} {target : ℤ} {x : Effect} → IsAnswer g (pair curve target) x → IsAnswer g (labPair curve target) x
+  -- ASSURED: 1, kept readings answer this text as the recording did, under these marks (KeptAsFull); 0 promises nothing
+  is-assured : {marks : List ℕ} {t : Text} → ReadsWhole g t → Assured (marksOf marks) t → IsAnswer g (assured marks) (effect 1 [])
+  not-assured : {marks : List ℕ} {t : Text} → ReadsWhole g t → ¬ Assured (marksOf marks) t → IsAnswer g (assured marks) (effect 0 [])
   -- VERSION: 1.1.0
   the-version : IsAnswer g version (effect (1 * 65536 + 1 * 256 + 0) [])
 

@@ -2,11 +2,14 @@ pub mod InHalf
 pub mod MaximalRuns
 pub mod Conditions
 pub mod Found
+pub mod Nodes
 pub mod Rows
 pub mod Observation
 pub mod Operator
 pub mod StandIn
 pub mod Selected
+pub mod Joined
+pub mod Assured
 pub mod Computed
 pub mod Page
 pub mod Acceptance

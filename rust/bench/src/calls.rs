@@ -1,6 +1,6 @@
-//! The other calls: degree, pair, the laboratory's three, band, order, a batch of a report and a reading of a growing run.
+//! The other calls: degree, pair, the laboratory's three, band, order, whether a text is assured, a batch of a report and a reading of a growing run.
 
-use crate::measure::{answering, best_of, refused, row, wanted, writing};
+use crate::measure::{answering, best, best_of, refused, row, wanted, writing};
 use crate::recordings::{bytes, evenly, with_plateaus, with_tops, RECORDS};
 use mill::{sys, Curve, Degree};
 use std::hint::black_box;
@@ -11,6 +11,7 @@ pub fn rows() {
     laboratory();
     bands();
     orders();
+    assured();
     batches();
     for (name, length, kept) in RUNS {
         live_step(name, length, kept);
@@ -20,6 +21,7 @@ pub fn rows() {
 /// Against another call of the library: a batch against its degree call, a reading of a long run against one of a short run.
 pub fn among_themselves() {
     batches_against_degrees();
+    assured_against_reading();
     for (name, length, kept) in RUNS {
         let (_, short, _) = RUNS.into_iter().find(|run| run.2 == kept).expect("the first of its kind");
         let name = format!("{name}, against one of {short}");
@@ -144,6 +146,40 @@ fn orders() {
             || mill::order(&recording, &sheet).map(finding),
             || plain::order(&recording, sheet.as_flattened()),
         );
+    }
+}
+
+/// Texts that are judged: a listed question, one on additions, and 32 nodes.
+fn judged() -> [(&'static str, String); 3] {
+    let nodes = "F(P=3&A=v)|".repeat(5) + "!F(A>B)|!F(P=3)";
+    [("`lowafter(A,2000)`", "lowafter(A,2000)".into()), ("`F(P=3&A=v)`", "F(P=3&A=v)".into()), ("a text of 32 nodes", nodes)]
+}
+
+fn assured() {
+    let marks = 2_000u32.to_le_bytes();
+    for (name, text) in judged() {
+        answering(
+            &format!("assured, {name}"),
+            None,
+            || mill::assured(text.as_bytes(), &[2_000]),
+            || plain::assured(text.as_bytes(), &marks),
+        );
+    }
+}
+
+/// Against naming a report, which reads the text and does little else.
+fn assured_against_reading() {
+    for (name, text) in judged() {
+        let name = format!("assured, {name}, against naming a report with it");
+        if wanted(&name) {
+            let (marks, mut report) = (2_000u32.to_le_bytes(), [0; sys::MILL_REPORT_BYTES]);
+            let (text_at, length) = (text.as_ptr(), text.len());
+            // SAFETY: each pointer lies before as many bytes as its length says.
+            let judging = || unsafe { sys::mill_assured(black_box(text_at), length, marks.as_ptr(), marks.len()) };
+            let reading =
+                || unsafe { sys::mill_report_start(1, black_box(text_at), length, 7, report.as_mut_ptr(), report.len()) };
+            row(&name, best(judging, reading), None);
+        }
     }
 }
 

@@ -315,6 +315,28 @@ pub fn lab_pair(recording: &[u8], curve: Curve, target: i64) -> Result<Option<Pa
     two_times(returned, earlier, later)
 }
 
+/// Whether kept readings answer the text as their recording did, under the marks of the thinning. `false` promises nothing: the
+/// text may be asked, and is answered of the kept readings alone.
+///
+/// ```
+/// use mill::{assured, question, thin};
+/// // What did the batch read when pigment 3 went in? Every addition is kept.
+/// assert_eq!(assured(b"F(P=3&A=v)", &[]), Ok(true));
+/// let recording = std::fs::read("../../crates/ask/data/run.rec")?;
+/// assert_eq!(question(&thin(&recording, &[])?, b"F(P=3&A=v)"), question(&recording, b"F(P=3&A=v)"));
+/// // All that it ever read: readings between may be gone.
+/// assert_eq!(assured(b"F(A=v)", &[]), Ok(false));
+/// // An after-time must be a mark.
+/// assert_eq!((assured(b"capafter(A,36000)", &[36000]), assured(b"capafter(A,36000)", &[10000])), (Ok(true), Ok(false)));
+/// # Ok::<(), Box<dyn std::error::Error>>(())
+/// ```
+pub fn assured(text: &[u8], marks: &[u32]) -> Result<bool, Refusal> {
+    let marks = mark_bytes(marks);
+    // SAFETY: each pointer is a live slice's with its own length.
+    let returned = unsafe { sys::mill_assured(text.as_ptr(), text.len(), marks.as_ptr(), marks.len()) };
+    Refusal::or_result(returned).map(|told| u64::from(told) == sys::MILL_ASSURED)
+}
+
 pub(crate) fn number_of(curve: Curve) -> u32 {
     match curve {
         Curve::A => sys::MILL_CURVE_A,

@@ -31,6 +31,7 @@
 //! | ask a recording | [`question`], [`degree`], [`pair`], [`band`], [`order`] |
 //! | answer a buyer's laboratory | [`lab_question`], [`lab_degree`], [`lab_pair`] |
 //! | keep the few readings that answer later | [`thin`]; piece by piece [`Thinning`]; reading by reading [`Live`] |
+//! | know whether kept readings answer a text as the recording did | [`assured`] |
 //! | put one question to a year of batches | [`Report`] |
 //! | find old recordings by a summary | [`entry`], [`find`], [`Entry`] |
 //!
@@ -48,10 +49,11 @@ mod summary;
 #[allow(missing_docs)] // `include/mill.h` says what each is.
 pub mod sys;
 mod thinning;
+mod version;
 
 pub use calls::{
-    band, degree, lab_degree, lab_pair, lab_question, lab_question_into, order, pair, question, question_into, thin, thin_into,
-    Band, Curve, Degree, Order, Pair,
+    assured, band, degree, lab_degree, lab_pair, lab_question, lab_question_into, order, pair, question, question_into, thin,
+    thin_into, Band, Curve, Degree, Order, Pair,
 };
 pub use live::Live;
 pub use reading::{decode, encode, Reading, Slope};
@@ -60,6 +62,7 @@ pub use report::{Added, Figures, Report};
 pub use set::{Run, Set};
 pub use summary::{entry, entry_into, find, find_into, Entry};
 pub use thinning::Thinning;
+pub use version::version;
 
 /// The version of the library, that of `MILL_VERSION` in `include/mill.h`.
 ///

@@ -73,6 +73,7 @@ pub const MILL_STACK_LIVE_KEPT: usize = 4_096;
 pub const MILL_STACK_ENTRY: usize = 4_096;
 pub const MILL_STACK_FIND: usize = 4_096;
 pub const MILL_STACK_LIVE_ENTRY: usize = 4_096;
+pub const MILL_STACK_ASSURED: usize = 131_072;
 
 pub const MILL_FALLING: u8 = 0;
 pub const MILL_FLAT: u8 = 1;
@@ -97,6 +98,9 @@ pub const MILL_SHEET_BROKEN: u64 = 1;
 pub const MILL_TAKEN: u64 = 0;
 pub const MILL_REPORT: u64 = 1;
 pub const MILL_REPORT_NO_MEAN: u64 = 2;
+
+pub const MILL_NOT_ASSURED: u64 = 0;
+pub const MILL_ASSURED: u64 = 1;
 
 pub const MILL_PARTIAL_RECORD: u32 = 1;
 pub const MILL_TOO_MANY_RECORDS: u32 = 2;
@@ -285,4 +289,9 @@ extern "C" {
     pub fn mill_find(entries: *const u8, entries_len: usize, curve: u32, level: i64, out: *mut u8, out_len: usize) -> u64;
 
     pub fn mill_live_entry(live: *const u8, live_len: usize, out: *mut u8, out_len: usize) -> u64;
+
+    pub fn mill_assured(text: *const u8, text_len: usize, marks: *const u8, marks_len: usize) -> u64;
+
+    /// The version of the library that is linked: major × 65536 + minor × 256 + patch.
+    pub fn mill_version() -> u64;
 }

@@ -130,7 +130,7 @@ fn judge_set(set: &Set) {
 #[test]
 fn calls_on_a_recording() {
     let mut random = Random(0x5eed_0001);
-    let mut answered = [0; 9];
+    let mut answered = [0; 10];
     for _ in 0..20_000 {
         let (recording, text) = (random.bytes_of_any_kind(), random.text());
         let (target, marks) = (random.number(), random.marks());
@@ -163,6 +163,11 @@ fn calls_on_a_recording() {
         seen(6, told.is_some());
         seen(7, judge(mill::lab_degree(&recording, &marks, &text, target)).is_some());
         seen(8, judge(mill::lab_pair(&recording, curve, target)).is_some());
+        let assured = judge(mill::assured(&text, &marks));
+        if let (Some(true), Some(kept)) = (assured, &kept) {
+            assert_eq!(mill::question(kept, &text), mill::question(&recording, &text));
+        }
+        seen(9, assured.is_some());
     }
     assert!(answered.iter().all(|count| *count > 100), "each call has results: {answered:?}");
 }

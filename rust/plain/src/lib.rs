@@ -2,6 +2,7 @@
 //! that looks ahead checks them first and then goes from the last record to the first, with the sets of each node there and at the record
 //! behind it. The tests hold it to the package `reference`.
 
+mod assured;
 mod listed;
 mod live;
 mod recording;
@@ -17,6 +18,7 @@ use recording::{check, marks, records, scan, some, tops, MOST_PIGMENT};
 use set::{Set, HIGH, LOW};
 use text::{is_listed, is_temporal, nodes, Op, Right};
 
+pub use assured::assured;
 pub use live::Live;
 pub use report::{Added, Figures, Report};
 pub use summary::{entry, find};

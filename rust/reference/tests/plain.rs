@@ -55,6 +55,12 @@ fn plain_rust_answers_alike() {
         let plain = plain::lab_degree(&recording, &marks, &text, target);
         assert_eq!(plain, reference::lab_degree(&recording, &marks, &text, target).map(nearness).map_err(pair));
         assert_eq!(plain::lab_pair(&recording, curve, gap), reference::lab_pair(&recording, curve, gap).map_err(pair));
+        for kind in [texts::Kind::Temporal, texts::Kind::Temporal, texts::Kind::Listed] {
+            let size = 1 + random.below(6);
+            let text = texts::made(random, kind, size, &records).into_bytes();
+            assert_eq!(plain::assured(&text, &marks), reference::assured(&text, &marks).map_err(pair), "{}", text.escape_ascii());
+        }
+        assert_eq!(plain::assured(&text, &marks), reference::assured(&text, &marks).map_err(pair));
     });
 }
 

@@ -5,9 +5,9 @@ use crate::support::r1::r1_bytes;
 use crate::support::r2::r2_bytes;
 use crate::support::recordings::flat;
 use mill::sys::{
-    mill_band, mill_degree, mill_entry, mill_find, mill_lab_degree, mill_lab_pair, mill_lab_question, mill_live_add,
-    mill_live_entry, mill_live_kept, mill_live_restore, mill_live_save, mill_live_start, mill_order, mill_pair, mill_question,
-    mill_report_add, mill_report_start, mill_thin, MILL_LIVE_BYTES, MILL_REPORT_BYTES,
+    mill_assured, mill_band, mill_degree, mill_entry, mill_find, mill_lab_degree, mill_lab_pair, mill_lab_question,
+    mill_live_add, mill_live_entry, mill_live_kept, mill_live_restore, mill_live_save, mill_live_start, mill_order, mill_pair,
+    mill_question, mill_report_add, mill_report_start, mill_thin, MILL_LIVE_BYTES, MILL_REPORT_BYTES,
 };
 use reference::recording::bytes;
 use std::ptr::{null, null_mut};
@@ -120,6 +120,29 @@ fn null_with_length_0_in_summaries() {
     // A recording lies in whole records, and two of them are an entry: its slopes are the least A, and its second time the greatest B.
     let found = mill::find_into(&r1, mill::Curve::B, 70, &mut out);
     assert_eq!((found, &out[..4]), (Ok(4), &[3, 0, 0, 0][..]));
+}
+
+#[test]
+fn the_version_is_that_of_the_header() {
+    let numbers: Vec<u32> = mill::VERSION.split('.').map(|part| part.parse().unwrap()).collect();
+    assert_eq!(mill::version(), (numbers[0], numbers[1], numbers[2]));
+}
+
+#[test]
+fn null_with_length_0_in_what_is_assured() {
+    let text = b"high(A)";
+    // SAFETY: each pointer lies before as many bytes as its length says; null goes with 0.
+    unsafe {
+        assert_eq!(mill_assured(null(), 0, null(), 0), refusal(5));
+        assert_eq!(mill_assured(null(), 0, [0u8; 3].as_ptr(), 3), refusal(5));
+        assert_eq!(mill_assured(text.as_ptr(), 7, null(), 0), 1);
+        assert_eq!(mill_assured(text.as_ptr(), 7, text.as_ptr(), 7), refusal(11));
+        // The four bytes of `A>=v` as a mark: 1,983,725,121.
+        assert_eq!(mill_assured(b"A>=v".as_ptr(), 4, b"A>=v".as_ptr(), 4), 1);
+        let after = b"lowafter(A,1983725121)";
+        assert_eq!(mill_assured(after.as_ptr(), after.len(), b"A>=u".as_ptr(), 4), 0);
+        assert_eq!(mill_assured(after.as_ptr(), after.len(), b"A>=v".as_ptr(), 4), 1);
+    }
 }
 
 #[test]
@@ -273,6 +296,10 @@ fn lengths_past_32_bits_in_questions() {
                 mill_lab_degree(r1.as_ptr(), 128, at, length, text.as_ptr(), 7, 0, &mut distance, &mut degree),
                 refusal(11)
             );
+        }
+        for length in [WRAPPED, WRAPPED + 7, WRAPPED + 256] {
+            assert_eq!(mill_assured(at, length, null(), 0), refusal(5));
+            assert_eq!(mill_assured(text.as_ptr(), 7, at, length), refusal(11));
         }
         assert_eq!((distance, degree, out), (77.0, 7.5, [9; 64]));
         let (mut met, mut empty, mut distances, mut mean) = (77, 78, 79, 7.5);

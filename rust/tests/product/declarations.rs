@@ -72,7 +72,7 @@ fn words(text: &str) -> String {
 
 /// `name(parameters)`, each parameter told by `one`.
 fn call(name: &str, parameters: &str, returned: &str, one: impl Fn(&str) -> (String, String)) -> Call {
-    let each = parameters.split(',').map(words).filter(|parameter| !parameter.is_empty());
+    let each = parameters.split(',').map(words).filter(|parameter| !matches!(parameter.as_str(), "" | "void"));
     Call { name: words(name), parameters: each.map(|parameter| one(&parameter)).collect(), returned: words(returned) }
 }
 
@@ -207,7 +207,7 @@ fn the_declarations_are_the_same() {
     assert_eq!(calls[6..9], of_laboratory);
     assert_eq!(calls[9..11], ["mill_report_start", "mill_report_add"]);
     assert_eq!(calls[11..16], ["mill_live_start", "mill_live_add", "mill_live_save", "mill_live_restore", "mill_live_kept"]);
-    assert_eq!(calls[16..], ["mill_entry", "mill_find", "mill_live_entry"]);
+    assert_eq!(calls[16..], ["mill_entry", "mill_find", "mill_live_entry", "mill_assured"]);
 }
 
 /// The libraries that open a layer to the tests are declared in Rust alone.

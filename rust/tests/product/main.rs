@@ -3,6 +3,7 @@
 #[path = "../support/mod.rs"]
 mod support;
 
+mod assured;
 mod band;
 mod boundary;
 mod calls;

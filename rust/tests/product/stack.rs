@@ -6,9 +6,9 @@ use crate::support::recordings::{flat, put_top, with_tops};
 use crate::support::small_stack::on_stack_of;
 use crate::support::{header, painted};
 use mill::sys::{
-    mill_band, mill_degree, mill_entry, mill_find, mill_lab_degree, mill_lab_pair, mill_lab_question, mill_live_add,
-    mill_live_entry, mill_live_kept, mill_live_restore, mill_live_save, mill_live_start, mill_order, mill_pair, mill_question,
-    mill_report_add, mill_report_start, mill_thin, MILL_MAX_ENTRIES, MILL_REPORT_BYTES,
+    mill_assured, mill_band, mill_degree, mill_entry, mill_find, mill_lab_degree, mill_lab_pair, mill_lab_question,
+    mill_live_add, mill_live_entry, mill_live_kept, mill_live_restore, mill_live_save, mill_live_start, mill_order, mill_pair,
+    mill_question, mill_report_add, mill_report_start, mill_thin, mill_version, MILL_MAX_ENTRIES, MILL_REPORT_BYTES,
 };
 use reference::recording::bytes;
 use std::collections::BTreeMap;
@@ -122,6 +122,8 @@ enum Job {
     /// Of entries.
     Find(Vec<u8>),
     LiveEntry(Vec<u8>),
+    Assured(String),
+    Version,
 }
 
 impl Job {
@@ -147,18 +149,21 @@ impl Job {
             Job::Entry(_) => ("mill_entry", header::stack("ENTRY")),
             Job::Find(_) => ("mill_find", header::stack("FIND")),
             Job::LiveEntry(_) => ("mill_live_entry", header::stack("LIVE_ENTRY")),
+            Job::Assured(_) => ("mill_assured", header::stack("ASSURED")),
+            Job::Version => ("mill_version", header::stack("VERSION")),
         }
     }
 }
 
 fn jobs() -> Vec<Job> {
-    let mut jobs = Vec::new();
+    let mut jobs = vec![Job::Version];
     for recording in recordings() {
         for text in texts() {
             jobs.push(Job::Question(recording.clone(), text.clone()));
             jobs.push(Job::Degree(recording.clone(), text.clone()));
             jobs.push(Job::Band(recording.clone(), text.clone()));
             jobs.push(Job::ReportStart(text.clone()));
+            jobs.push(Job::Assured(text.clone()));
             let report = mill::Report::start(2, text.as_bytes(), 7)
                 .map_or(vec![0; MILL_REPORT_BYTES], |report| report.as_bytes().to_vec());
             jobs.push(Job::ReportAdd(report, recording.clone()));
@@ -253,6 +258,8 @@ fn run(job: &Job, out: &mut [u8]) -> u64 {
             Job::LiveKept(live) => mill_live_kept(live.as_ptr(), live.len(), out.as_mut_ptr(), out.len()),
             Job::Entry(recording) => mill_entry(recording.as_ptr(), recording.len(), out.as_mut_ptr(), out.len()),
             Job::LiveEntry(live) => mill_live_entry(live.as_ptr(), live.len(), out.as_mut_ptr(), out.len()),
+            Job::Version => mill_version(),
+            Job::Assured(text) => mill_assured(text.as_ptr(), text.len(), MARKS.as_ptr(), MARKS.len()),
             Job::Find(entries) => mill_find(entries.as_ptr(), entries.len(), 1, 0, out.as_mut_ptr(), out.len()),
             Job::ReportStart(text) => mill_report_start(3, text.as_ptr(), text.len(), 7, out.as_mut_ptr(), out.len()),
             Job::ReportEnd(report) => {
@@ -338,6 +345,7 @@ fn a_stack_that_is_too_small_is_seen() {
         (Job::LabDegree(recording.clone(), "(".repeat(256)), 65_536),
         (Job::LabPair(recording.clone(), 16), 512),
         (Job::ReportStart("(".repeat(256)), 65_536),
+        (Job::Assured("(".repeat(256)), 65_536),
         (Job::ReportAdd(mill::Report::start(2, lag.as_bytes(), 7).unwrap().as_bytes().to_vec(), recording), 65_536),
         (Job::LiveStart, 32),
         (Job::LiveAdd(live.clone(), flat(1)[0].bytes().to_vec()), 32),

@@ -10,13 +10,9 @@ use Rattle.grammar.specs.Classes.{within}
 use Rattle.grammar.specs.Size.{afterTime}
 use Rattle.grammar.specs.Syntax.{Text, atom, listed, or, and, neg, finally, globally, next, until, weakUntil}
 use Rattle.grammar.specs.inner.Kinds.{COMPARE, A-TO-B, FALL, RISE, HIGH, LOWAFTER, CAPAFTER, DIPS, CROSS, CROSSUP, AMPL, STEPS, LAG, NEXT, GLOBALLY, UNTIL, WEAK-UNTIL}
-use Rattle.meaning.specs.Alike.{markIndex}
+use Rattle.marks.specs.Marks.{isMarkIndex}
 use Rattle.meaning.specs.Named.{Channel, curve, additions, atomNames, listedNames}
 use Rattle.meaning.specs.inner.Truth.{someNode}
-
--- the number with the index k is one of the marks
-abbrev pub isMarkIndex : List ℕ → ℕ → Bool
-isMarkIndex marks k = someOf (λ m. eqb k (markIndex m)) marks
 
 -- the channel is B
 abbrev pub isB : Channel → Bool

@@ -1,23 +1,21 @@
 -- The rows of the node table say which nodes are barred, and so whether 14 meets the text.
-use Prim.Native.Nat.{ℕ, zero, suc, _-_, _≤_, _<_}
+use Prim.Native.Nat.{ℕ, zero, suc}
 use native.Mathlib.Omega.{arith}
 use mathlib.Core.Path.{_≡_, refl, sym, ap, _∙_}
 use mathlib.Core.Bool.{Bool, true, false, cond, not, _||_, or-false, or-true}
-use mathlib.Core.List.{List, [], _∷_}
+use mathlib.Core.List.{List}
 use lib.Dec.{eqb, ltb}
-use borrow.Author.Tests.{ne-eqb, eqb-true, eq-eqb, lt-ltb}
-use Rattle.number.specs.Axis.{origin}
-use Rattle.number.specs.laws.Boolean.{same, or-left}
-use Rattle.recording.specs.Condition.{someOf}
+use borrow.Author.Tests.{ne-eqb, lt-ltb}
+use Rattle.number.specs.laws.Boolean.{or-left}
 use Rattle.grammar.specs.Syntax.{Text}
 use Rattle.grammar.specs.Size.{nodes}
 use Rattle.grammar.specs.inner.Table.{row, someRow, unaryFrom}
 use Rattle.grammar.specs.inner.Parse.{rowText, node}
 use Rattle.parser.specs.inner.Rows.{Laid}
 use Rattle.text.specs.laws.Table.{Each, each, unary-kinds, binary-kinds, ByRow, held-nodes, held-some}
-use Rattle.meaning.specs.Alike.{markIndex}
+use Rattle.marks.specs.Marks.{isMarkIndex}
 use Rattle.meaning.specs.inner.Truth.{someNode}
-use Rattle.lab.specs.inner.Barred.{isMarkIndex, barred, notForLaboratory, rowNamesB, rowBarred}
+use Rattle.lab.specs.inner.Barred.{barred, notForLaboratory, rowNamesB, rowBarred}
 
 -- ---- tests one after the other
 
@@ -32,22 +30,6 @@ chosen e x z h g = g ∙ sym (ap (λ (b : Bool). cond b x z) h)
 
 pub other : (e x z : Bool) {y : Bool} → e ≡ false → y ≡ z → y ≡ cond e x z
 other e x z h g = g ∙ sym (ap (λ (b : Bool). cond b x z) h)
-
--- ---- marks by their indices
-
-mark-test : (k m : ℕ) → origin ≤ k → eqb (k - origin) m ≡ eqb k (markIndex m)
-mark-test k m h = same _ _
-    (λ e. eq-eqb k (markIndex m) (omega (arith, eqb-true (k - origin) m e)))
-    (λ e. eq-eqb (k - origin) m (omega (arith, eqb-true k (markIndex m) e)))
-
-pub mark-there : (marks : List ℕ) (k : ℕ) → origin ≤ k → someOf (eqb (k - origin)) marks ≡ isMarkIndex marks k
-mark-there [] k h = refl
-mark-there (m ∷ marks) k h = λ i. mark-test k m h i || mark-there marks k h i
-
--- a number below 0 is no mark
-pub mark-below : (marks : List ℕ) (k : ℕ) → k < origin → isMarkIndex marks k ≡ false
-mark-below [] k h = refl
-mark-below (m ∷ marks) k h = λ i. ne-eqb k (markIndex m) (λ e. omega arith) i || mark-below marks k h i
 
 -- ---- leaves
 

@@ -4,8 +4,7 @@ use mathlib.Core.Path.{_≡_, refl, sym, ap, subst, _∙_}
 use mathlib.Core.Bool.{Bool, true, false, not, _||_, So, false≢true, true≢false}
 use mathlib.Core.Logic.{⊎-elim, _↔_}
 use mathlib.Core.List.{List, [], _∷_, _++_, map, List·Memᴰ, List·Memᴰ·head, List·Memᴰ·tail, List·Memᴰ·not-nil, List·Memᴰ·cases-cons, List·Memᴰ·append-cases}
-use lib.Dec.{eqb}
-use borrow.Author.Tests.{eqb-true, eq-eqb, not-true}
+use borrow.Author.Tests.{not-true}
 use Rattle.number.specs.laws.Boolean.{by-test, clash, or-left, or-right, or-cases, none-left, none-right}
 use Rattle.recording.specs.Condition.{someOf}
 use Rattle.recording.specs.Reading.{A, B}
@@ -17,8 +16,10 @@ use Rattle.meaning.specs.Named.{Channel, curve, additions, nodeNames}
 use Rattle.meaning.specs.inner.Truth.{someNode}
 use Rattle.meaning.specs.laws.Alike.{plain-node}
 use Rattle.meaning.specs.laws.Overfull.{some-node}
+use Rattle.marks.specs.Marks.{isMarkIndex}
+use Rattle.marks.specs.laws.Marks.{marked-is, is-marked}
 use Rattle.lab.specs.Lab.{LaboratoryText}
-use Rattle.lab.specs.inner.Barred.{isMarkIndex, isB, barred, notForLaboratory}
+use Rattle.lab.specs.inner.Barred.{isB, barred, notForLaboratory}
 
 -- ---- lists
 
@@ -29,19 +30,6 @@ some-member P (y ∷ l) x m e = ⊎-elim (λ q. or-left (P y) (someOf P l) (ap P
 member-some : {X : Type 0} (P : X → Bool) (l : List X) → someOf P l ≡ true → (x : X) × List·Memᴰ x l × (P x ≡ true)
 member-some P [] e = absurd (false≢true e)
 member-some P (y ∷ l) e = or-cases (P y) (someOf P l) e (λ q. (y, List·Memᴰ·head refl, q)) (λ q. let r = member-some P l q in (r .0, List·Memᴰ·tail (r .1), r .2))
-
--- ---- among the marks
-
-marked-is : (marks : List ℕ) (k : ℕ) → List·Memᴰ k (map markIndex marks) → isMarkIndex marks k ≡ true
-marked-is [] k m = absurd (List·Memᴰ·not-nil m)
-marked-is (m ∷ marks) k h =
-    ⊎-elim (λ e. or-left (eqb k (markIndex m)) (isMarkIndex marks k) (eq-eqb k (markIndex m) e)) (λ t. or-right (eqb k (markIndex m)) (isMarkIndex marks k) (marked-is marks k t))
-    (List·Memᴰ·cases-cons h)
-
-is-marked : (marks : List ℕ) (k : ℕ) → isMarkIndex marks k ≡ true → List·Memᴰ k (map markIndex marks)
-is-marked [] k e = absurd (false≢true e)
-is-marked (m ∷ marks) k e =
-    or-cases (eqb k (markIndex m)) (isMarkIndex marks k) e (λ q. List·Memᴰ·head (eqb-true k (markIndex m) q)) (λ q. List·Memᴰ·tail (is-marked marks k q))
 
 -- ---- the channel that is B
 

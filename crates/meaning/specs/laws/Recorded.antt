@@ -1,4 +1,4 @@
--- The readings of an accepted recording are in range, in time and increasing: no record is the first out of its rules, so each keeps to them.
+-- Readings whose records keep to their rules, however many they are, are in range, in time and increasing; so are those of an accepted recording, of which no record is the first out of its rules.
 use Prim.Native.Nat.{ℕ, suc, _≤_, _<_}
 use native.Mathlib.Omega.{arith}
 use mathlib.Core.Path.{_≡_, sym, subst}
@@ -15,13 +15,9 @@ use Rattle.meaning.specs.Listed.{recordAt}
 use Rattle.meaning.specs.inner.Recorded.{InRange, InTime, Increasing, Recorded}
 use Rattle.number.specs.laws.Boolean.{and-left, and-right}
 
-module _ (bytes : List ℕ) (accepted : Accepted bytes) where
+module _ (bytes : List ℕ) (all-lawful : (i : ℕ) → i < length (records bytes) → So (lawful (records bytes) i)) where
   abbrev xs : List Raw
   xs = records bytes
-
-  all-lawful : (i : ℕ) → i < length xs → So (lawful xs i)
-  unfolding firstBad
-  all-lawful i l = let few : length xs ≤ firstBad xs = ltb-false (firstBad xs) (length xs) (accepted .1 .1 .0) in not-false (lawful xs i) (least-first (λ i. not (lawful xs i)) (length xs) i (omega arith))
 
   in-fields : (i : ℕ) → i < length xs → So (fields (getD xs i []))
   unfolding lawful
@@ -57,5 +53,14 @@ module _ (bytes : List ℕ) (accepted : Accepted bytes) where
       subst (λ (x : Reading). x .time < recordAt (readings bytes) (suc i) .time) (sym (at-reading i))
       (subst (λ (x : Reading). word (getD xs i []) 0 < x .time) (sym (at-reading (suc i))) h)
 
-  pub accepted-recorded : Recorded (readings bytes)
-  accepted-recorded = record { in-range = in-range; in-time = in-time; increasing = increasing }
+  pub lawful-recorded : Recorded (readings bytes)
+  lawful-recorded = record { in-range = in-range; in-time = in-time; increasing = increasing }
+
+accepted-lawful : (bytes : List ℕ) → Accepted bytes → (i : ℕ) → i < length (records bytes) → So (lawful (records bytes) i)
+unfolding firstBad
+accepted-lawful bytes accepted i l =
+    let few : length (records bytes) ≤ firstBad (records bytes) = ltb-false (firstBad (records bytes)) (length (records bytes)) (accepted .1 .1 .0) in
+    not-false (lawful (records bytes) i) (least-first (λ i. not (lawful (records bytes) i)) (length (records bytes)) i (omega arith))
+
+pub accepted-recorded : (bytes : List ℕ) → Accepted bytes → Recorded (readings bytes)
+accepted-recorded bytes accepted = lawful-recorded bytes (accepted-lawful bytes accepted)

@@ -1,6 +1,7 @@
 -- The C boundary, by "Four lines on promises" of document 01: THE CONTRACT OF EACH CALL of the library, what it is handed, what it returns (r), and the
 -- caller's memory after it.
 use Prim.Native.Nat.{ℕ}
+use mathlib.Core.Path.{_≡_}
 use mathlib.Core.List.{List}
 use lib.IntN.{ℤ}
 use lib.ListN.{length}
@@ -17,6 +18,8 @@ use Rattle.entry.specs.Call.{entryOf}
 use Rattle.listing.specs.Call.{findOf}
 use Rattle.live.specs.Call.{addOf, saveOf, restoreOf, heldOf, StepTold, StartTold}
 use Rattle.live_entry.specs.Call.{heldEntryOf}
+use Rattle.assured.specs.Call.{assuredOf}
+use Rattle.reply.specs.Reply.{packed}
 use Rattle.boundary.specs.Boundary.{Writes, Degrees, Pairs, InBands, Orders}
 
 abbrev pub QuestionCall : (recording text out : List ℕ) (r : ℕ) (after : List ℕ) → Type 0
@@ -82,3 +85,7 @@ EntryCall recording out r after = Writes (entryOf recording (length out)) out r 
 
 abbrev pub FindCall : (summary : List ℕ) (curve : ℕ) (level : ℤ) (out : List ℕ) (r : ℕ) (after : List ℕ) → Type 0
 FindCall summary curve level out r after = Writes (findOf summary curve level (length out)) out r after
+
+-- whether kept readings answer a text as the recording did; no output
+abbrev pub AssuredCall : (text marks : List ℕ) (r : ℕ) → Type 0
+AssuredCall text marks r = r ≡ packed (assuredOf text marks)

@@ -15,7 +15,7 @@ use Rattle.live.specs.Call.{addOf, saveOf, restoreOf, startOf, startAfter, stat
 use Rattle.live_entry.specs.Call.{heldEntryOf}
 use Rattle.promises.specs.Page.{Place, put, unchanged, Effect, effect, writing}
 use Rattle.promises.specs.InTurn.{Transition, Machine}
-use Rattle.promises.specs.LiveRuns.{LiveCall, start, add, save, restore, read, entry}
+use Rattle.promises.specs.LiveCalls.{LiveCall, start, add, save, restore, read, entry}
 
 -- ---- a report
 

@@ -2,8 +2,8 @@
 use Prim.Native.Nat.{ℕ}
 use mathlib.Core.Path.{_≡_}
 use mathlib.Core.List.{List, [], _∷_}
-use Rattle.promises.specs.Page.{Call, question, degree, pair, thin, band, order, entry, find, labQuestion, labDegree, labPair, version}
-use Rattle.promises.specs.inner.Calls.{QuestionCall, DegreeCall, PairCall, ThinCall, BandCall, OrderCall, LabQuestionCall, LabDegreeCall, LabPairCall, EntryCall, FindCall}
+use Rattle.promises.specs.Page.{Call, question, degree, pair, thin, band, order, entry, find, labQuestion, labDegree, labPair, assured, version}
+use Rattle.promises.specs.inner.Calls.{QuestionCall, DegreeCall, PairCall, ThinCall, BandCall, OrderCall, LabQuestionCall, LabDegreeCall, LabPairCall, EntryCall, FindCall, AssuredCall}
 
 -- a relation of two numbers before and two after
 pub data Two (P : (x y r x′ y′ : ℕ) → Type 0) : (before : List ℕ) (r : ℕ) (after : List ℕ) → Type 0 where
@@ -28,4 +28,5 @@ Made (find curve level) g before r after = FindCall g curve level before r after
 Made (labQuestion marks text) g before r after = LabQuestionCall g marks text before r after
 Made (labDegree marks text target) g before r after = Two (LabDegreeCall g marks text target) before r after
 Made (labPair curve target) g before r after = Two (LabPairCall g curve target) before r after
+Made (assured marks) g before r after = (before ≡ []) × AssuredCall g marks r × (after ≡ before)
 Made version g before r after = (before ≡ []) × (r ≡ versionNumber) × (after ≡ before)

@@ -17,6 +17,7 @@ use Rattle.question.specs.laws.Lines.{reads-read}
 use Rattle.thin.specs.laws.R1Calls.{mark40}
 use Rattle.marks.specs.Marks.{marksOf}
 use Rattle.promises.specs.KeptAsFull.{AskedOfKept}
+use Rattle.promises.specs.laws.Nodes.{marked-times}
 
 -- a test for it, which is computed
 
@@ -69,8 +70,8 @@ asked-may marks text e =
     let ks : List ℕ = map markIndex (marksOf marks) in
     record {
       none-written = none-among text (bytes "FGXUW") (and-left (noneAmong text (bytes "FGXUW")) (allAmong (afterTimes (read text)) ks) e);
-      marked = λ t r. subst (λ p. (k : ℕ) → List·Memᴰ k (afterTimes p) → List·Memᴰ k ks) (reads-read text t r)
-          (all-among (afterTimes (read text)) ks (and-right (noneAmong text (bytes "FGXUW")) (allAmong (afterTimes (read text)) ks) e));
+      marked = λ t r. marked-times (marksOf marks) t .1 (subst (λ p. (k : ℕ) → List·Memᴰ k (afterTimes p) → List·Memᴰ k ks) (reads-read text t r)
+          (all-among (afterTimes (read text)) ks (and-right (noneAmong text (bytes "FGXUW")) (allAmong (afterTimes (read text)) ks) e)));
     }
 
 -- the listed questions, and texts made of them

@@ -24,7 +24,8 @@ use Rattle.live_entry.specs.laws.InHalf.{run-entry-in-half}
 use Rattle.promises.specs.Page.{behind, Returns}
 use Rattle.promises.specs.InTurn.{made, Carries}
 use Rattle.promises.specs.Reports.{ReportLent}
-use Rattle.promises.specs.LiveRuns.{start, add, save, restore, read, entry, LiveLent}
+use Rattle.promises.specs.LiveCalls.{start, add, save, restore, read, entry}
+use Rattle.promises.specs.LiveRuns.{LiveLent}
 use Rattle.promises.specs.inner.Machines.{silent, reportMachine, liveMachine}
 use Rattle.promises.specs.laws.Computed.{Roomy, roomy, returns-writes}
 use Rattle.promises.specs.laws.Reports.{mean-half, told-name, told-add}

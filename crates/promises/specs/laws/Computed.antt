@@ -51,6 +51,14 @@ use Rattle.lab.specs.laws.Plain.{PlainOr14, PlainOr11Or14, question-plain, degr
 use Rattle.reply.specs.Reply.{InHalf, numberIn, lowIn}
 use Rattle.reply.specs.laws.Unpacked.{number-result, low-result, number-refused, low-refused}
 use Rattle.boundary.specs.Boundary.{Writes, Degrees, valueTold, Pairs, pairTold, bandTold, InBands, findingTold, Orders}
+use mathlib.Core.Bool.{Bool, true, false}
+use Rattle.grammar.specs.Grammar.{ReadsWhole}
+use Rattle.number.specs.laws.Boolean.{clash}
+use Rattle.reply.specs.Reply.{packed}
+use Rattle.assured.specs.Call.{assuredLines, told, assuredOf}
+use Rattle.assured.specs.inner.Test.{isAssured}
+use Rattle.assured.specs.laws.Test.{assured-test}
+use Rattle.assured.specs.laws.Call.{assured-in-half}
 use Rattle.promises.specs.laws.InHalf.{thin-in-half, question-in-half, degree-in-half, pair-in-half, band-in-half, order-in-half, lab-question-in-half, lab-degree-in-half, lab-pair-in-half, entry-in-half, find-in-half}
 use Rattle.pair.specs.Pair.{acceptedLines, pairLines, firstPair}
 use Rattle.pair.specs.laws.Pair.{first-fitting}
@@ -61,12 +69,12 @@ use Rattle.lab.specs.Lab.{labAskingLines}
 use Rattle.refusal.specs.Outcome.{judged}
 use borrow.Author.Tests.{ltb-false}
 use Rattle.promises.specs.laws.Conditions.{AsTable, judged-told}
-use Rattle.promises.specs.laws.Rows.{in-its-place, answer-is, agree-question, agree-degree, agree-pair, agree-thin, agree-band, agree-order, agree-entry, agree-find, agree-lab-question, agree-lab-degree, agree-lab-pair}
+use Rattle.promises.specs.laws.Rows.{in-its-place, answer-is, agree-question, agree-degree, agree-pair, agree-thin, agree-band, agree-order, agree-entry, agree-find, agree-lab-question, agree-lab-degree, agree-lab-pair, agree-assured}
 use Rattle.promises.specs.laws.StandIn.{some-readings}
 use Rattle.promises.specs.MaximalRuns.{Interval, MaximalRuns}
 use Rattle.promises.specs.laws.MaximalRuns.{runs, runs-maximal, runs-written}
 use Rattle.promises.specs.inner.Made.{two, four, Made, versionNumber}
-use Rattle.promises.specs.Page.{Call, question, degree, pair, thin, band, order, entry, find, labQuestion, labDegree, labPair, version, Lent, Place, put, Effect, effect, writing, Leaves, behind, is-put, is-unchanged, Returns, refusals, ends, IsAnswer, the-set, met, short, no-value, first-pair, no-pair, the-kept, two-sets, all-met, broken, the-entry, the-found, lab-question, lab-degree, lab-pair, the-version, Right, answers, refuses, Complete}
+use Rattle.promises.specs.Page.{Call, question, degree, pair, thin, band, order, entry, find, labQuestion, labDegree, labPair, assured, version, Lent, Place, put, Effect, effect, writing, Leaves, behind, is-put, is-unchanged, Returns, refusals, ends, IsAnswer, the-set, met, short, no-value, first-pair, no-pair, the-kept, two-sets, all-met, broken, the-entry, the-found, lab-question, lab-degree, lab-pair, is-assured, not-assured, the-version, Right, answers, refuses, Complete}
 
 -- ---- the answers that are computed
 
@@ -105,6 +113,7 @@ computed (find curve level) g room = mapped writing (findOf g curve level room)
 computed (labQuestion marks text) g room = mapped writing (labQuestionOf g marks text room)
 computed (labDegree marks text target) g room = mapped ofValue (labDegreeOf g marks text target)
 computed (labPair curve target) g room = mapped ofPair (labPairOf g curve target)
+computed (assured marks) g room = mapped (λ n. effect n []) (assuredOf g marks)
 computed version g room = result (effect versionNumber [])
 
 -- ---- what is computed goes over to the caller
@@ -195,6 +204,10 @@ lab-question-roomy : (g marks text : List ℕ) (room : ℕ) → Roomy (labQuesti
 unfolding labQuestionOf
 lab-question-roomy g marks text room = roomy (labAskingLines g marks text) (setLines g (read text)) room (setBytes (answer g text))
 
+returns-number : (o : Outcome ℕ) (before : List ℕ) (r : ℕ) (after : List ℕ) → InHalf o → r ≡ packed o → after ≡ before → Returns (mapped (λ n. effect n []) o) before r after
+returns-number (result n) before r after h e f = (ap numberIn e ∙ number-result n h, ap lowIn e ∙ low-result n h, leaves-as f behind)
+returns-number (refused n p) before r after h e f = (ap numberIn e ∙ number-refused n p h, ap lowIn e ∙ low-refused n p h, f)
+
 returns-made : (c : Call) (g before : List ℕ) (r : ℕ) (after : List ℕ) → Made c g before r after → Returns (computed c g (length before)) before r after
 returns-made (question text) g before r after w = returns-writes (questionOf g text (length before)) before r after (question-in-half g text (length before)) (question-roomy g text (length before)) w
 returns-made (degree text target) g before r after (two {x = x} {y = y} {x′ = x′} {y′ = y′} w) = returns-degrees x y r x′ y′ (nearnessOf g text target) (degree-in-half g text target) w
@@ -211,6 +224,7 @@ returns-made (labQuestion marks text) g before r after w =
 returns-made (labDegree marks text target) g before r after (two {x = x} {y = y} {x′ = x′} {y′ = y′} w) =
     returns-degrees x y r x′ y′ (labDegreeOf g marks text target) (lab-degree-in-half g marks text target) w
 returns-made (labPair curve target) g before r after (two {x = x} {y = y} {x′ = x′} {y′ = y′} w) = returns-pairs x y r x′ y′ (labPairOf g curve target) (lab-pair-in-half g curve target) w
+returns-made (assured marks) g before r after w = returns-number (assuredOf g marks) before r after (assured-in-half g marks) (w .1) (w .2)
 returns-made version g before r after w = (ap numberIn (w .1), ap lowIn (w .1), leaves-as (w .2) behind)
 
 lent-made : (c : Call) (g before : List ℕ) (r : ℕ) (after : List ℕ) → Made c g before r after → Lent c before
@@ -225,6 +239,7 @@ lent-made (find curve level) g before r after w = tt
 lent-made (labQuestion marks text) g before r after w = tt
 lent-made (labDegree marks text target) g before r after (two w) = refl
 lent-made (labPair curve target) g before r after (two w) = refl
+lent-made (assured marks) g before r after w = ap length (w .0)
 lent-made version g before r after w = ap length (w .0)
 
 -- ---- what is computed is right
@@ -343,8 +358,19 @@ found-answers g curve level room b e =
     let m = listing-exactly (curveOf curve) level g in
     subst (λ (s : List ℕ). IsAnswer g (find curve level) (writing s)) (sym (m .1) ∙ result-none (badSummary g ∷ levelLines g curve level room) (listing (curveOf curve) level g) b e .1) (the-found (m .0) (m .2))
 
+assured-answers : (g marks : List ℕ) (n : ℕ) → assuredOf g marks ≡ result n → IsAnswer g (assured marks) (effect n [])
+unfolding assuredOf
+assured-answers g marks n e =
+    let k = result-none (assuredLines g marks) (told (isAssured (marksOf marks) (read g))) n e in
+    let r = read-reads g (none-append (textLines g) (marksLine marks ∷ []) (k .0) .0 .1 .0) in
+    subst (λ (n : ℕ). IsAnswer g (assured marks) (effect n [])) (k .1) (by (isAssured (marksOf marks) (read g)) refl r)
+  where
+    by : (b : Bool) → isAssured (marksOf marks) (read g) ≡ b → ReadsWhole g (read g) → IsAnswer g (assured marks) (effect (told b) [])
+    by true e r = is-assured r (assured-test (marksOf marks) (read g) .0 e)
+    by false e r = not-assured r (λ a. clash (assured-test (marksOf marks) (read g) .1 a) e)
+
 pub right-computed : (c : Call) (g : List ℕ) (room : ℕ) → Right c g room (computed c g room)
-unfolding questionOf nearnessOf pairOf thinOf bandOf orderOf entryOf findOf labQuestionOf labDegreeOf labPairOf
+unfolding questionOf nearnessOf pairOf thinOf bandOf orderOf entryOf findOf labQuestionOf labDegreeOf labPairOf assuredOf
 right-computed (question text) g room = right-by (question text) g room writing (questionOf g text room) (judged-told (agree-question g text room) _) (set-answers g text room)
 right-computed (degree text target) g room = right-by (degree text target) g room ofValue (nearnessOf g text target) (judged-told (agree-degree g text target room) _) (value-answers g text target)
 right-computed (pair curve target) g room = right-by (pair curve target) g room ofPair (pairOf g curve target) (judged-told (agree-pair g curve target room) _) (pair-answers g curve target)
@@ -362,6 +388,7 @@ right-computed (labDegree marks text target) g room =
 right-computed (labPair curve target) g room =
     right-by (labPair curve target) g room ofPair (labPairOf g curve target) (judged-told (agree-lab-pair g curve target room) _)
     (lab-by-14 (pair curve target) (labPair curve target) g ofPair (pairOf g curve target) (labPairOf g curve target) (λ a h. lab-pair h) (pair-plain g curve target) (pair-answers g curve target))
+right-computed (assured marks) g room = right-by (assured marks) g room (λ n. effect n []) (assuredOf g marks) (judged-told (agree-assured g marks room) _) (assured-answers g marks)
 right-computed version g room = answers tt the-version
 
 -- ---- EVERY CALL is as the page says

@@ -24,9 +24,13 @@ use Rattle.thin.specs.laws.Selection.{kept-selection, selection-thinned}
 use Rattle.meaning.specs.Named.{Channel, SameChannel, Agreeing, agree-none, agree-more}
 use Rattle.meaning.specs.Named as named
 use Rattle.lab.specs.Lab.{labQuestionOf, labDegreeOf}
+use mathlib.Core.Logic.{inl}
+use Rattle.promises.specs.laws.Assured.{AssuredText, assured-question, assured-degree, assured-band}
+use Rattle.promises.specs.laws.Nodes.{laboratory-text}
+use Rattle.promises.specs.laws.Page.{same-text}
 use Rattle.promises.specs.Conditions.{textTable, NoneMet}
 use Rattle.promises.specs.laws.Conditions.{AsTable, done, judged-told}
-use Rattle.promises.specs.Page.{Call, question, degree, pair, thin, band, order, entry, find, labQuestion, labDegree, labPair, version, writing}
+use Rattle.promises.specs.Page.{Call, question, degree, pair, thin, band, order, entry, find, labQuestion, labDegree, labPair, assured, version, writing}
 use Rattle.promises.specs.laws.Computed.{ofValue, ofPair, ofBands, ofFinding, computed}
 use Rattle.promises.specs.KeptAsFull.{AskedOfKept, Askable, OfKept, KeptAsFull}
 use Rattle.promises.specs.Secrecy.{Public, AllButB}
@@ -48,6 +52,7 @@ use Rattle.recording.specs.laws.Acceptance.{accepted-sound}
 use Rattle.thin.specs.laws.Selection.{kept-selection, whole-selection, selection-accepted}
 use Rattle.meaning.specs.Alike.{Plain}
 use Rattle.kept.specs.laws.Mark.{isMark, rule-marks}
+use Rattle.promises.specs.laws.Nodes.{marked-times}
 use Rattle.promises.specs.laws.Operator.{unwritten-propositional}
 use Rattle.promises.specs.laws.Acceptance.{accepted-lines, accepted-table}
 use Rattle.promises.specs.laws.Rows.{agree-text}
@@ -64,15 +69,12 @@ use Rattle.number.specs.laws.Boolean.{same, or-left, or-right, or-cases}
 -- ---- the condition on texts
 
 pub asked-plain : (marks text : List ℕ) → AskedOfKept marks text → (t : Text) → ReadsWhole text t → Plain (marksOf marks) t
-asked-plain marks text l t r = record { propositional = unwritten-propositional text t r (l .none-written); marked = l .marked t r }
+asked-plain marks text l t r = record { propositional = unwritten-propositional text t r (l .none-written); marked = marked-times (marksOf marks) t .0 (l .marked t r) }
 
-pub askable-plain : (marks text : List ℕ) → Askable marks text → NoneMeets (textLines text) → (t : Text) → ReadsWhole text t → Plain (marksOf marks) t
-askable-plain marks text l n t r =
-    let sized : NoneMet (textTable text) = subst (λ (o : Outcome (Unit {0})). AsTable (textTable text) o) (judged-none (textLines text) tt n) (judged-told (agree-text text (λ m. done)) tt) in
-    asked-plain marks text (l sized) t r
-
-pub plainly-read : (marks text : List ℕ) → Askable marks text → PlainlyRead marks text
-plainly-read marks text l n = askable-plain marks text l n (read text) (read-reads text (n .1 .0))
+-- by the lines that are computed
+pub assured-text : (marks text : List ℕ) → Askable marks text → AssuredText marks text
+assured-text marks text l n =
+    l (subst (λ (o : Outcome (Unit {0})). AsTable (textTable text) o) (judged-none (textLines text) tt n) (judged-told (agree-text text (λ m. done)) tt))
 
 -- ---- in the recording's place
 
@@ -98,17 +100,18 @@ module _ (marks recording held : List ℕ) (a : Accepted recording) (s : Selecti
   whole-too = itself (marksOf marks) recording a
 
   same-computed : (c : Call) → OfKept marks c → (room : ℕ) → computed c held room ≡ computed c recording room
-  same-computed (question text) l room = ap (mapped writing) (as-full .question text (plainly-read marks text l) room)
-  same-computed (degree text target) l room = ap (mapped ofValue) (as-full .degree text (plainly-read marks text l) target)
+  same-computed (question text) l room = ap (mapped writing) (assured-question marks recording held a s text (assured-text marks text l) room)
+  same-computed (degree text target) l room = ap (mapped ofValue) (assured-degree marks recording held a s text (assured-text marks text l) target)
   same-computed (pair curve target) l room = ap (mapped ofPair) (as-full .pair curve target)
   same-computed (thin ks) l room = subst (λ (ks : List ℕ). mapped writing (thinOf held ks room) ≡ mapped writing (thinOf recording ks room)) (sym l) (ap (mapped writing) (selection-thinned marks recording held s a room))
-  same-computed (band text e) l room = ap (mapped ofBands) (as-full .band text (plainly-read marks text l) e)
+  same-computed (band text e) l room = ap (mapped ofBands) (assured-band marks recording held a s text (assured-text marks text l) e)
   same-computed (order sheet) l room = ap (mapped ofFinding) (as-full .ordering sheet)
   same-computed entry l room = ap (mapped writing) (as-full .entry room)
   same-computed (find curve level) l room = absurd l
   same-computed (labQuestion ks text) l room = subst (λ (ks : List ℕ). mapped writing (labQuestionOf held ks text room) ≡ mapped writing (labQuestionOf recording ks text room)) (sym l) (ap (mapped writing) (same-question marks recording recording held recording itself-too s whole-too text room))
   same-computed (labDegree ks text target) l room = subst (λ (ks : List ℕ). mapped ofValue (labDegreeOf held ks text target) ≡ mapped ofValue (labDegreeOf recording ks text target)) (sym l) (ap (mapped ofValue) (same-degree marks recording recording held recording itself-too s whole-too text target))
   same-computed (labPair curve target) l room = ap (mapped ofPair) (same-pair marks recording recording held recording itself-too s whole-too curve target)
+  same-computed (assured ks) l room = absurd l
   same-computed version l room = refl
 
 -- ---- the limit on kept readings
@@ -154,6 +157,8 @@ kept-as-full = record {
   kept-selects = λ marks recording. kept-selection (marksOf marks) recording;
   whole-selects = λ marks recording a. itself (marksOf marks) recording (accepted-lines recording a);
   selection-accepted = λ marks {recording} {held} a s. accepted-table held (selection-accepted (marksOf marks) recording held s (accepted-lines recording a));
+  demand-3 = λ marks text l n t r. inl (asked-plain marks text l t r);
+  laboratory = λ marks text m n t r. inl (subst (Plain (marksOf marks)) (same-text text (m .0) t (m .1) r) (laboratory-text (marksOf marks) (m .0) .1 (m .2) .plain));
   limit = λ marks recording. bytes-limit (marksOf marks) recording;
   repeats = λ marks marks′ recording h. same-kept (marksOf marks) (marksOf marks′) recording h;
 }

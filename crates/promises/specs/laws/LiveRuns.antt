@@ -50,7 +50,8 @@ use Rattle.promises.specs.laws.Computed.{entry-answers}
 use Rattle.promises.specs.laws.Page.{one-answer, same-refusal, at-0, Single}
 use Rattle.promises.specs.laws.Reports.{judged-numbered}
 use Rattle.promises.specs.InTurn.{Exchange, InTurn, no-call, and-then, ByHistory, told-none, told-then, Transition, Carries, HoldsNone}
-use Rattle.promises.specs.LiveRuns.{LiveCall, start, add, save, restore, read, entry, LiveStage, no-run, running, Name, liveRefusals, IsStart, a-start, LiveStep, begins, not-begun, arrives, is-set, goes-back, read-out, run-entry, refused-step, LiveLent, SoundRun, LiveRuns}
+use Rattle.promises.specs.LiveCalls.{LiveCall, start, add, save, restore, read, entry, LiveStage, no-run, running, Name, liveRefusals}
+use Rattle.promises.specs.LiveRuns.{IsStart, a-start, LiveStep, begins, not-begun, arrives, is-set, goes-back, read-out, run-entry, refused-step, LiveLent, SoundRun, LiveRuns}
 use Rattle.promises.specs.inner.Machines.{silent, stepping, readingOut, liveMachine}
 
 -- ---- the lines

@@ -30,12 +30,14 @@ use Rattle.sheet.specs.Finding.{brokenAt}
 use Rattle.sheet.specs.laws.Finding.{true-one}
 use Rattle.entry.specs.Entry.{Greatest, Least}
 use Rattle.reply.specs.Reply.{numberIn, lowIn}
+use Rattle.marks.specs.Marks.{marksOf}
+use Rattle.assured.specs.Assured.{Assured}
 use Rattle.promises.specs.MaximalRuns.{Interval, MaximalRuns, runsBytes}
 use Rattle.promises.specs.laws.MaximalRuns.{one-runs, index-le}
 use Rattle.promises.specs.Conditions.{FirstBroken, TableLine, FirstMet}
 use Rattle.promises.specs.laws.Conditions.{first-met}
 use Rattle.promises.specs.laws.Found.{one-list}
-use Rattle.promises.specs.Page.{Call, question, degree, pair, thin, band, order, entry, find, labQuestion, labDegree, labPair, version, Place, put, Effect, effect, writing, Leaves, behind, is-put, is-unchanged, Returns, refusals, AtIndex, IsAnswer, the-set, met, short, no-value, first-pair, no-pair, the-kept, two-sets, all-met, broken, the-entry, the-found, lab-question, lab-degree, lab-pair, the-version, Right, answers, refuses, Complete, Page}
+use Rattle.promises.specs.Page.{Call, question, degree, pair, thin, band, order, entry, find, labQuestion, labDegree, labPair, assured, version, Place, put, Effect, effect, writing, Leaves, behind, is-put, is-unchanged, Returns, refusals, AtIndex, IsAnswer, the-set, met, short, no-value, first-pair, no-pair, the-kept, two-sets, all-met, broken, the-entry, the-found, lab-question, lab-degree, lab-pair, is-assured, not-assured, the-version, Right, answers, refuses, Complete, Page}
 use Rattle.promises.specs.laws.Computed.{ofFinding, ofRuns, computed, right-computed}
 
 -- ---- nothing else is right
@@ -75,6 +77,7 @@ singles (find curve level) g room = (at-0, (at-0, (at-0, tt)))
 singles (labQuestion marks text) g room = (at-0, (at-0, (first-broken g, (at-0, (at-0, (at-0, (at-0, (at-0, (at-0, (at-0, (at-0, (at-0, tt))))))))))))
 singles (labDegree marks text target) g room = (at-0, (at-0, (first-broken g, (at-0, (at-0, (at-0, (at-0, (at-0, (at-0, (at-0, (at-0, (at-0, tt))))))))))))
 singles (labPair curve target) g room = (at-0, (at-0, (first-broken g, (at-0, (at-0, (at-0, (at-0, tt)))))))
+singles (assured marks) g room = (at-0, (at-0, (at-0, (at-0, tt))))
 singles version g room = tt
 
 -- an entry
@@ -182,6 +185,10 @@ one-answer (the-found ns e) (the-found ns′ e′) = ap (λ (l : List ℕ). writ
 one-answer (lab-question h) (lab-question h′) = one-answer h h′
 one-answer (lab-degree h) (lab-degree h′) = one-answer h h′
 one-answer (lab-pair h) (lab-pair h′) = one-answer h h′
+one-answer (is-assured r a) (is-assured r′ a′) = refl
+one-answer {g = g} (is-assured {marks = marks} {t = t} r a) (not-assured {t = t′} r′ n) = absurd (n (subst (Assured (marksOf marks)) (same-text g t t′ r r′) a))
+one-answer {g = g} (not-assured {marks = marks} {t = t} r n) (is-assured {t = t′} r′ a) = absurd (n (subst (Assured (marksOf marks)) (same-text g t′ t r′ r) a))
+one-answer (not-assured r n) (not-assured r′ n′) = refl
 one-answer the-version the-version = refl
 
 pub one-outcome : {c : Call} {g : List ℕ} {room : ℕ} {o o′ : Outcome Effect} → Right c g room o → Right c g room o′ → o ≡ o′

@@ -75,7 +75,8 @@ use Rattle.promises.specs.laws.Conditions.{AsTable, judged-told, first-m
 use Rattle.promises.specs.laws.Rows.{in-its-place, answer-is, agree-naming}
 use Rattle.promises.specs.laws.Acceptance.{accepted-lines}
 use Rattle.promises.specs.laws.Selected.{selected-as-full}
-use Rattle.promises.specs.laws.KeptAsFull.{plainly-read}
+use Rattle.promises.specs.laws.KeptAsFull.{assured-text}
+use Rattle.promises.specs.laws.Assured.{assured-reach}
 use Rattle.promises.specs.laws.Computed.{leaves-as, ofValue, right-computed}
 use Rattle.promises.specs.laws.Page.{one-outcome, same-refusal, at-0, one-index, one-distance, same-text}
 
@@ -343,7 +344,7 @@ module _ {size : ℕ} where
 
 module _ (marks recording held : List ℕ) (acc : AcceptedRecording recording) (sel : Selection (marksOf marks) recording held) where
   same-reach : (text : List ℕ) → Askable marks text → (target : ℤ) → reachOf held text target ≡ reachOf recording text target
-  same-reach text k target = selected-as-full marks recording held (accepted-lines recording acc) sel .reach text (plainly-read marks text k) target
+  same-reach text k target = assured-reach marks recording held (accepted-lines recording acc) sel text (assured-text marks text k) target
 
   same-addition : (b : List ℕ) (s : Stage) → Holding b s → AskedIn marks s → additionIn b held ≡ additionIn b recording
   same-addition b closed h k = h held ∙ sym (h recording)

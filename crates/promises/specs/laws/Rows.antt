@@ -48,18 +48,20 @@ use Rattle.thin.specs.Thin.{keptBytes}
 use Rattle.marks.specs.Marks.{marksOf, mostMarks, latestMark, marksLine}
 use Rattle.sheet.specs.Sheet.{mostLines, noPigment, badSheet}
 use Rattle.sheet.specs.Call.{orderLines}
-use Rattle.lab.specs.Lab.{LaboratoryText, curveLine, askerLines, labAskingLines}
+use Rattle.lab.specs.Lab.{curveLine, askerLines, labAskingLines}
 use Rattle.lab.specs.laws.Laboratory.{fourteen-text}
+use Rattle.assured.specs.Call.{assuredLines}
 use Rattle.entry.specs.Entry.{entryBytes}
 use Rattle.entry.specs.Call.{entryLines}
 use Rattle.entry.specs.laws.Reckoned.{length-reckoned}
 use Rattle.listing.specs.Listing.{mostEntries, entryCount, listing}
 use Rattle.listing.specs.Call.{badSummary, levelLines}
 use Rattle.promises.specs.laws.MaximalRuns.{runs, runs-maximal, runs-many, inRuns, test-of, test-many}
-use Rattle.promises.specs.Conditions.{WithoutRecord, TopsOfCurveOver, recordingTable, ReadWith, OpenTooDeep, TextOver, TooManyRuns, RunsOver, TopsOver, SetLonger, MarksOff, TargetBad, SheetBad, NotLaboratory, BandBad, OneExtreme, TableLine, _upon_, textTable, askingTable}
+use Rattle.promises.specs.Conditions.{WithoutRecord, TopsOfCurveOver, recordingTable, ReadWith, OpenTooDeep, TextOver, TooManyRuns, RunsOver, TopsOver, SetLonger, MarksOff, TargetBad, SheetBad, NotLaboratory, LaboratoryText, BandBad, OneExtreme, TableLine, _upon_, textTable, askingTable}
 use Rattle.report.specs.Report.{Naming, mostBatches, reportBytes, namingLines}
 use Rattle.promises.specs.Reports.{namingRefusals}
-use Rattle.promises.specs.Page.{question, degree, pair, thin, band, order, entry, find, labQuestion, labDegree, labPair, refusals}
+use Rattle.promises.specs.Page.{question, degree, pair, thin, band, order, entry, find, labQuestion, labDegree, labPair, assured, refusals}
+use Rattle.promises.specs.laws.Nodes.{laboratory-text}
 use Rattle.promises.specs.laws.Found.{found-longer}
 use Rattle.promises.specs.laws.Conditions.{agrees, Agree, done, next, _⊳_, so-eq, so-lt, so-none, agree-recording}
 
@@ -325,12 +327,15 @@ agree-order bytes sheet room = agree-records bytes (agrees 13 refl (off-sheet sh
 
 -- ---- the laboratory's calls
 
+none-too : {P Q : Type 0} → P ↔ Q → (¬ P) ↔ (¬ Q)
+none-too e = (λ h q. h (e .1 q), λ h p. h (e .0 p))
+
 -- 11 and 14 of a text that was read, then the lines that follow
 agree-asker : (marks text : List ℕ) → NoneMeets (textLines text) → {ls : List Line} {ws : List TableLine} → Agree ls ws
     → Agree (askerLines marks (read text) ++ ls) (11 upon MarksOff marks ∷ 14 upon NotLaboratory marks text ∷ ws)
 agree-asker marks text sized rest =
     agrees 11 refl (off-marks marks)
-    ⊳ agrees 14 refl (so-read text (read-reads text (sized .1 .0)) (of-each text (λ t. ¬ LaboratoryText (marksOf marks) t) (fourteen-text (marksOf marks) (read text))))
+    ⊳ agrees 14 refl (so-read text (read-reads text (sized .1 .0)) (of-each text (λ t. ¬ LaboratoryText (marksOf marks) t) (then (fourteen-text (marksOf marks) (read text)) (none-too (laboratory-text (marksOf marks) (read text))))))
     ⊳ rest
 
 pub agree-lab-question : (bytes marks text : List ℕ) (room : ℕ)
@@ -367,3 +372,8 @@ pub agree-naming : (n : Naming) (size : ℕ) → Agree (namingLines n size) (nam
 agree-naming n size =
     agrees 15 refl (so-either (so-eq (n .count) 0) (so-lt mostBatches (n .count)))
     ⊳ agree-text (n .text) (λ sized. agrees 12 refl (off-axis (n .target)) ⊳ agrees 10 refl (so-lt size reportBytes) ⊳ done)
+
+-- ---- the assured call
+
+pub agree-assured : (text marks : List ℕ) (room : ℕ) → Agree (assuredLines text marks) (refusals (assured marks) text room)
+agree-assured text marks room = agree-text text (λ sized. agrees 11 refl (off-marks marks) ⊳ done)

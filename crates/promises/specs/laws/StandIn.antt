@@ -1,4 +1,5 @@
--- A stand-in answers as the recording does: the question, the degree, the band, the pair, the order and the entry call. Every selection that includes the kept readings is one.
+-- Readings in the place of a recording for a text answer it as the recording does. A stand-in is in its place for every plain text, and answers the pair, the order and the entry
+-- call as it does; every selection that includes the kept readings is one.
 use Prim.Native.Nat.{ℕ, _<_}
 use native.Mathlib.Omega.{arith}
 use native.Mathlib.Decide.{decLt}
@@ -33,6 +34,7 @@ use Rattle.meaning.specs.laws.Overfull.{eight-overfull, nine-tops}
 use Rattle.meaning.specs.inner.Recorded.{InRange}
 use Rattle.meaning.specs.laws.Recorded.{accepted-recorded}
 use Rattle.question.specs.Question.{read, answer, askingLines, setLines, questionOf}
+use Rattle.question.specs.laws.Lines.{read-reads, reads-read}
 use Rattle.degree.specs.Degree.{Reach, reachIn, valued, targetLine, reachOf, nearnessOf}
 use Rattle.degree.specs.inner.Reach.{mapped}
 use Rattle.degree.specs.laws.Reach.{nearness-valued}
@@ -56,6 +58,7 @@ use Rattle.marks.specs.Marks.{marksOf}
 use Rattle.thin.specs.Selection.{Selection}
 use Rattle.thin.specs.laws.Selection.{selection-readings}
 use Rattle.promises.specs.inner.SameAnswers.{PlainlyRead, SameAnswers}
+use Rattle.promises.specs.laws.Rows.{InPlace}
 use Rattle.promises.specs.laws.Observation.{selection-alike}
 use Rattle.promises.specs.inner.StandIn.{StandIn}
 
@@ -84,25 +87,22 @@ some-readings bytes h = by (decLt 0 (length (records bytes)))
     by (yes k) = omega (arith, length-map (records bytes) reading)
     by (no k) = absurd (clash (eq-eqb (length (records bytes)) 0 (omega arith)) h)
 
+-- readings as empty as a recording
+alike-noRecord : (full held : List ℕ) → (length (records held) ≡ 0) ↔ (length (records full) ≡ 0) → noRecord held ≡ noRecord full
+alike-noRecord full held empty = ap (line 4) (same (eqb (length (records held)) 0) (eqb (length (records full)) 0)
+    (λ e. eq-eqb (length (records full)) 0 (empty .0 (eqb-true (length (records held)) 0 e)))
+    (λ e. eq-eqb (length (records held)) 0 (empty .1 (eqb-true (length (records full)) 0 e))))
+
 -- ---- a stand-in, for a recording of any length
 
 module _ (ks full held : List ℕ) (s : StandIn ks full held) where
   pub same-noRecord : noRecord held ≡ noRecord full
-  same-noRecord = ap (line 4) (same (eqb (length (records held)) 0) (eqb (length (records full)) 0)
-      (λ e. eq-eqb (length (records full)) 0 (s .empty .0 (eqb-true (length (records held)) 0 e)))
-      (λ e. eq-eqb (length (records held)) 0 (s .empty .1 (eqb-true (length (records full)) 0 e))))
+  same-noRecord = alike-noRecord full held (s .empty)
 
   -- THE SAME TRUTH of a plain text, for every number, and the same refusals 8 and 9
   pub stand-same : noRecord held .meets ≡ false → (p : Text) → Plain ks p → Same (readings held) (readings full) p
   stand-same some p plain =
       alike-same (s .alike) (some-readings held some) (some-readings full (sym (ap (λ (l : Line). l .meets) same-noRecord) ∙ some)) p plain
-
--- a single record, by the count of coded readings
-coded-single : (ks full held : List ℕ) (s : StandIn ks full held) → (length (coded held) ≡ 1) ↔ (length (coded full) ≡ 1)
-coded-single ks full held s = (
-  λ z. length-coded full ∙ sym (length-records full) ∙ s .single .0 (length-records held ∙ sym (length-coded held) ∙ z),
-  λ z. length-coded held ∙ sym (length-records held) ∙ s .single .1 (length-records full ∙ sym (length-coded full) ∙ z),
-)
 
 -- ---- two accepted recordings of which a text means the same
 
@@ -123,63 +123,86 @@ module _ (full held : List ℕ) (accepted : Accepted full) (accepted′ : Accept
       (same-test _ _ (nine-tops (readings held) range-held p) (both .nine) (nine-tops (readings full) range-full p))
       (same-test _ _ (eight-overfull (readings held) range-held (some-readings held some′) p) (both .eight) (eight-overfull (readings full) range-full (some-readings full some) p))
 
--- ---- for an accepted recording
+-- ---- readings in the place of an accepted recording, for a text
 
-module _ (ks full held : List ℕ) (s : StandIn ks full held) (accepted : Accepted full) (some : noRecord full .meets ≡ false) (p : Text) (plain : Plain ks p) where
-  some-held : noRecord held .meets ≡ false
-  some-held = ap (λ (l : Line). l .meets) (same-noRecord ks full held s) ∙ some
+module _ (full held text : List ℕ) (place : InPlace full held text) (accepted : Accepted full) where
+  some-held : noRecord full .meets ≡ false → noRecord held .meets ≡ false
+  some-held some = ap (λ (l : Line). l .meets) (alike-noRecord full held (place .empty)) ∙ some
 
-  pub stand-val : (n : ℕ) → val (coded held) n p 0 ≡ val (coded full) n p 0
-  stand-val = meant-val full held accepted (s .accepted) some some-held p (stand-same ks full held s some-held p plain)
+  -- REFUSALS 1 TO 7: what follows them matters only where there is a record and the text was read, and then it means the same
+  place-asking : {R : Type 0} (ms ns : List Line) (x y : R)
+      → (noRecord full .meets ≡ false → Same (readings held) (readings full) (read text) → judged ms x ≡ judged ns y)
+      → judged (askingLines held text ++ ms) x ≡ judged (askingLines full text ++ ns) y
+  place-asking ms ns x y h =
+      judged-pass (recordingLines held) ((noRecord held ∷ textLines text) ++ ms) x (place .accepted)
+      ∙ ap (λ (l : Line). judged (l ∷ (textLines text ++ ms)) x) (alike-noRecord full held (place .empty))
+      ∙ judged-behind (noRecord full ∷ textLines text) ms ns x y (λ n. h (n .0) (place .same (some-held (n .0)) (n .1) (read text) (read-reads text (n .1 .1 .0))))
+      ∙ sym (judged-pass (recordingLines full) ((noRecord full ∷ textLines text) ++ ns) y accepted)
 
-  pub stand-setLines : setLines held p ≡ setLines full p
-  stand-setLines = meant-lines full held accepted (s .accepted) some some-held p (stand-same ks full held s some-held p plain)
+  -- THE QUESTION CALL: the same set in the same bytes, or the same refusal
+  pub place-question : (room : ℕ) → questionOf held text room ≡ questionOf full text room
+  unfolding questionOf
+  place-question room =
+      place-asking (setLines held (read text) ++ (outputLine room (setBytes (answer held text)) ∷ []))
+      (setLines full (read text) ++ (outputLine room (setBytes (answer full text)) ∷ [])) (setBytes (answer held text)) (setBytes (answer full text))
+      (λ some m. ap₂ (λ (ls : List Line) (set : List ℕ). judged (ls ++ (outputLine room set ∷ [])) set)
+      (meant-lines full held accepted (place .accepted) some (some-held some) (read text) m)
+      (setBytes-ext (answer held text) (answer full text) (λ n h. meant-val full held accepted (place .accepted) some (some-held some) (read text) m n)))
+
+  -- the same whole distance, or the same refusal
+  pub place-reach : (target : ℤ) → reachOf held text target ≡ reachOf full text target
+  unfolding reachOf
+  place-reach target =
+      place-asking (targetLine target ∷ setLines held (read text)) (targetLine target ∷ setLines full (read text))
+      (reachIn (answer held text) (index target)) (reachIn (answer full text) (index target))
+      (λ some m. ap₂ (λ (ls : List Line) (x : Reach). judged (targetLine target ∷ ls) x)
+      (meant-lines full held accepted (place .accepted) some (some-held some) (read text) m)
+      (ap (λ (f : ℕ → Bool). reachIn f (index target)) (fun-ext (meant-val full held accepted (place .accepted) some (some-held some) (read text) m))))
+
+  -- THE DEGREE CALL: the same value, or the same refusal
+  pub place-degree : (target : ℤ) → nearnessOf held text target ≡ nearnessOf full text target
+  place-degree target = nearness-valued held text target ∙ ap (mapped valued) (place-reach target) ∙ sym (nearness-valued full text target)
+
+  -- THE BAND CALL: the same two sets, or the same refusal, if the one is a single record where the other is
+  module _ (single : (length (records held) ≡ 1) ↔ (length (records full) ≡ 1)) where
+    -- by the count of coded readings
+    coded-single : (length (coded held) ≡ 1) ↔ (length (coded full) ≡ 1)
+    coded-single = (
+      λ z. length-coded full ∙ sym (length-records full) ∙ single .0 (length-records held ∙ sym (length-coded held) ∙ z),
+      λ z. length-coded held ∙ sym (length-records held) ∙ single .1 (length-records full ∙ sym (length-coded full) ∙ z),
+    )
+
+    pub place-band : (e : ℤ) → bandOf held text e ≡ bandOf full text e
+    unfolding bandOf
+    place-band e =
+        place-asking (widthLine e ∷ extremeLine (read text) ∷ []) (widthLine e ∷ extremeLine (read text) ∷ [])
+        (bandsOf (theQuestion (read text)) (widthOf e) (coded held)) (bandsOf (theQuestion (read text)) (widthOf e) (coded full))
+        (λ some m. ap (λ (b : Bands). judged (widthLine e ∷ extremeLine (read text) ∷ []) b)
+        (text-same full held accepted (place .accepted) coded-single (widthOf e) (read text)
+        (meant-val full held accepted (place .accepted) some (some-held some) (read text) m)))
+
+-- ---- a stand-in for an accepted recording
 
 module _ (marks full held : List ℕ) (s : StandIn (marksOf marks) full held) (accepted : Accepted full) where
   module _ (text : List ℕ) (askable : PlainlyRead marks text) where
-    -- REFUSALS 1 TO 7: what follows them matters only where there is a record and the text was read, and then the text is plain
-    stand-asking : {R : Type 0} (ms ns : List Line) (x y : R)
-        → (noRecord full .meets ≡ false → Plain (marksOf marks) (read text) → judged ms x ≡ judged ns y)
-        → judged (askingLines held text ++ ms) x ≡ judged (askingLines full text ++ ns) y
-    stand-asking ms ns x y h =
-        judged-pass (recordingLines held) ((noRecord held ∷ textLines text) ++ ms) x (s .accepted)
-        ∙ ap (λ (l : Line). judged (l ∷ (textLines text ++ ms)) x) (same-noRecord (marksOf marks) full held s)
-        ∙ judged-behind (noRecord full ∷ textLines text) ms ns x y (λ n. h (n .0) (askable (n .1)))
-        ∙ sym (judged-pass (recordingLines full) ((noRecord full ∷ textLines text) ++ ns) y accepted)
+    stand-place : InPlace full held text
+    stand-place = record {
+      accepted = s .accepted;
+      empty = s .empty;
+      same = λ some n t r. subst (Same (readings held) (readings full)) (reads-read text t r) (stand-same (marksOf marks) full held s some (read text) (askable n));
+    }
 
-    -- THE QUESTION CALL: the same set in the same bytes, or the same refusal
     pub stand-question : (room : ℕ) → questionOf held text room ≡ questionOf full text room
-    unfolding questionOf
-    stand-question room =
-        stand-asking (setLines held (read text) ++ (outputLine room (setBytes (answer held text)) ∷ []))
-        (setLines full (read text) ++ (outputLine room (setBytes (answer full text)) ∷ [])) (setBytes (answer held text)) (setBytes (answer full text))
-        (λ some plain. ap₂ (λ (ls : List Line) (set : List ℕ). judged (ls ++ (outputLine room set ∷ [])) set)
-        (stand-setLines (marksOf marks) full held s accepted some (read text) plain)
-        (setBytes-ext (answer held text) (answer full text) (λ n h. stand-val (marksOf marks) full held s accepted some (read text) plain n)))
+    stand-question = place-question full held text stand-place accepted
 
-    -- the same whole distance, or the same refusal
     pub stand-reach : (target : ℤ) → reachOf held text target ≡ reachOf full text target
-    unfolding reachOf
-    stand-reach target =
-        stand-asking (targetLine target ∷ setLines held (read text)) (targetLine target ∷ setLines full (read text))
-        (reachIn (answer held text) (index target)) (reachIn (answer full text) (index target))
-        (λ some plain. ap₂ (λ (ls : List Line) (x : Reach). judged (targetLine target ∷ ls) x)
-        (stand-setLines (marksOf marks) full held s accepted some (read text) plain)
-        (ap (λ (f : ℕ → Bool). reachIn f (index target)) (fun-ext (stand-val (marksOf marks) full held s accepted some (read text) plain))))
+    stand-reach = place-reach full held text stand-place accepted
 
-    -- THE DEGREE CALL: the same value, or the same refusal
     pub stand-degree : (target : ℤ) → nearnessOf held text target ≡ nearnessOf full text target
-    stand-degree target = nearness-valued held text target ∙ ap (mapped valued) (stand-reach target) ∙ sym (nearness-valued full text target)
+    stand-degree = place-degree full held text stand-place accepted
 
-    -- THE BAND CALL: the same two sets, or the same refusal
     pub stand-band : (e : ℤ) → bandOf held text e ≡ bandOf full text e
-    unfolding bandOf
-    stand-band e =
-        stand-asking (widthLine e ∷ extremeLine (read text) ∷ []) (widthLine e ∷ extremeLine (read text) ∷ [])
-        (bandsOf (theQuestion (read text)) (widthOf e) (coded held)) (bandsOf (theQuestion (read text)) (widthOf e) (coded full))
-        (λ some plain. ap (λ (b : Bands). judged (widthLine e ∷ extremeLine (read text) ∷ []) b)
-        (text-same full held accepted (s .accepted) (coded-single (marksOf marks) full held s) (widthOf e) (read text)
-        (stand-val (marksOf marks) full held s accepted some (read text) plain)))
+    stand-band = place-band full held text stand-place accepted (s .single)
 
   module _ (curve : ℕ) (target : ℤ) where
     same-count : length (pick (top (curveOf curve)) (readings held)) ≡ length (pick (top (curveOf curve)) (readings full))

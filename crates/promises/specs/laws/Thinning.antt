@@ -51,7 +51,10 @@ use Rattle.promises.specs.laws.StandIn.{selection-stands, stand-same, sa
 use Rattle.promises.specs.laws.Conditions.{AsTable, judged-told, agrees, _⊳_, done, so-eq, so-lt, agree-recording, first-met}
 use Rattle.promises.specs.laws.Rows.{off-marks, InPlace, answer-is, agree-asked, agree-thin}
 use Rattle.promises.specs.laws.Acceptance.{accepted-lines}
-use Rattle.promises.specs.laws.KeptAsFull.{askable-plain}
+use Rattle.promises.specs.laws.KeptAsFull.{assured-text}
+use Rattle.promises.specs.laws.Assured.{assured-place}
+use Rattle.promises.specs.laws.Joined.{good-joined, good-recorded}
+use Rattle.recording.specs.laws.Acceptance.{Good}
 use Rattle.promises.specs.laws.Computed.{reckoned-answers}
 use Rattle.promises.specs.laws.Page.{is-computed, same-refusal, at-0, first-broken}
 use Rattle.promises.specs.Page.{thin, question, entry, put, Effect, writing, Leaves, is-put, Returns, refusals, IsAnswer, the-set, Right, Complete}
@@ -300,8 +303,12 @@ nothing-accepted : (ks : List ℕ) → Accepted (keptBytes ks [])
 unfolding keptBytes firstBad least
 nothing-accepted ks = (refl, (refl, (refl, tt)))
 
+nothing-good : Good 0 (records [])
+nothing-good = tt
+
 record Held (ks join : List ℕ) : Type 0 where
   pub whole : length join % 16 ≡ 0
+  pub good : Good 0 (records join)
   pub accepted : Accepted (keptBytes ks join)
 
 held-after : {ks join join″ : List ℕ} {xs : List (Exchange (List ℕ))} → ByHistory (Book ks) join xs join″ → Held ks join → Held ks join″
@@ -320,6 +327,7 @@ held-after {ks} (told-then o (taken {join = join} {piece = piece} {room = room} 
         let m = length-append join piece in
         record {
           whole = omega arith;
+          good = good-joined ks join piece w (h .good) a;
           accepted = subst Accepted (kept-join ks join piece w) (selection-accepted ks (keptBytes ks join ++ piece) (keptBytes ks (keptBytes ks join ++ piece)) (kept-selection ks (keptBytes ks join ++ piece)) a);
         }
 held-after (told-then o (book-refuses f) t ts) h = held-after ts h
@@ -348,25 +356,24 @@ module _ (full held text : List ℕ) (place : InPlace full held text) (room : �
       by (result b) e t = answers t (stood-answers b e)
       by (refused n p) e t = refuses (t .0)
 
--- a stand-in is in the recording's place for every text that may be asked of kept readings
-in-place : (marks full held text : List ℕ) → StandIn (marksOf marks) full held → Askable marks text → InPlace full held text
-in-place marks full held text s l = record {
-  accepted = s .accepted;
-  empty = s .empty;
-  same = λ some sized t r. stand-same (marksOf marks) full held s some t (askable-plain marks text l sized t r);
-}
+-- what is held after a list, beside its join
+held-list : (marks : List ℕ) {xs : List (Exchange (List ℕ))} {join : List ℕ} → ByHistory (Book (marksOf marks)) [] xs join → Held (marksOf marks) join
+held-list marks t = held-after t (record { whole = refl; good = nothing-good; accepted = nothing-accepted (marksOf marks) })
 
--- what is held after a list stands in for the join
 held-stands : (marks : List ℕ) {xs : List (Exchange (List ℕ))} {join : List ℕ} → ByHistory (Book (marksOf marks)) [] xs join → StandIn (marksOf marks) join (keptBytes (marksOf marks) join)
-held-stands marks {join = join} t =
-    let ks : List ℕ = marksOf marks in
-    let h = held-after t (record { whole = refl; accepted = nothing-accepted ks }) in
-    selection-stands ks join (keptBytes ks join) (h .accepted) (kept-selection ks join)
+held-stands marks {join = join} t = selection-stands (marksOf marks) join (keptBytes (marksOf marks) join) (held-list marks t .accepted) (kept-selection (marksOf marks) join)
+
+-- it is in the place of the join for every text that may be asked of kept readings
+held-place : (marks : List ℕ) {xs : List (Exchange (List ℕ))} {join text : List ℕ} → ByHistory (Book (marksOf marks)) [] xs join → Askable marks text
+    → InPlace join (keptBytes (marksOf marks) join) text
+held-place marks {join = join} {text = text} t l =
+    let h = held-list marks t in
+    assured-place marks join (keptBytes (marksOf marks) join) (good-recorded join (h .good)) (h .accepted) (kept-selection (marksOf marks) join) text (assured-text marks text l)
 
 answers-beyond : (marks : List ℕ) {xs : List (Exchange (List ℕ))} {join text : List ℕ} → ByHistory (Book (marksOf marks)) [] xs join → Askable marks text → {room : ℕ} {o : Outcome Effect}
     → Right (question text) (keptBytes (marksOf marks) join) room o → RightBeyond (question text) join room o
 answers-beyond marks {join = join} {text = text} t l {room} r =
-    subst (RightBeyond (question text) join room) (sym (is-computed r)) (stood-right join (keptBytes (marksOf marks) join) text (in-place marks join (keptBytes (marksOf marks) join) text (held-stands marks t) l) room)
+    subst (RightBeyond (question text) join room) (sym (is-computed r)) (stood-right join (keptBytes (marksOf marks) join) text (held-place marks t l) room)
 
 -- its entry
 entry-told : (ks full held : List ℕ) → StandIn ks full held → (room : ℕ) → AsTable (drop 3 (refusals entry full room)) (entryOf held room)

@@ -19,15 +19,15 @@ returns c = let r = c .before .before .before .args .row in here (rowNamesB (r .
 between-requires : tie.Need-between-requires
 between-requires c κs = search needs
 
-is-mark-requires : tie.Need-is-mark-requires
-is-mark-requires c κs = search needs
+has-index-requires : tie.Need-has-index-requires
+has-index-requires c κs = search needs
 
 returns-2 : tie.Need-returns-2
 unfolding rowBarred
 returns-2 c =
     let r = c .before .before .before .before .before .before .args .row in
     past (rowNamesB (r .kind) (r .first)) _ (sym (c .before .before .before .before .names-b .ensures) ∙ c .before .before .before .if1 .left)
-    (chosen (within LOWAFTER CAPAFTER (r .kind)) _ _ (sym (c .before .before .between .ensures) ∙ c .before .if2 .taken) (ap not (c .is-mark .ensures)))
+    (chosen (within LOWAFTER CAPAFTER (r .kind)) _ _ (sym (c .before .before .between .ensures) ∙ c .before .if2 .taken) (ap not (c .has-index .ensures)))
 
 is-temporal-requires : tie.Need-is-temporal-requires
 is-temporal-requires c κs = search needs
@@ -40,4 +40,4 @@ returns-3 c =
     (other (within LOWAFTER CAPAFTER (r .kind)) _ _ (sym (c .before .before .between .ensures) ∙ c .before .if2 .left) (c .is-temporal .ensures))
 
 pub is-barred-spec : {M : Type 1} → statement M
-is-barred-spec = tie.close (tie.spec names-b-requires returns between-requires is-mark-requires returns-2 is-temporal-requires returns-3)
+is-barred-spec = tie.close (tie.spec names-b-requires returns between-requires has-index-requires returns-2 is-temporal-requires returns-3)

@@ -1,0 +1,4 @@
+pub mod Assured
+pub mod Call
+pub mod inner
+pub mod laws

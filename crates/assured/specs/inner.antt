@@ -1,0 +1,3 @@
+pub mod Test
+pub mod Traits
+pub mod Verdict

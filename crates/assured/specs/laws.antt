@@ -1,0 +1,12 @@
+pub mod Suffix
+pub mod Carried
+pub mod LeftOut
+pub mod FewRuns
+pub mod Even
+pub mod Firstly
+pub mod Same
+pub mod Test
+pub mod Traits
+pub mod Row
+pub mod Call
+pub mod Texts
