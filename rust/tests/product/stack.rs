@@ -82,8 +82,25 @@ fn texts() -> Vec<String> {
 /// Texts of one listed question or atom, as they are and in as many brackets as a text may have open.
 fn leaves() -> Vec<String> {
     let bare = [
-        "A=v", "T<5", "A>=B", "fall(A)", "rise(B)", "P=16", "high(A)", "low(B)", "lowafter(A,1)", "capafter(B,256)", "peaks(A)",
-        "dips(B)", "cross", "crossup", "dose(1)", "ampl(A)", "gaps(A)", "steps(B)", "lag",
+        "A=v",
+        "T<5",
+        "A>=B",
+        "fall(A)",
+        "rise(B)",
+        "P=16",
+        "high(A)",
+        "low(B)",
+        "lowafter(A,1)",
+        "capafter(B,256)",
+        "peaks(A)",
+        "dips(B)",
+        "cross",
+        "crossup",
+        "dose(1)",
+        "ampl(A)",
+        "gaps(A)",
+        "steps(B)",
+        "lag",
     ];
     let bracketed = |leaf: &str| {
         let open = 16 - usize::from(leaf.contains('('));
