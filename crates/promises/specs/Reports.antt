@@ -93,5 +93,5 @@ pub record Reports (m : Machine ReportCall) : Type 0 where
       → (room : ℕ) → m b″ (addBatch held) room ≡ m b″ (addBatch recording) room
   -- any bytes: which hold a report, what a refusal leaves, and by which numbers
   pub any-bytes : OfAnyBytes m IsNaming reportBytes 15
-  pub no-report-stays : (b g : List ℕ) (room : ℕ) → m b (addBatch g) room .outcome ≡ refused 15 0 → m b (addBatch g) room .state ≡ b
+  pub no-report-stays : (b g : List ℕ) (room p : ℕ) → m b (addBatch g) room .outcome ≡ refused 15 p → m b (addBatch g) room .state ≡ b
   pub listed : (b : List ℕ) (c : ReportCall) (room n p : ℕ) → m b c room .outcome ≡ refused n p → List·Memᴰ n (reportNumbers c)

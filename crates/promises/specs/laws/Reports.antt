@@ -451,18 +451,19 @@ any-ends b (startReport m) room n p e = name-ends m b n p e
 any-ends b (addBatch g) room n p e = add-ends b g n p e
 
 -- 15 leaves every byte
-fifteen-stays : (b g : List ℕ) (room : ℕ) → reportMachine b (addBatch g) room .outcome ≡ refused 15 0 → reportMachine b (addBatch g) room .state ≡ b
-fifteen-stays b g room e = of (additionIn b g) (in-fine b g) e
+fifteen-stays : (b g : List ℕ) (room p : ℕ) → reportMachine b (addBatch g) room .outcome ≡ refused 15 p
+    → reportMachine b (addBatch g) room .state ≡ b
+fifteen-stays b g room p e = of (additionIn b g) (in-fine b g) e
   where
     number : Outcome Effect → ℕ
     number (result x) = 0
     number (refused n p) = n
 
-    of : (a : Addition) → Fine a b → mapped shown (answerIn a) ≡ refused 15 0 → addAfter a b ≡ b
+    of : (a : Addition) → Fine a b → mapped shown (answerIn a) ≡ refused 15 p → addAfter a b ≡ b
     of none f q = refl
-    of (running.stopped n p) f q = let l = f .stopping .1 in let z : n ≡ 15 = ap number q in absurd (omega arith)
-    of (further r) f q = no-result 15 0 (effect 0 []) (sym q)
-    of (last r) f q = no-result 15 0 (shown (report.given (figuresIn r))) (sym q)
+    of (running.stopped n _) f q = let l = f .stopping .1 in let z : n ≡ 15 = ap number q in absurd (omega arith)
+    of (further r) f q = no-result 15 p (effect 0 []) (sym q)
+    of (last r) f q = no-result 15 p (shown (report.given (figuresIn r))) (sym q)
 
 -- the numbers
 pub judged-numbered : {R : Type 0} (ls : List Line) (r : R) (n p : ℕ) → judged ls r ≡ refused n p → List·Memᴰ n (map (λ (l : Line). l .number) ls)
