@@ -235,7 +235,7 @@ def assured(text: Text, marks: Marks = ()) -> bool:
     True
     """
     call, asked, packed = library.call("mill_assured"), text_bytes(text), mark_bytes(marks)
-    return result(run(call.free, call.stack, (asked, len(asked), packed, len(packed)))) == 1
+    return result(run(call.free, call.stack, (asked, len(asked), packed, len(packed)))) == header.ASSURED
 
 
 def version() -> str:
