@@ -4,9 +4,9 @@
 use Prim.Native.Nat.{ℕ, _*_, _≤_}
 use mathlib.Core.Path.{_≡_}
 use mathlib.Core.Logic.{_↔_}
-use mathlib.Core.List.{List, List·Memᴰ}
+use mathlib.Core.List.{List, [], List·Memᴰ}
 use lib.ListN.{length}
-use Rattle.refusal.specs.Outcome.{Outcome}
+use Rattle.refusal.specs.Outcome.{Outcome, result}
 use Rattle.recording.specs.Recording.{readings}
 use Rattle.grammar.specs.Bytes.{bytes}
 use Rattle.grammar.specs.Syntax.{Text}
@@ -17,7 +17,7 @@ use Rattle.marks.specs.Marks.{marksOf}
 use Rattle.thin.specs.Thin.{keptBytes}
 use Rattle.thin.specs.Selection.{Selection}
 use Rattle.promises.specs.Conditions.{recordingTable, textTable, ReadWith, Marked, LaboratoryText, NoneMet}
-use Rattle.promises.specs.Page.{Call, question, degree, pair, thin, band, order, entry, find, labQuestion, labDegree, labPair, assured, version, Effect, Right}
+use Rattle.promises.specs.Page.{Call, question, degree, pair, thin, band, order, entry, find, labQuestion, labDegree, labPair, assured, version, Effect, effect, refusals, Right}
 
 -- "A recording is accepted if none of 1 to 3 meets it"
 abbrev pub AcceptedRecording : List ℕ → Type 0
@@ -61,6 +61,10 @@ pub record KeptAsFull : Type 0 where
   -- the texts of demand 3, and those that a laboratory may ask, are assured
   pub demand-3 : (marks text : List ℕ) → AskedOfKept marks text → Askable marks text
   pub laboratory : (marks text : List ℕ) → ReadWith text (LaboratoryText (marksOf marks)) → Askable marks text
+  -- THE ASSURED CALL tells it: where it says 1, and nowhere else, the text may be asked of kept readings
+  pub said-assured : (marks text : List ℕ) {room : ℕ} → Right (assured marks) text room (result (effect 1 [])) → Askable marks text
+  pub says-assured : (marks text : List ℕ) {room : ℕ} → NoneMet (refusals (assured marks) text room) → Askable marks text
+      → Right (assured marks) text room (result (effect 1 []))
   -- the limit on kept readings (01, Papers 1, 3 and 5), of the bytes that thinning writes; "repeats are harmless", and so is the order of marks
   pub limit : (marks recording : List ℕ) → length (keptBytes (marksOf marks) recording) ≤ 16 * mostKept (marksOf marks) (readings recording)
   pub repeats : (marks marks′ recording : List ℕ) → ((k : ℕ) → List·Memᴰ k (marksOf marks) ↔ List·Memᴰ k (marksOf marks′))

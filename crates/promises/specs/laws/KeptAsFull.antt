@@ -6,7 +6,7 @@ use mathlib.Core.Bool.{Bool, true, false}
 use mathlib.Core.List.{List, [], _∷_, map}
 use lib.ListN.{length}
 use Rattle.number.specs.Axis.{whole}
-use Rattle.refusal.specs.Outcome.{NoneMeets, Outcome}
+use Rattle.refusal.specs.Outcome.{NoneMeets, Outcome, result, refused}
 use Rattle.recording.specs.Reading.{Reading, A, B}
 use Rattle.recording.specs.Condition.{pick}
 use Rattle.recording.specs.Recording.{concat, records, readings, Accepted}
@@ -24,23 +24,17 @@ use Rattle.thin.specs.laws.Selection.{kept-selection, selection-thinned}
 use Rattle.meaning.specs.Named.{Channel, SameChannel, Agreeing, agree-none, agree-more}
 use Rattle.meaning.specs.Named as named
 use Rattle.lab.specs.Lab.{labQuestionOf, labDegreeOf}
+use Rattle.assured.specs.Assured.{Assured}
 use mathlib.Core.Logic.{inl}
 use Rattle.promises.specs.laws.Assured.{AssuredText, assured-question, assured-degree, assured-band}
 use Rattle.promises.specs.laws.Nodes.{laboratory-text}
-use Rattle.promises.specs.laws.Page.{same-text}
 use Rattle.promises.specs.Conditions.{textTable, NoneMet}
-use Rattle.promises.specs.laws.Conditions.{AsTable, done, judged-told}
-use Rattle.promises.specs.Page.{Call, question, degree, pair, thin, band, order, entry, find, labQuestion, labDegree, labPair, assured, version, writing}
-use Rattle.promises.specs.laws.Computed.{ofValue, ofPair, ofBands, ofFinding, computed}
+use Rattle.promises.specs.laws.Conditions.{AsTable, done, judged-told, first-met}
+use Rattle.promises.specs.Page.{Call, question, degree, pair, thin, band, order, entry, find, labQuestion, labDegree, labPair, assured, version, Effect, effect, writing, refusals, is-assured, not-assured, Right, answers, refuses}
+use Rattle.promises.specs.laws.Computed.{ofValue, ofPair, ofBands, ofFinding, computed, right-computed}
 use Rattle.promises.specs.KeptAsFull.{AskedOfKept, Askable, OfKept, KeptAsFull}
 use Rattle.promises.specs.Secrecy.{Public, AllButB}
 use Rattle.promises.specs.inner.SameAnswers.{PlainlyRead, SameAnswers}
-use Prim.Native.Nat.{ℕ, suc, _*_, _≤_}
-use native.Mathlib.Omega.{arith}
-use mathlib.Core.Path.{_≡_, refl, ap}
-use mathlib.Core.Bool.{Bool, true, false}
-use mathlib.Core.List.{List, [], _∷_, map}
-use lib.ListN.{length}
 use Rattle.recording.specs.Condition.{Condition, pick, pickFrom, when, on}
 use Rattle.recording.specs.Recording.{concat, records, readings, reading}
 use Rattle.recording.specs.laws.Record.{length-concat}
@@ -58,7 +52,7 @@ use Rattle.promises.specs.laws.Acceptance.{accepted-lines, accepted-tabl
 use Rattle.promises.specs.laws.Rows.{agree-text}
 use Rattle.promises.specs.laws.Selected.{selected-as-full}
 use Rattle.promises.specs.laws.Secrecy.{same-question, same-degree, same-pair}
-use Rattle.promises.specs.laws.Page.{same-right}
+use Rattle.promises.specs.laws.Page.{same-text, same-right}
 use lib.Dec.{eqb}
 use borrow.Author.Tests.{eqb-true, eq-eqb}
 use mathlib.Core.Bool.{true, false≢true}
@@ -150,6 +144,24 @@ same-kept ks ks′ g h =
     ap (λ (ρ : Condition Reading). concat (pick (on reading ρ) (records g)))
     (rule-marks ks ks′ (λ k. same (isMark k ks) (isMark k ks′) (λ e. mark-member k ks′ .1 (h k .0 (mark-member k ks .0 e))) (λ e. mark-member k ks .1 (h k .1 (mark-member k ks′ .0 e)))))
 
+-- ---- what the assured call tells
+
+module _ (marks text : List ℕ) where
+  abbrev low : Outcome Effect → ℕ
+  low (result x) = x .low
+  low (refused n p) = 0
+
+  said : {room : ℕ} {o : Outcome Effect} → Right (assured marks) text room o → low o ≡ 1 → Askable marks text
+  said (answers n (is-assured {t = t} r a)) e = λ k u q. subst (Assured (marksOf marks)) (same-text text t u r q) a
+  said (answers n (not-assured r k)) e = let z : _≡_ {A = ℕ} 0 1 = e in absurd (omega arith)
+  said (refuses f) e = let z : _≡_ {A = ℕ} 0 1 = e in absurd (omega arith)
+
+  says : {room : ℕ} {o : Outcome Effect} → Right (assured marks) text room o → NoneMet (refusals (assured marks) text room) → Askable marks text
+      → Right (assured marks) text room (result (effect 1 []))
+  says (answers n (is-assured r a)) k l = answers n (is-assured r a)
+  says (answers n (not-assured {t = t} r other)) k l = absurd (other (l (k .0, (k .1 .0, (k .1 .1 .0, tt))) t r))
+  says {room} (refuses {n = n} {p = p} f) k l = absurd (first-met (refusals (assured marks) text room) n p f k)
+
 -- ---- KEPT AS FULL
 pub kept-as-full : KeptAsFull
 kept-as-full = record {
@@ -159,6 +171,8 @@ kept-as-full = record {
   selection-accepted = λ marks {recording} {held} a s. accepted-table held (selection-accepted (marksOf marks) recording held s (accepted-lines recording a));
   demand-3 = λ marks text l n t r. inl (asked-plain marks text l t r);
   laboratory = λ marks text m n t r. inl (subst (Plain (marksOf marks)) (same-text text (m .0) t (m .1) r) (laboratory-text (marksOf marks) (m .0) .1 (m .2) .plain));
+  said-assured = λ marks text {room} h. said marks text h refl;
+  says-assured = λ marks text {room} k l. says marks text (right-computed (assured marks) text room) k l;
   limit = λ marks recording. bytes-limit (marksOf marks) recording;
   repeats = λ marks marks′ recording h. same-kept (marksOf marks) (marksOf marks′) recording h;
 }
