@@ -794,12 +794,13 @@ uint64_t mill_live_entry(const uint8_t *live, size_t live_len, uint8_t *out, siz
 **
 ** 1. texts without F, G, X, U and W whose after-times are marks;
 ** 2. parts of these kinds, joined by |, & and !: F(P=k&..) and G(!P=k|..) with atoms in
-**    the dots; F, G, U and W over A>B, A<=B and parts of this line; F(fall(c)),
-**    F(rise(c)), G(!fall(c)), G(!rise(c));
+**    the dots, in brackets where | joins them; F, G, U and W over A>B, A<=B and parts of
+**    this line; F(fall(c)), F(rise(c)), G(!fall(c)), G(!rise(c));
 ** 3. parts of these kinds, joined by |, & and !: an atom by itself, which speaks of the
 **    first reading; F or G over one bound, c r v or c r n; F(T>k&c r v) and
 **    G(!(T>k)|c r v) with k a mark; F(G(atom)), which speaks of the last reading; parts
-**    of line 2 that do not write v, in which T>n may stand with & in F, !(T>n) with | in G.
+**    of line 2 that do not write v; where these are on additions or on A>B and A<=B, T>n
+**    may stand with & in F, !(T>n) with | in G.
 **
 ** And some more: crates/assured/specs/Assured.antt is the definition, docs/QUESTIONS.md has
 ** examples.

@@ -170,8 +170,8 @@ pub fn pair(recording: &[u8], curve: Curve, target: i64) -> Result<Option<Pair>,
 
 /// The kept readings of the recording under the marks, up to 8. [`Thinning`](crate::Thinning) does the same piece by piece.
 ///
-/// A question that has none of F, G, X, U and W, and whose after-times are among the marks, gets of them what it gets of the
-/// recording.
+/// A question that is [`assured`] under the marks gets of them what it gets of the recording: every one that has none of F, G,
+/// X, U and W and whose after-times are among the marks, and more.
 ///
 /// ```
 /// use mill::{question, thin};

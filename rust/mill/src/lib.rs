@@ -30,9 +30,8 @@
 //! | --- | --- |
 //! | ask a recording | [`question`], [`degree`], [`pair`], [`band`], [`order`] |
 //! | answer a buyer's laboratory | [`lab_question`], [`lab_degree`], [`lab_pair`] |
-//! | know whether kept readings answer a text as the recording did | [`assured`] |
 //! | keep the few readings that answer later | [`thin`]; piece by piece [`Thinning`]; reading by reading [`Live`] |
-//! | know whether kept readings answer a text as the recording did | [`assured`] |
+//! | know whether kept readings answer a text as the recording did; false promises nothing | [`assured`] |
 //! | put one question to a year of batches | [`Report`] |
 //! | find old recordings by a summary | [`entry`], [`find`], [`Entry`] |
 //!
