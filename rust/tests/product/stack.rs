@@ -221,6 +221,7 @@ fn jobs() -> Vec<Job> {
                 Job::Degree(recording.clone(), text.clone()),
                 Job::LabQuestion(recording.clone(), text.clone()),
                 Job::LabDegree(recording.clone(), text.clone()),
+                Job::Assured(text.clone()),
                 Job::ReportStart(text.clone()),
                 Job::ReportAdd(report_of(&text), recording.clone()),
                 Job::Band(recording.clone(), text),
