@@ -135,7 +135,8 @@ class Buffers(Refused):
 
     def test_released(self) -> None:
         """A recording that is released answers nothing any more, whatever it was made of; another over the same buffer does."""
-        for source in (RUN, bytearray(RUN), memoryview(RUN), list(mill.Recording(RUN)), mill.Recording(RUN), mill.Recording(bytearray(RUN))):
+        buffers: List[Any] = [RUN, bytearray(RUN), memoryview(RUN)]
+        for source in (*buffers, *map(mill.Recording, buffers), list(mill.Recording(RUN))):
             other = mill.Recording(source)
             with mill.Recording(source) as run:
                 each = iter(run)
@@ -172,7 +173,7 @@ class Buffers(Refused):
 
     def test_of_numpy(self) -> None:
         """NumPy says by a ValueError that an array does not lie in one piece; other ValueErrors stay."""
-        for said, kind in (("ndarray is not C-contiguous", BufferError), ("ndarray is not contiguous", BufferError), ("closed", ValueError)):
+        for said, kind in (("ndarray is not C-contiguous", BufferError), ("closed", ValueError)):
             with mock.patch.object(_arguments, "_get_buffer", side_effect=ValueError(said)):
                 self.says(kind, said, mill.question, bytearray(RUN), "peaks(A)")
 

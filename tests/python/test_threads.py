@@ -93,8 +93,8 @@ for _ in range(60):
 long = (time.perf_counter() - begun) / 60
 
 stopped = through = tried = 0
-until = time.perf_counter() + 2.5
-while time.perf_counter() < until:
+begun = time.perf_counter()
+while time.perf_counter() < begun + 1.5 or (stopped < 200 or through < 20) and time.perf_counter() < begun + 60:
     tried += 1
     call = calls[tried % len(calls)]
     try:
@@ -112,7 +112,7 @@ signal.signal(signal.SIGALRM, signal.SIG_IGN)
 every()
 with open("/proc/self/status") as status:
     assert "Threads:\\t1\\n" in status.read()
-print("done" if stopped > 100 and through > 10 else (stopped, through))
+print("done" if stopped >= 200 and through >= 20 else (stopped, through))
 """
 
 
