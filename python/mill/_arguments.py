@@ -115,21 +115,19 @@ def in_place(call: Call, before: Tuple[Any, ...], buffer: Any, name: str, after:
         buffer = buffer._buffer
     if type(buffer) is bytes:
         return run(call.free, call.stack, (*before, buffer, len(buffer), *after))
-    return run(_lending, call.stack, (call, before, buffer, name, after))
-
-
-def _lending(call: Call, before: Tuple[Any, ...], buffer: Any, name: str, after: Tuple[Any, ...]) -> int:
-    """Makes the call, here: the thread that makes it is the one that borrows the buffer, and that gives it back."""
     lent = _View()
     view = _byref(lent)
     try:
         _lend(buffer, name, view)
-        if lent.readonly:
-            return call.free(*before, lent.at, lent.length, *after)
-        if _has_lock():
-            return call.locked(*before, lent.at, lent.length, *after)
-        return call.free(*before, ctypes.string_at(lent.at, lent.length), lent.length, *after)
+        function, at = call.free, lent.at
+        if not lent.readonly:
+            if _has_lock():
+                function = call.locked
+            else:
+                at = ctypes.string_at(at, lent.length)
+        return run(function, call.stack, (*before, at, lent.length, *after))
     finally:
+        # Whatever was raised: a call that has begun is over, in whichever thread it was made.
         _release_buffer(view)
 
 

@@ -79,16 +79,20 @@ class _Here(threading.local):
     """What each thread notes of its stack. That of the program's first thread grows, and its limit may be lowered at any time: `top`, its
     end, is what the system counts from. It is 0 in the others, whose stacks stay as they are."""
 
+    high = 0  # nothing is told yet
+
     def __init__(self) -> None:
-        self.low, self.high = _bounds()
-        self.top = 0
-        if self.high and threading.get_native_id() == os.getpid():
-            self.top = _end_of_mapping(self.high - 1)
-            self.high = self.high if self.top else 0
         context = ctypes.create_string_buffer(_CONTEXT_BYTES)
         self.context = ctypes.addressof(context)
         # It keeps the context.
         self.pointer = ctypes.c_size_t.from_buffer(context, _POINTER_AT or 0)
+        self.low, high = _bounds()
+        self.top = 0
+        if high and threading.get_native_id() == os.getpid():
+            self.top = _end_of_mapping(high - 1)
+            high = high if self.top else 0
+        # Last, for a handler of a signal may make a call meanwhile.
+        self.high = high
 
 
 _here = _Here()
