@@ -4,7 +4,7 @@ A recording is bytes, 16 to a reading, in any object with the buffer protocol (b
 lies; `Recording` shows it as readings and makes one of them. Every call answers with its result or raises one numbered `Refusal`, for any
 bytes whatever; nothing needs to be tested first. What the calls answer is proved; that these functions hand it on is tested.
 
-In the examples `recording` is `run.rec`, eight readings.
+In the examples `recording` is what `crates/ask/data/run.rec` of the repository holds, eight readings.
 
 >>> tops = mill.question(recording, "peaks(A)")
 >>> 30 in tops, list(tops)
@@ -22,8 +22,8 @@ True
     find old recordings by a summary            entry, find, Entry
 
 Threads: the lock of the interpreter is given up during a call, so that calls of several threads run side by side; it is kept where the
-recording can be written through the object handed in (a bytearray, a writable array). No other thread may write a recording while a call
-reads it. `Report`, `Live` and `Thinning` let one call at a time work on them.
+recording can be written through the object handed in (a bytearray, a writable array), and an interpreter without a lock copies that one.
+No other thread may write a recording while a call reads it. `Report`, `Live` and `Thinning` let one call at a time work on them.
 """
 
 from ._calls import (

@@ -6,6 +6,7 @@ the library's refusal, in its order.
 
 import ctypes
 import sys
+from collections.abc import Mapping, Set
 from itertools import islice
 from operator import index
 from typing import TYPE_CHECKING, Any, Iterable, List, Tuple, Union
@@ -64,6 +65,8 @@ _get_buffer.argtypes = (ctypes.py_object, ctypes.c_void_p, ctypes.c_int)
 _release_buffer = ctypes.pythonapi.PyBuffer_Release
 _release_buffer.argtypes = (ctypes.c_void_p,)
 _release_buffer.restype = None
+# False in an interpreter that runs without its lock.
+_has_lock = getattr(sys, "_is_gil_enabled", lambda: True)
 
 
 class Lent:
@@ -91,7 +94,9 @@ def _lend(buffer: Any, name: str, view: Any) -> None:
         _get_buffer(_py_object(buffer), view, 0)
     except TypeError:
         raise TypeError(f"{name} must be bytes or another buffer, not {_kind(buffer)}") from None
-    except BufferError as error:
+    except (BufferError, ValueError) as error:
+        if isinstance(error, ValueError) and "contiguous" not in str(error):  # NumPy says that so
+            raise
         raise BufferError(f"{name} must lie in one piece: {error}") from None
 
 
@@ -103,7 +108,8 @@ def in_place(call: Call, before: Tuple[Any, ...], buffer: Any, name: str, after:
     """Makes a call that takes a buffer, where it lies, between other arguments.
 
     The lock of the interpreter is given up meanwhile, but for a buffer that can be written: another thread that wrote it during the
-    call could make the library go astray, for it looks at the readings once and then trusts them.
+    call could make the library go astray, for it looks at the readings once and then trusts them. Where the interpreter has no lock,
+    such a buffer is copied.
     """
     if isinstance(buffer, Holder):
         buffer = buffer._buffer
@@ -113,9 +119,15 @@ def in_place(call: Call, before: Tuple[Any, ...], buffer: Any, name: str, after:
     view = _byref(lent)
     try:
         _lend(buffer, name, view)
-        function = call.free if lent.readonly else call.locked
-        return run(function, call.stack, (*before, lent.at, lent.length, *after))
+        function, at = call.free, lent.at
+        if not lent.readonly:
+            if _has_lock():
+                function = call.locked
+            else:
+                at = ctypes.string_at(at, lent.length)
+        return run(function, call.stack, (*before, at, lent.length, *after))
     finally:
+        # Whatever was raised: a call that has begun is over, in whichever thread it was made.
         _release_buffer(view)
 
 
@@ -162,8 +174,19 @@ def _packed(value: Any) -> bool:
     return isinstance(value, (bytes, bytearray)) or isinstance(value, memoryview) and value.itemsize == 1
 
 
+def curve_number(curve: Any) -> int:
+    """The number of a curve."""
+    try:
+        return unsigned(curve, "curve", 32)
+    except TypeError:
+        raise TypeError(f"curve must be mill.Curve.A or mill.Curve.B, or its number, not {_kind(curve)}") from None
+
+
 def several(values: Any, name: str, wanted: str, most: int) -> List[Any]:
-    """The values of an iterable, and one more than there may be where there are more."""
+    """The values of an iterable, and one more than there may be where there are more. A text or a mapping is not meant, though it has
+    some, or none."""
+    if isinstance(values, (str, Mapping)):
+        raise TypeError(f"{name} must be {wanted}, not {_kind(values)}")
     try:
         each = iter(values)
     except TypeError:
@@ -191,6 +214,8 @@ def sheet_bytes(sheet: Any) -> bytes:
 
 def _line(line: Any) -> bytes:
     try:
+        if isinstance(line, (Mapping, Set)):  # which has no earlier and later
+            raise TypeError
         earlier, later = line
     except (NotImplementedError, TypeError, ValueError):
         raise TypeError("a line of a sheet must be two pigments, the earlier and the later") from None

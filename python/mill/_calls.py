@@ -5,7 +5,7 @@ from enum import IntEnum
 from typing import NamedTuple, Optional
 
 from . import _header as header
-from ._arguments import Buffer, Marks, Sheet, Text, in_place, mark_bytes, sheet_bytes, signed, text_bytes, unsigned
+from ._arguments import Buffer, Marks, Sheet, Text, curve_number, in_place, mark_bytes, sheet_bytes, signed, text_bytes
 from ._library import library
 from ._outputs import Out32, OutDouble, OutSigned32, SetRoom, thinned_room, written
 from ._refusal import result
@@ -133,7 +133,7 @@ def pair(recording: Buffer, curve: int, target: int) -> Optional[Pair]:
     >>> mill.pair(recording, mill.Curve.A, 41) is None
     True
     """
-    number, wanted, earlier, later = unsigned(curve, "curve", 32), signed(target, "target", 64), Out32(), Out32()
+    number, wanted, earlier, later = curve_number(curve), signed(target, "target", 64), Out32(), Out32()
     found = result(in_place(_PAIR, (), recording, "recording", (number, wanted, _byref(earlier), _byref(later))))
     return Pair(earlier.value, later.value) if found == header.PAIR else None
 
@@ -221,7 +221,7 @@ def lab_pair(recording: Buffer, curve: int, target: int) -> Optional[Pair]:
     >>> mill.lab_pair(recording, mill.Curve.A, 40)
     Pair(earlier=30, later=70)
     """
-    number, wanted, earlier, later = unsigned(curve, "curve", 32), signed(target, "target", 64), Out32(), Out32()
+    number, wanted, earlier, later = curve_number(curve), signed(target, "target", 64), Out32(), Out32()
     found = result(in_place(_LAB_PAIR, (), recording, "recording", (number, wanted, _byref(earlier), _byref(later))))
     return Pair(earlier.value, later.value) if found == header.PAIR else None
 

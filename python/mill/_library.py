@@ -49,6 +49,9 @@ class LibraryError(ImportError):
     True
     """
 
+    # Here, for it is raised where the package can't be imported.
+    __module__ = "mill"
+
 
 class Call(NamedTuple):
     """A call of the library, without and with the lock of the interpreter, and the stack with which it does."""

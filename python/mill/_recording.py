@@ -29,6 +29,10 @@ class Slope(IntEnum):
 
 _SLOPES = tuple(Slope)
 
+# What a recording lies over when it is released.
+_RELEASED = memoryview(b"")
+_RELEASED.release()
+
 
 class Reading(NamedTuple):
     """One reading: its time in tenths of a second, 0 to 2,000,000,000; the batch and the master, -1,000,000,000 to 1,000,000,000; what
@@ -87,9 +91,9 @@ def packed(reading: Reading) -> bytes:
     )
 
 
-def judge(recording: Any) -> None:
+def judge(recording: Any, name: str = "recording") -> None:
     """Raises the refusal of bytes that are no recording; one without a reading is none too."""
-    returned = in_place(_ORDER, (), recording, "recording", (None, 0, ctypes.byref(Out32()), ctypes.byref(Out32())))
+    returned = in_place(_ORDER, (), recording, name, (None, 0, ctypes.byref(Out32()), ctypes.byref(Out32())))
     if returned >> 32 not in (0, header.NO_RECORD):
         raise Refusal(returned >> 32, returned & 0xFFFFFFFF)
 
@@ -133,15 +137,23 @@ class Recording(Holder, Sequence[Reading]):
         return bytes(self._buffer) if isinstance(self._buffer, bytes) else copied(self._buffer, "recording", self._length())
 
     def release(self) -> None:
-        """Lets go of the buffer. After this the recording can't be asked any more: ValueError.
+        """Lets go of the buffer. After this the recording can't be asked any more: ValueError. Leaving a `with` releases it too.
+
+        While a call of another thread reads the buffer it can't be let go: BufferError.
 
         >>> buffer = bytearray(recording)
         >>> with mill.Recording(buffer) as run:
         ...     kept = mill.thin(run)
         >>> buffer.clear()
+        >>> try:
+        ...     len(run)
+        ... except ValueError:
+        ...     print(run)
+        <mill.Recording released>
         """
         if isinstance(self._buffer, memoryview):
             self._buffer.release()
+        self._buffer = _RELEASED
 
     def _length(self) -> int:
         with Lent(self, "recording") as view:
@@ -163,8 +175,9 @@ class Recording(Holder, Sequence[Reading]):
         return _reading(_READING.unpack_from(self._buffer, place * header.RECORD_BYTES), place)
 
     def __iter__(self) -> Iterator[Reading]:
-        for place, numbers in enumerate(_READING.iter_unpack(self._buffer)):
-            yield _reading(numbers, place)
+        # Reading by reading, so that the recording may be released meanwhile.
+        for place in range(len(self)):
+            yield _reading(_READING.unpack_from(self._buffer, place * header.RECORD_BYTES), place)
 
     def __eq__(self, other: object) -> bool:
         return isinstance(other, Recording) and self.to_bytes() == other.to_bytes()
@@ -182,7 +195,7 @@ class Recording(Holder, Sequence[Reading]):
         return memoryview(self._buffer)
 
     def __repr__(self) -> str:
-        return f"<mill.Recording of {len(self)} readings>"
+        return "<mill.Recording released>" if self._buffer is _RELEASED else f"<mill.Recording of {len(self)} readings>"
 
     def __reduce__(self) -> Tuple[Any, Tuple[bytes]]:
         return Recording, (self.to_bytes(),)

@@ -8,8 +8,11 @@ runs in a thread of its own.
 import ctypes
 import os
 import platform
+import resource
 import threading
-from typing import Any, Callable, List, Optional, Tuple
+from functools import partial
+from itertools import count
+from typing import Any, Callable, Dict, Optional, Tuple
 
 # What the interpreter and a signal take between the look and the call; and the stack of a thread of its own.
 _RESERVE = 32768
@@ -23,7 +26,7 @@ _ATTRIBUTE_BYTES = 512
 
 # Short calls keep the lock of the interpreter; a wait gives it up.
 _short, _waiting = ctypes.PyDLL(None), ctypes.CDLL(None)
-_START = ctypes.CFUNCTYPE(ctypes.c_void_p, ctypes.c_void_p)
+_START = ctypes.CFUNCTYPE(None, ctypes.c_size_t)
 
 
 def _declared(name: str, result: Any, *parameters: Any, of: Any = _short) -> Any:
@@ -42,7 +45,7 @@ _stack_of = _declared("pthread_attr_getstack", ctypes.c_int, ctypes.c_void_p, ct
 _init = _declared("pthread_attr_init", ctypes.c_int, ctypes.c_void_p)
 _set_size = _declared("pthread_attr_setstacksize", ctypes.c_int, ctypes.c_void_p, ctypes.c_size_t)
 _destroy = _declared("pthread_attr_destroy", ctypes.c_int, ctypes.c_void_p)
-_create = _declared("pthread_create", ctypes.c_int, ctypes.c_void_p, ctypes.c_void_p, _START, ctypes.c_void_p)
+_create = _declared("pthread_create", ctypes.c_int, ctypes.c_void_p, ctypes.c_void_p, _START, ctypes.c_size_t)
 _join = _declared("pthread_join", ctypes.c_int, ctypes.c_ulong, ctypes.c_void_p, of=_waiting)
 
 
@@ -59,18 +62,41 @@ def _bounds() -> Tuple[int, int]:
     return (low.value, low.value + size.value) if told else (0, 0)
 
 
+def _end_of_mapping(address: int) -> int:
+    """Where the memory ends that the system has mapped at this address; 0 where it does not tell."""
+    try:
+        with open("/proc/self/maps", encoding="ascii", errors="replace") as maps:
+            for line in maps:
+                first, last = (int(end, 16) for end in line.split(" ", 1)[0].split("-"))
+                if first <= address < last:
+                    return last
+    except (OSError, ValueError):
+        pass
+    return 0
+
+
 class _Here(threading.local):
-    """What each thread notes of its stack."""
+    """What each thread notes of its stack. That of the program's first thread grows, and its limit may be lowered at any time: `top`, its
+    end, is what the system counts from. It is 0 in the others, whose stacks stay as they are."""
+
+    high = 0  # nothing is told yet
 
     def __init__(self) -> None:
-        self.low, self.high = _bounds()
         context = ctypes.create_string_buffer(_CONTEXT_BYTES)
         self.context = ctypes.addressof(context)
         # It keeps the context.
         self.pointer = ctypes.c_size_t.from_buffer(context, _POINTER_AT or 0)
+        self.low, high = _bounds()
+        self.top = 0
+        if high and threading.get_native_id() == os.getpid():
+            self.top = _end_of_mapping(high - 1)
+            high = high if self.top else 0
+        # Last, for a handler of a signal may make a call meanwhile.
+        self.high = high
 
 
 _here = _Here()
+_limits, _LIMIT = resource.getrlimit, resource.RLIMIT_STACK
 
 
 def left() -> int:
@@ -80,7 +106,14 @@ def left() -> int:
         return -1
     _getcontext(here.context)
     pointer: int = here.pointer.value
-    return pointer - here.low if pointer <= here.high else -1
+    if pointer > here.high:
+        return -1
+    low: int = here.low
+    if here.top:
+        limit, _ = _limits(_LIMIT)
+        if 0 <= limit < here.top - low:  # negative where there is none
+            low = here.top - limit
+    return pointer - low
 
 
 def run(function: Callable[..., int], stack: int, arguments: Tuple[Any, ...]) -> int:
@@ -88,26 +121,66 @@ def run(function: Callable[..., int], stack: int, arguments: Tuple[Any, ...]) ->
     return function(*arguments) if left() >= stack + _RESERVE else _in_a_thread(function, arguments)
 
 
+class _Job:
+    """A call that a thread of its own makes, and how it ended."""
+
+    __slots__ = ("arguments", "failed", "function", "returned")
+
+    def __init__(self, function: Callable[..., int], arguments: Tuple[Any, ...]) -> None:
+        self.function, self.arguments = function, arguments
+        self.returned: Optional[int] = None
+        self.failed: Optional[BaseException] = None
+
+
+# The jobs under way, by their numbers.
+_jobs: Dict[int, _Job] = {}
+_numbers = count(1)
+
+
+def _work(number: int) -> None:
+    """What a thread of its own does. It holds the job itself, and so all that the call reads and writes, until it is done."""
+    job = _jobs[number]
+    try:
+        job.returned = job.function(*job.arguments)
+    except BaseException as error:  # handed on to the thread that waits
+        job.failed = error
+
+
+# One for all threads; it is never freed, not even when the interpreter ends, for a thread may be about to enter it.
+_start = _START(_work)
+ctypes.pythonapi.Py_IncRef(ctypes.py_object(_start))
+_called = partial.__call__
+
+
 def _in_a_thread(function: Callable[..., int], arguments: Tuple[Any, ...]) -> int:
     """The call in a thread of the C library, with a stack of its own: `threading.stack_size` would touch the threads of others."""
-    returned: List[int] = []
-    failed: List[BaseException] = []
-
-    def work(_: Optional[int]) -> None:
-        try:
-            returned.append(function(*arguments))
-        except BaseException as error:  # handed on to the thread that waits
-            failed.append(error)
-
-    start = _START(work)
-    attributes = ctypes.create_string_buffer(_ATTRIBUTE_BYTES)
-    thread = ctypes.c_ulong()
-    _init(attributes)
-    status = _set_size(attributes, _OWN) or _create(ctypes.byref(thread), attributes, start, None)
-    _destroy(attributes)
+    job, number = _Job(function, arguments), next(_numbers)
+    _jobs[number] = job
+    try:
+        status = _to_the_end(number)
+    finally:
+        del _jobs[number]
     if status != 0:
         raise MemoryError(f"this thread has too small a stack for the call, and no other can be started: {os.strerror(status)}")
-    _join(thread, None)
-    if failed:
-        raise failed[0]
-    return returned[0]
+    if job.failed is not None:
+        raise job.failed
+    if job.returned is None:
+        raise MemoryError("the call could not be made in a thread of its own")
+    return job.returned
+
+
+def _to_the_end(number: int) -> int:
+    """Starts a thread with this job and waits until it is over; what the C library says where it can't be started, else 0."""
+    attributes, thread = ctypes.create_string_buffer(_ATTRIBUTE_BYTES), ctypes.c_ulong()
+    _init(attributes)
+    # A handler of a signal (Ctrl-C) may raise between any two steps of Python, and this must not be left while the thread runs. So
+    # these steps are taken within one: filter asks map for one status after the other, up to the first that is not 0, and calls
+    # nothing but C. A handler waits until the thread is over.
+    steps = (
+        partial(_set_size, attributes, _OWN),
+        partial(_create, ctypes.byref(thread), attributes, _start, number),
+        partial(_join, thread, None),
+    )
+    status: int = next(filter(None, map(_called, steps)), 0)
+    _destroy(attributes)
+    return status

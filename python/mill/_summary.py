@@ -4,7 +4,7 @@ import struct
 from typing import Any, Iterable, List, NamedTuple, Union
 
 from . import _header as header
-from ._arguments import Buffer, copied, in_place, several, signed, unsigned, whole
+from ._arguments import Buffer, copied, curve_number, in_place, several, signed, whole
 from ._library import library
 from ._outputs import EntryRoom, FoundRoom, written
 from ._refusal import result
@@ -44,7 +44,7 @@ class Entry(NamedTuple):
 
     @classmethod
     def from_bytes(cls, entry: Buffer) -> "Entry":
-        """The entry of these bytes: any 32 are one.
+        """The entry of these bytes: any 32 are one. Fewer or more raise ValueError.
 
         >>> entry = mill.entry(recording)
         >>> mill.Entry.from_bytes(entry.to_bytes()) == entry
@@ -78,7 +78,7 @@ def find(entries: Union[Buffer, Iterable[Entry]], curve: int, level: int) -> Lis
     >>> mill.find(b"".join(entry.to_bytes() for entry in summary), mill.Curve.A, 60)
     [0, 1]
     """
-    number, least, out = unsigned(curve, "curve", 32), signed(level, "level", 64), FoundRoom()
+    number, least, out = curve_number(curve), signed(level, "level", 64), FoundRoom()
     returned = in_place(_FIND, (), _entries(entries), "entries", (number, least, out, header.FOUND_BYTES))
     return [found for (found,) in struct.iter_unpack("<I", written(out, returned))]
 

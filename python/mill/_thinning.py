@@ -33,7 +33,7 @@ class Thinning:
     __slots__ = ("_held", "_lock", "_marks")
 
     def __init__(self, marks: Marks = (), held: Buffer = b"") -> None:
-        judge(held)
+        judge(held, "held")
         self._marks = mark_bytes(marks)
         thin(b"", self._marks)
         self._held = copied(held, "held", header.MAX_RECORDS * _BYTES)

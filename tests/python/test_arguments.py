@@ -10,9 +10,12 @@ import copy
 import tempfile
 import tracemalloc
 import unittest
-from typing import Any, Callable
+from types import MappingProxyType
+from typing import Any, Callable, List
+from unittest import mock
 
 import mill
+from mill import _arguments
 from support import BATCH, RUN
 
 try:
@@ -92,8 +95,8 @@ class Buffers(Refused):
             self.assertEqual(mill.Recording(kind), mill.Recording(RUN))
             self.assertEqual(list(mill.Recording(kind)), list(mill.Recording(RUN)))
         for scattered in (table[::2], flat.reshape(8, 16).T):
-            self.says((BufferError, ValueError), "contiguous", mill.question, scattered, "peaks(A)")
-            self.says((BufferError, ValueError), "contiguous", mill.Recording, scattered)
+            self.says(BufferError, "contiguous", mill.question, scattered, "peaks(A)")
+            self.says(BufferError, "contiguous", mill.Recording, scattered)
         self.assertEqual(mill.thin(RUN, numpy.array([40])), mill.thin(RUN, [40]), "marks are numbers, whatever their width")
         self.assertEqual(mill.thin(RUN, numpy.array([40], "u1")), mill.thin(RUN, [40]))
         self.assertTrue(mill.degree(RUN, "peaks(A)", numpy.int64(30)).met)
@@ -129,6 +132,50 @@ class Buffers(Refused):
         self.says(ValueError, "released", run.__getitem__, 0)
         self.says(ValueError, "released", mill.question, run, "peaks(A)")
         self.says(ValueError, "released", len, run)
+
+    def test_released(self) -> None:
+        """A recording that is released answers nothing any more, whatever it was made of; another over the same buffer does."""
+        buffers: List[Any] = [RUN, bytearray(RUN), memoryview(RUN)]
+        for source in (*buffers, *map(mill.Recording, buffers), list(mill.Recording(RUN))):
+            other = mill.Recording(source)
+            with mill.Recording(source) as run:
+                each = iter(run)
+                next(each)
+            run.release()
+            for call in (len, list, mill.Recording.to_bytes, hash, mill.entry, mill.thin, mill.Recording, pickle.dumps, reversed):
+                self.says(ValueError, "released", lambda what, call=call: list(call(what)), run)  # type: ignore[misc]
+            self.says(ValueError, "released", run.__getitem__, 0)
+            self.says(ValueError, "released", next, each)
+            self.assertEqual(repr(run), "<mill.Recording released>")
+            self.assertEqual(other, mill.Recording(RUN))
+
+    def test_without_a_lock(self) -> None:
+        """Where the interpreter has no lock, the library reads a copy of what can be written, and what can't in place."""
+        places: List[Any] = []
+
+        def noted(*arguments: Any) -> int:
+            places.append(arguments[0])
+            return 0
+
+        written = bytearray(RUN)
+        view = memoryview(RUN)
+        call = _arguments.Call(noted, noted, 4096)
+        with mock.patch.object(_arguments, "_has_lock", lambda: False):
+            _arguments.in_place(call, (), written, "recording", ())
+            _arguments.in_place(call, (), view, "recording", ())
+            self.assertEqual(mill.question(written, "peaks(A)"), TOPS)
+            self.assertEqual(mill.thin(mill.Recording(written)), mill.thin(RUN))
+            self.refused(4, mill.entry, bytearray())
+        _arguments.in_place(call, (), written, "recording", ())
+        lies = [ctypes.addressof(ctypes.c_char.from_buffer(written)), ctypes.cast(RUN, ctypes.c_void_p).value]
+        self.assertEqual(places, [RUN, lies[1], lies[0]])
+        self.assertIs(type(places[0]), bytes)
+
+    def test_of_numpy(self) -> None:
+        """NumPy says by a ValueError that an array does not lie in one piece; other ValueErrors stay."""
+        for said, kind in (("ndarray is not C-contiguous", BufferError), ("closed", ValueError)):
+            with mock.patch.object(_arguments, "_get_buffer", side_effect=ValueError(said)):
+                self.says(kind, said, mill.question, bytearray(RUN), "peaks(A)")
 
     def test_closed_and_scattered(self) -> None:
         released = memoryview(RUN)
@@ -170,7 +217,8 @@ class Buffers(Refused):
         for wrong in (None, 5.0, "5", b"5", object(), [5], float("nan")):
             name = type(wrong).__name__
             self.says(TypeError, f"target must be a whole number, not {name}", mill.degree, RUN, "lag", wrong)
-            self.says(TypeError, f"curve must be a whole number, not {name}", mill.pair, RUN, wrong, 5)
+            for call in (mill.pair, mill.lab_pair, mill.find):
+                self.says(TypeError, f"curve must be mill.Curve.A or mill.Curve.B, or its number, not {name}", call, RUN, wrong, 5)
             self.says(TypeError, f"e must be a whole number, not {name}", mill.band, RUN, "high(A)", wrong)
             self.says(TypeError, f"count must be a whole number, not {name}", mill.Report, wrong, "lag", 5)
             self.says(TypeError, f"name must be a whole number, not {name}", mill.Live().save, wrong)
@@ -188,7 +236,19 @@ class Buffers(Refused):
         self.says(TypeError, "a reading must be a Reading, not tuple", mill.Recording, [(0, 1, 2)])
         self.says(TypeError, "an entry must be an Entry, not int", mill.find, [5], 0, 0)
         self.says(TypeError, "time must be a whole number, not str", mill.Recording, [mill.Reading("0", 1, 2)])  # type: ignore[arg-type]
+        self.says(TypeError, "held must be bytes or another buffer, not str", mill.Thinning, [5], "x")
 
+    def test_texts_and_mappings(self) -> None:
+        """Where several values are wanted, a text or a mapping is not meant, though it has some, or none."""
+        for wrong in ("", "12", {}, {1: 2}, {(1, 2): 3}, MappingProxyType({}), type("S", (str,), {})()):
+            name = type(wrong).__name__
+            for call in (mill.Live, mill.Thinning, lambda marks: mill.thin(RUN, marks), lambda marks: mill.lab_question(RUN, marks, "lag")):
+                self.says(TypeError, f"marks must be whole numbers or bytes, not {name}", call, wrong)
+            self.says(TypeError, f"sheet must be pairs of pigments or bytes, not {name}", mill.order, RUN, wrong)
+            self.says(TypeError, f"entries must be a buffer or entries, not {name}", mill.find, wrong, 0, 0)
+            self.says(TypeError, f"a recording must be bytes, another buffer or readings, not {name}", mill.Recording, wrong)
+        for line in ({1: 2, 3: 4}, {1, 2}, frozenset((1, 2))):
+            self.says(TypeError, "a line of a sheet must be two pigments", mill.order, RUN, [line])
 
     def test_of_ctypes(self) -> None:
         """What ctypes itself would unpack is taken for what it is, a buffer, and never followed."""

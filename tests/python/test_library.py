@@ -59,7 +59,7 @@ class Found(unittest.TestCase):
     def not_found(self, lines: List[str], **changed: Any) -> None:
         said = self.python(LOADED, **changed)
         self.assertEqual(said.returncode, 1)
-        last = said.stderr[said.stderr.index("LibraryError: ") :]
+        last = said.stderr[said.stderr.index("\nmill.LibraryError: ") + 1 :]
         told = last.splitlines()
         self.assertIn(f"the shared object {NAME} of the library mill is not found. Tried were", told[0])
         self.assertEqual(len(told), len(lines) + 2, last)

@@ -1,8 +1,10 @@
 """Covers: that the lock of the interpreter is given up during a call, and kept where the recording could be written; that every call
-runs on threads with small stacks, and where little stack is left; that a report, a run and a thinning may be shared by threads."""
+runs on threads with small stacks, where little stack is left, under a limit that is lowered meanwhile, and interrupted by signals; that a
+report, a run and a thinning may be shared by threads."""
 
 import os
 import random
+import resource
 import subprocess
 import sys
 import threading
@@ -65,6 +67,52 @@ done = []
 def counted():
     every()
     done.append(1)
+"""
+
+SIGNALS = """
+import faulthandler, signal, time
+from mill import _stack
+faulthandler.enable()
+assert _stack.left() < 229376, "each question runs in a thread of its own"
+signal.signal(signal.SIGALRM, signal.default_int_handler)
+TOPS = mill.question(RUN, "peaks(A)")
+buffer, report, run = bytearray(RUN), mill.Report(1000, "peaks(A)", 30), mill.Live()
+calls = [
+    lambda: mill.question(RUN, "peaks(A)") == TOPS,
+    lambda: mill.question(buffer, "peaks(A)") == TOPS,
+    lambda: mill.question(memoryview(RUN), "peaks(A)") == TOPS,
+    lambda: mill.degree(mill.Recording(buffer), "peaks(A)", 30).met,
+    lambda: report.copy().add(buffer) is None,
+    lambda: report.copy().add(RUN) is None,
+]
+
+# How long one call takes; the signals strike before it, within it and behind it.
+begun = time.perf_counter()
+for _ in range(60):
+    assert calls[_ % len(calls)]()
+long = (time.perf_counter() - begun) / 60
+
+stopped = through = tried = 0
+begun = time.perf_counter()
+while time.perf_counter() < begun + 1.5 or (stopped < 200 or through < 20) and time.perf_counter() < begun + 60:
+    tried += 1
+    call = calls[tried % len(calls)]
+    try:
+        signal.setitimer(signal.ITIMER_REAL, 0.000005 + long * 2 * (tried % 211) / 211)
+        assert call()
+        assert call()
+        signal.setitimer(signal.ITIMER_REAL, 0)
+        through += 1
+    except KeyboardInterrupt:
+        stopped += 1
+    assert not _stack._jobs
+    buffer.append(1)  # nothing holds it
+    buffer.pop()
+signal.signal(signal.SIGALRM, signal.SIG_IGN)
+every()
+with open("/proc/self/status") as status:
+    assert "Threads:\\t1\\n" in status.read()
+print("done" if stopped >= 200 and through >= 20 else (stopped, through))
 """
 
 
@@ -180,11 +228,36 @@ print("done" if done and 60000 < least[0] <= 120000 else (done, least))
 
     def test_main_thread(self) -> None:
         """With a limit on the stack of the whole program."""
-        import resource
-
         for size in (160, 256, 512):
             limit = lambda: resource.setrlimit(resource.RLIMIT_STACK, (size * 1024, size * 1024))  # noqa: E731
             self.runs("every()\nprint('done')\n", preexec_fn=limit)
+
+    def test_limit_lowered(self) -> None:
+        """With a limit on the stack that is lowered after the package was imported, and raised again; with much or little that the
+        system put at its end, which counts as well."""
+        body = """
+import resource
+from mill import _stack
+hard = resource.getrlimit(resource.RLIMIT_STACK)[1]
+begun = _stack.left()
+every()
+for size in (1500, 1250, 1200, 1150, 1100, 1000, 512, 256, 230, 200, 64, 0):
+    resource.setrlimit(resource.RLIMIT_STACK, (size * 1024, hard))
+    assert _stack.left() <= size * 1024 - taken
+    every()
+resource.setrlimit(resource.RLIMIT_STACK, (hard, hard))
+assert abs(_stack.left() - begun) < 65536, (_stack.left(), begun)
+print("done")
+"""
+        for strings in (0, 10):
+            more = {f"MILL_LONG_{number}": "x" * 100000 for number in range(strings)}
+            self.runs(f"taken = {strings * 100000}" + body, env=support.environment(**more))
+
+    def test_signals(self) -> None:
+        """A handler that raises, as that of Ctrl-C does, strikes while calls run in threads of their own: at any step the call is
+        over by then, the buffer is given back, and what was under way is no more. What goes on from there answers as ever."""
+        limit = lambda: resource.setrlimit(resource.RLIMIT_STACK, (200 * 1024, 200 * 1024))  # noqa: E731
+        self.runs(SIGNALS, preexec_fn=limit)
 
     def test_not_told(self) -> None:
         """Where the stack can't be told, every call runs in a thread of its own."""
@@ -200,7 +273,7 @@ _stack._OWN = 1 << 62
 try:
     mill.question(RUN, "lag")
 except MemoryError as error:
-    assert "too small a stack" in str(error), error
+    assert "too small a stack" in str(error) and not _stack._jobs, error
     print("done")
 """
         )
