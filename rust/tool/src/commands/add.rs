@@ -2,9 +2,9 @@
 
 use super::Command;
 use crate::arguments::Arguments;
-use crate::input;
 use crate::options::Opt;
 use crate::output::Answer;
+use crate::source;
 use crate::store::can_be_kept;
 use crate::take::take;
 use crate::trouble::Trouble;
@@ -32,6 +32,6 @@ fn run(arguments: &Arguments) -> Result<Answer, Trouble> {
     let (kept, piece) = (Path::new(kept), Path::new(piece));
     can_be_kept("add", "KEPT", kept)?;
     // Before the lock, for it may be slow to come.
-    let bytes = input::whole(piece)?;
-    take(arguments, kept, piece, &bytes)
+    let source = source::long(piece)?;
+    take(arguments, kept, piece, source)
 }

@@ -7,6 +7,7 @@ use crate::layout::Layout;
 use crate::options::Opt;
 use crate::output::{made, may_write, save, Answer};
 use crate::replace::named_beside;
+use crate::source::{Kept, Source};
 use crate::store::can_be_kept;
 use crate::take::take;
 use crate::trouble::{shown, Trouble};
@@ -63,7 +64,7 @@ fn run(arguments: &Arguments) -> Result<Answer, Trouble> {
     let let_be = (!table.let_be.is_empty()).then(|| format!("mill: {}: columns let be: {}", shown(file), named(&table.let_be)));
     let recording = mill::encode(&table.readings);
     let answer = match (into, &arguments.output) {
-        (Some(tin), _) => take(arguments, tin, file, &recording),
+        (Some(tin), _) => take(arguments, tin, file, Source { readings: recording, kept: Kept::Unknown }),
         (None, Some(name)) if arguments.has(Opt::Pieces) => pieces(arguments, name, &recording),
         _ => one(arguments, file, table.readings, recording),
     };
