@@ -21,7 +21,8 @@ same or be left out. KEPT is one file; readings with KEPT.marks beside them, as
 they were kept before, become a tin. If the machine stops, KEPT is what it was or
 what it was to be. Of several at once each waits for the one before it, by a lock
 on KEPT.lock. A piece that is refused is not taken at all, and its place counts
-the readings of the piece from 0. Pinned readings are dropped.
+the readings of the piece from 0. Kept readings, a tin or such a pair, can only
+begin KEPT. Pinned readings are dropped.
 ",
     takes: &[Opt::Mark],
     run,

@@ -2,12 +2,12 @@
 
 use super::Command;
 use crate::arguments::{self, Arguments};
-use crate::json;
 use crate::output::Answer;
 use crate::source::{self, Kept, Source};
 use crate::store::{can_be_kept, Store};
 use crate::tin::Tin;
 use crate::trouble::{shown, Trouble};
+use crate::{json, noise};
 use mill::sys::{MILL_MAX_RECORDS, MILL_RECORD_BYTES};
 use mill::{Reading, Thinning};
 use std::collections::BTreeSet;
@@ -40,14 +40,15 @@ fn run(arguments: &Arguments) -> Result<Answer, Trouble> {
     let before = store.tin(&[])?;
     let pinned = pinned(kept, full, &before, &bytes, &times)?;
     store.put(&pinned)?;
+    let notes = noise::of_tin(kept, &pinned);
     let [pins, held] = [pinned.pins as usize, pinned.held()];
     if arguments.json {
         let mut object = json::Object::new();
         object.number("pinned", pins);
         object.number("held", held);
-        return Ok(Answer::text(object.line()));
+        return Ok(Answer::text(object.line()).noting(notes));
     }
-    Ok(Answer::text(format!("pinned {pins}\nheld   {held}\n")))
+    Ok(Answer::text(format!("pinned {pins}\nheld   {held}\n")).noting(notes))
 }
 
 /// The bytes of a recording that is not known to lack readings.
