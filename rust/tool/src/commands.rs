@@ -66,6 +66,8 @@ Exit status: 0 an answer, 1 a refusal (its number, its place and a sentence),
 2 a command line that is not understood, or trouble with a file.
 ";
 
+const NOTHING: &str = "With --exit-code it is 3 where nothing is found, met or fits.\n";
+
 /// What `mill --help` prints.
 pub fn overview() -> String {
     let mut page = "Usage: mill COMMAND ..\n\nQuestions about recordings of bead mills, and their keeping.\n\n".to_string();
@@ -77,7 +79,7 @@ pub fn overview() -> String {
     let (last, first) = pages.split_last().map_or(("", &pages[..0]), |(last, first)| (last.as_str(), first));
     page.push_str(&format!("There are pages too: {}\nand {last}.\n", first.join(", ")));
     page.push_str("Every command takes --json. 'mill --version' prints the version.\n\n");
-    page + STATUS
+    page + STATUS + NOTHING
 }
 
 impl Command {
@@ -89,6 +91,6 @@ impl Command {
             page.push_str(&opt.form().line());
         }
         page.push('\n');
-        page + STATUS
+        page + STATUS + if self.takes.contains(&Opt::ExitCode) { NOTHING } else { "" }
     }
 }

@@ -107,20 +107,28 @@ struct Columns {
     let_be: Vec<String>,
 }
 
+fn is_slope(column: usize) -> bool {
+    ["slope_a", "slope_b"].contains(&COLUMNS[column])
+}
+
 fn columns(names: &Fields, layout: &Layout) -> Result<Columns, String> {
     let (mut places, mut let_be) = ([None; 6], Vec::new());
     for (at, name) in names.first.iter().enumerate() {
-        match layout.names.iter().zip(&mut places).find(|(column, _)| column == name).map(|(_, place)| place) {
-            Some(place) if place.is_some() => return Err(format!("the column {name} is there twice")),
-            Some(place) => *place = Some(at),
+        match layout.names.iter().position(|column| column == name) {
+            Some(column) if places[column].is_some() => return Err(format!("the column {name} is there twice")),
+            Some(column) => {
+                places[column] = Some(at);
+                if is_slope(column) && layout.slopes.is_some() {
+                    let_be.push(name.to_string());
+                }
+            }
             None if layout.named => let_be.push(name.to_string()),
             None => return Err(format!("{} is none of the columns {}", quoted(name), layout.names.join(","))),
         }
     }
     let wanted = |at: usize| match COLUMNS[at] {
         "pigment" => layout.pigment,
-        "slope_a" | "slope_b" => layout.slopes.is_none(),
-        _ => true,
+        _ => !is_slope(at) || layout.slopes.is_none(),
     };
     match (0..6).find(|at| places[*at].is_none() && wanted(*at)) {
         Some(missing) => Err(format!("the column {} is missing", layout.names[missing])),

@@ -132,7 +132,7 @@ fn whole_numbers(text: &str, more: u64) -> String {
         let (number, behind) = rest.split_at(length.max(first.len_utf8()));
         let (whole, part) = number.split_once('.').unwrap_or((number, ""));
         match whole.parse::<u64>() {
-            Ok(whole) => better += &(whole + if part.is_empty() { 0 } else { more }).to_string(),
+            Ok(whole) => better += &(whole + if part.bytes().all(|digit| digit == b'0') { 0 } else { more }).to_string(),
             Err(_) if number != "+" => better += number,
             Err(_) => (),
         }

@@ -10,7 +10,7 @@ use std::os::unix::ffi::OsStrExt;
 use std::path::Path;
 
 /// The most bytes of a piece, of a CSV file, of a summary, of an order sheet or of a stream.
-const LONGEST: u64 = 1 << 26;
+pub const LONGEST: u64 = 1 << 26;
 
 /// The bytes of a recording or of a tin. Of one that is too long there are as many as get the same refusal: 1 where the length is
 /// no multiple of 16, else 2. The length of a file is looked up; a stream is read to its end, up to the longest.
@@ -45,7 +45,7 @@ pub fn whole(file: &Path) -> Result<Vec<u8>, Trouble> {
     bytes.ok_or_else(|| too_long(file))
 }
 
-fn too_long(file: &Path) -> Trouble {
+pub fn too_long(file: &Path) -> Trouble {
     Trouble::of_file(file, format!("is longer than {LONGEST} bytes"))
 }
 

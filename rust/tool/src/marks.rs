@@ -26,19 +26,16 @@ pub fn stored(file: &Path) -> Result<Option<Vec<u32>>, Trouble> {
     }
 }
 
-/// The kept readings of which a file is the list of marks or the lock, if it is one.
+/// The kept readings of which a file is the list of marks or the lock, or has the name of it, if it does.
 pub fn kept_of(file: &Path) -> Option<PathBuf> {
     let name = file.as_os_str().as_bytes();
-    let (lock, kept) = match name.strip_suffix(b".lock") {
-        Some(kept) => (true, kept),
-        None => (false, name.strip_suffix(b".marks")?),
-    };
+    let kept = name.strip_suffix(b".lock").or_else(|| name.strip_suffix(b".marks"))?;
     let kept = PathBuf::from(OsStr::from_bytes(kept));
     // What can't be read may be a list of marks, or a tin.
     let is =
         |file: &Path, one: fn(&[u8]) -> bool| input::if_there(file).map_or(true, |bytes| bytes.is_some_and(|bytes| one(&bytes)));
     let listed = is(&beside(&kept), |bytes| parsed(bytes).is_some());
-    (listed || lock && is(&kept, tin::is_one)).then_some(kept)
+    (listed || is(&kept, tin::is_one)).then_some(kept)
 }
 
 /// Takes the list of marks away that stands beside a file, where it says what the tin in its place says.

@@ -14,12 +14,20 @@ const NEARLY_FULL: usize = MILL_MAX_RECORDS - MILL_MAX_RECORDS / 16;
 
 /// The lines about a tin.
 pub fn of_tin(file: &Path, tin: &Tin) -> Vec<String> {
-    let mut lines: Vec<String> = tin.taken.and_then(|taken| of_kept(file, taken, &tin.readings)).into_iter().collect();
+    let mut lines: Vec<String> = tin.taken.and_then(|taken| of_kept(file, taken, &unpinned(tin))).into_iter().collect();
     if tin.held() >= NEARLY_FULL {
         let (file, held, why) = (shown(file), tin.held(), causes(&tin.readings));
         lines.push(format!("mill: {file}: holds {held} of at most {MILL_MAX_RECORDS} readings ({why}): begin another tin soon"));
     }
     lines
+}
+
+/// Its readings but for those that were put back by choice.
+fn unpinned(tin: &Tin) -> Vec<u8> {
+    match tin.pins {
+        0 => tin.readings.clone(),
+        _ => mill::thin(&tin.readings, &tin.marks).unwrap_or_default(),
+    }
 }
 
 /// The line about kept readings where they are nearly all of those taken, 9 of 10.

@@ -125,7 +125,7 @@ pub fn may_write(arguments: &Arguments, name: &Path) -> Result<(), Trouble> {
 }
 
 /// Refuses the files that `add` keeps beside its own: readings with marks beside them, those marks, and a lock.
-fn not_of_add(name: &Path, real: &Path) -> Result<(), Trouble> {
+pub fn not_of_add(name: &Path, real: &Path) -> Result<(), Trouble> {
     let refused = |what: String| Err(Trouble::of_file(name, format!("{what}: only 'mill add' writes it")));
     let marks = marks::beside(real);
     if marks.symlink_metadata().is_ok() {

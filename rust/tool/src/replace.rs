@@ -109,7 +109,7 @@ fn write_beside(file: &Path, beside: &Path, bytes: &[u8]) -> io::Result<()> {
     written.sync_all()
 }
 
-fn folder_of(file: &Path) -> &Path {
+pub fn folder_of(file: &Path) -> &Path {
     match file.parent() {
         Some(folder) if folder != Path::new("") => folder,
         _ => Path::new("."),

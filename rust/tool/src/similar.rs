@@ -2,14 +2,24 @@
 
 /// The nearest of the words, where it is near: at most a third of its letters differ, and at most two.
 pub fn nearest<'a>(typed: &str, words: impl IntoIterator<Item = &'a str>) -> Option<&'a str> {
-    let near = |word: &&str| distance(typed, word);
-    let best = words.into_iter().min_by_key(near)?;
-    (distance(typed, best) <= (best.chars().count() / 3).clamp(1, 2) && typed.len() > 1).then_some(best)
+    all_nearest(typed, words).first().copied()
+}
+
+/// All that are as near as the nearest.
+fn all_nearest<'a>(typed: &str, words: impl IntoIterator<Item = &'a str>) -> Vec<&'a str> {
+    let words: Vec<(usize, &str)> = words.into_iter().map(|word| (distance(typed, word), word)).collect();
+    let least = words.iter().map(|(far, _)| *far).min();
+    let near = |far: usize, word: &str| Some(far) == least && far <= (word.chars().count() / 3).clamp(1, 2) && typed.len() > 1;
+    words.into_iter().filter(|(far, word)| near(*far, word)).map(|(_, word)| word).collect()
 }
 
 /// `; did you mean 'WORD'?`, or nothing.
 pub fn hint<'a>(typed: &str, words: impl IntoIterator<Item = &'a str>) -> String {
-    nearest(typed, words).map(|word| format!("; did you mean '{word}'?")).unwrap_or_default()
+    let near: Vec<String> = all_nearest(typed, words).into_iter().map(|word| format!("'{word}'")).collect();
+    match near.is_empty() {
+        true => String::new(),
+        false => format!("; did you mean {}?", near.join(" or ")),
+    }
 }
 
 /// How many letters must be put in, taken out, changed, or swapped with the next.

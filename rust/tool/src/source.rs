@@ -34,6 +34,11 @@ pub fn read(file: &Path) -> Result<Source, Trouble> {
     of(file, input::recording(file)?)
 }
 
+/// The same of a file that may be longer than a recording: a piece of one, or all of a long run.
+pub fn long(file: &Path) -> Result<Source, Trouble> {
+    of(file, input::whole(file)?)
+}
+
 /// The same of a file with these bytes.
 fn of(file: &Path, bytes: Vec<u8>) -> Result<Source, Trouble> {
     if tin::is_one(&bytes) {

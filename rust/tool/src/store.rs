@@ -8,7 +8,7 @@ use crate::lock::locked;
 use crate::replace::{is_new, new_beside, real, replace};
 use crate::tin::{self, Tin};
 use crate::trouble::{shown, Trouble};
-use crate::{input, marks};
+use crate::{input, marks, summary};
 use mill::Thinning;
 use std::fs::File;
 use std::path::{Path, PathBuf};
@@ -48,6 +48,7 @@ impl Store {
                 marks::agreed(&self.file, tin.marks.clone(), given)?;
                 Ok(tin)
             }
+            Some(bytes) if summary::is_one(&bytes) => Err(Trouble::of_file(&self.file, "is a summary, and no tin")),
             readings => self.before(readings.unwrap_or_default(), given),
         }
     }

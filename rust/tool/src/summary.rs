@@ -3,12 +3,12 @@
 //! `docs/TOOL.md` has the layout.
 
 use crate::crc64::checksum;
-use crate::input;
 use crate::trouble::Trouble;
+use crate::{input, tin};
 use mill::sys::MILL_ENTRY_BYTES;
 use std::path::Path;
 
-/// No recording begins with it, nor with it and some bits changed; see `tin::MAGIC`.
+/// No recording begins with it, nor with it and 8 bits of it changed; see `tin::MAGIC`, from which 16 bits part it.
 const MAGIC: [u8; 16] = *b"\x89mill sum\r\n\x1a\nSUM";
 const FORMAT: u32 = 1;
 
@@ -23,8 +23,9 @@ pub struct Summary {
     pub names: Vec<Vec<u8>>,
 }
 
+/// Whether the bytes are to be read as a summary, whole, damaged or cut off.
 pub fn is_one(bytes: &[u8]) -> bool {
-    bytes.starts_with(&MAGIC)
+    tin::begins(bytes, &MAGIC)
 }
 
 /// The summary in a file.
@@ -62,7 +63,7 @@ impl Summary {
         let (head, body) = bytes.split_first_chunk::<HEAD_BYTES>().ok_or_else(damaged)?;
         let number = |at: usize| u32::from_le_bytes(std::array::from_fn(|byte| head[at + byte]));
         let sum = u64::from_le_bytes(std::array::from_fn(|byte| head[CHECKSUM_AT + byte]));
-        if checksum(&[&head[..CHECKSUM_AT], body]) != sum {
+        if !head.starts_with(&MAGIC) || checksum(&[&head[..CHECKSUM_AT], body]) != sum {
             return Err(damaged());
         }
         if number(16) != FORMAT {

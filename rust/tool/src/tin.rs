@@ -42,14 +42,16 @@ pub struct Tin {
 
 /// Whether the bytes are to be read as a tin: they begin with its magic word, whole, damaged or cut off.
 pub fn is_one(bytes: &[u8]) -> bool {
-    match bytes.first_chunk::<16>() {
-        Some(first) => differing(first) <= NEAR,
-        None => !bytes.is_empty() && MAGIC.starts_with(bytes),
-    }
+    begins(bytes, &MAGIC)
 }
 
-fn differing(first: &[u8; 16]) -> u32 {
-    first.iter().zip(MAGIC).map(|(byte, magic)| (byte ^ magic).count_ones()).sum()
+/// Whether the bytes begin with a magic word, whole, damaged or cut off.
+pub fn begins(bytes: &[u8], magic: &[u8; 16]) -> bool {
+    let differing = |first: &[u8; 16]| first.iter().zip(magic).map(|(byte, magic)| (byte ^ magic).count_ones()).sum::<u32>();
+    match bytes.first_chunk() {
+        Some(first) => differing(first) <= NEAR,
+        None => !bytes.is_empty() && magic.starts_with(bytes),
+    }
 }
 
 impl Tin {

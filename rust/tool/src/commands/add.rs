@@ -2,9 +2,9 @@
 
 use super::Command;
 use crate::arguments::Arguments;
-use crate::input;
 use crate::options::Opt;
 use crate::output::Answer;
+use crate::source;
 use crate::store::can_be_kept;
 use crate::take::take;
 use crate::trouble::Trouble;
@@ -21,7 +21,8 @@ same or be left out. KEPT is one file; readings with KEPT.marks beside them, as
 they were kept before, become a tin. If the machine stops, KEPT is what it was or
 what it was to be. Of several at once each waits for the one before it, by a lock
 on KEPT.lock. A piece that is refused is not taken at all, and its place counts
-the readings of the piece from 0. Pinned readings are dropped.
+the readings of the piece from 0. Kept readings, a tin or such a pair, can only
+begin KEPT. Pinned readings are dropped.
 ",
     takes: &[Opt::Mark],
     run,
@@ -32,6 +33,6 @@ fn run(arguments: &Arguments) -> Result<Answer, Trouble> {
     let (kept, piece) = (Path::new(kept), Path::new(piece));
     can_be_kept("add", "KEPT", kept)?;
     // Before the lock, for it may be slow to come.
-    let bytes = input::whole(piece)?;
-    take(arguments, kept, piece, &bytes)
+    let source = source::long(piece)?;
+    take(arguments, kept, piece, source)
 }

@@ -65,25 +65,35 @@ fn counted(arguments: &Arguments, count: usize) -> String {
 }
 
 fn write(arguments: &Arguments, name: &Path, raw: bool, files: &[&Path], entries: &[Entry]) -> Result<usize, Trouble> {
-    let names = files.iter().map(|file| name_of(file)).collect();
-    let summary = Summary { names, entries: entries.iter().map(|entry| entry.to_bytes()).collect() };
+    let mut summary = Summary::default();
+    match raw {
+        // Without names each file has its entry.
+        true => summary.entries = entries.iter().map(|entry| entry.to_bytes()).collect(),
+        false => put(&mut summary, files, entries),
+    }
     let count = counted_by_library(&summary)?;
     let bytes = if raw { summary.entries.as_flattened().to_vec() } else { summary.bytes() };
     output::save(arguments, name, &bytes)?;
     Ok(count)
 }
 
+/// The entries by their names, each name once.
+fn put(summary: &mut Summary, files: &[&Path], entries: &[Entry]) {
+    for (file, entry) in files.iter().zip(entries) {
+        summary.put(name_of(file), entry.to_bytes());
+    }
+}
+
 /// Adds to a summary, under its lock.
 fn append(name: &Path, files: &[&Path], entries: &[Entry]) -> Result<usize, Trouble> {
     let file = real(name)?;
+    output::not_of_add(name, &file)?;
     let _lock = locked(&file)?;
     let mut summary = match file.try_exists() {
         Ok(false) => Summary::default(),
         _ => summary::in_file(&file)?,
     };
-    for (file, entry) in files.iter().zip(entries) {
-        summary.put(name_of(file), entry.to_bytes());
-    }
+    put(&mut summary, files, entries);
     let count = counted_by_library(&summary)?;
     replace(&file, &new_beside(&file), &summary.bytes())?;
     Ok(count)

@@ -6,7 +6,7 @@ use crate::options::Opt;
 use crate::output::Answer;
 use crate::summary::{self, Summary};
 use crate::trouble::{shown, Trouble};
-use crate::{input, json};
+use crate::{input, json, tin};
 use mill::sys::MILL_FOUND_BYTES;
 use std::ffi::OsStr;
 use std::os::unix::ffi::OsStrExt;
@@ -45,12 +45,13 @@ fn run(arguments: &Arguments) -> Result<Answer, Trouble> {
     Ok(Answer::text(said(arguments, &found, names.as_deref())).of_something(arguments, !found.is_empty()))
 }
 
-/// Bare entries, and no summary with a head.
+/// Bare entries, and nothing with a head: neither a summary nor a tin, be they damaged.
 fn bare(file: &Path) -> Result<Vec<u8>, Trouble> {
     let entries = input::whole(file)?;
-    match summary::is_one(&entries) {
-        true => Err(Trouble::of_file(file, "is a summary with names: leave --raw out")),
-        false => Ok(entries),
+    match (tin::is_one(&entries), summary::is_one(&entries)) {
+        (true, _) => Err(Trouble::of_file(file, "is a tin, and no summary")),
+        (false, true) => Err(Trouble::of_file(file, "is a summary with names: leave --raw out")),
+        (false, false) => Ok(entries),
     }
 }
 

@@ -6,13 +6,16 @@ use crate::hints::Hint;
 use crate::layout::Layout;
 use crate::options::Opt;
 use crate::output::{made, may_write, save, Answer};
-use crate::replace::named_beside;
+use crate::replace::{folder_of, named_beside};
+use crate::source::{Kept, Source};
 use crate::store::can_be_kept;
 use crate::take::take;
 use crate::trouble::{shown, Trouble};
 use crate::{csv, input, json, readings};
 use mill::sys::{MILL_MAX_RECORDS, MILL_RECORD_BYTES};
 use mill::Refusal;
+use std::ffi::OsStr;
+use std::os::unix::ffi::OsStrExt;
 use std::path::Path;
 
 pub const COMMAND: Command = Command {
@@ -63,7 +66,7 @@ fn run(arguments: &Arguments) -> Result<Answer, Trouble> {
     let let_be = (!table.let_be.is_empty()).then(|| format!("mill: {}: columns let be: {}", shown(file), named(&table.let_be)));
     let recording = mill::encode(&table.readings);
     let answer = match (into, &arguments.output) {
-        (Some(tin), _) => take(arguments, tin, file, &recording),
+        (Some(tin), _) => take(arguments, tin, file, Source { readings: recording, kept: Kept::Unknown }),
         (None, Some(name)) if arguments.has(Opt::Pieces) => pieces(arguments, name, &recording),
         _ => one(arguments, file, table.readings, recording),
     };
@@ -97,6 +100,7 @@ fn pieces(arguments: &Arguments, name: &Path, recording: &[u8]) -> Result<Answer
     let names: Vec<_> = (1..=all.len()).map(|number| named_beside(name, &format!("-{number}"))).collect();
     // All of them, before the first is written.
     names.iter().try_for_each(|name| may_write(arguments, name))?;
+    none_behind(name, all.len())?;
     for (name, piece) in names.iter().zip(&all) {
         save(arguments, name, piece)?;
     }
@@ -108,4 +112,21 @@ fn pieces(arguments: &Arguments, name: &Path, recording: &[u8]) -> Result<Answer
         return Ok(Answer::text(object.line()));
     }
     Ok(Answer::text(format!("readings {readings}\npieces   {}\n", all.len())))
+}
+
+/// Refuses where a piece of a longer table stands behind these: it would be taken for one of them.
+fn none_behind(name: &Path, count: usize) -> Result<(), Trouble> {
+    let Ok(folder) = folder_of(name).read_dir() else { return Ok(()) };
+    let first = named_beside(Path::new(name.file_name().unwrap_or_default()), "-");
+    let number = |file: &OsStr| {
+        let digits = file.as_bytes().strip_prefix(first.as_os_str().as_bytes())?;
+        std::str::from_utf8(digits).ok()?.parse::<usize>().ok().filter(|number| *number > count)
+    };
+    match folder.flatten().filter_map(|there| number(&there.file_name())).min() {
+        Some(number) => {
+            let piece = named_beside(name, &format!("-{number}"));
+            Err(Trouble::of_file(&piece, format!("is there, and the table has {count} pieces: take it away first")))
+        }
+        None => Ok(()),
+    }
 }

@@ -5,12 +5,13 @@ use crate::arguments::{decimal, Arguments};
 use crate::assured::Assurance;
 use crate::bad_lines::{quoted, NAMED};
 use crate::hints::Hint;
+use crate::input::{too_long, LONGEST};
 use crate::options::Opt;
 use crate::output::{self, tell, written, Answer};
 use crate::source::{Kept, Source};
 use crate::tin::Tin;
-use crate::trouble::{words, Trouble};
-use crate::{csv, json, marks, readings};
+use crate::trouble::{shown, words, Trouble};
+use crate::{csv, json, marks, noise, readings, similar};
 use mill::{Live, Refusal};
 use std::collections::BTreeMap;
 use std::io::{self, BufRead, Read, Write};
@@ -27,14 +28,57 @@ it. 'kept' prints the kept readings of the run so far, 'entry' its entry, and
 'ask TEXT' what they answer. A step that is refused changes nothing: a line on
 standard error says so, and the run goes on. The status is then 1 at its end, or 2
 after a line that is no step, of which it bears 100. With -o what is held at the
-end is written to a tin. A run holds at most 128 kept readings.
+end is written to a tin, unless a reading, a 'save' or a 'back' was refused or a
+line was no step: what the run lacks a tin would lack unseen, and a line says that
+it is not written. A run holds at most 128 kept readings.
 ",
     takes: &[Opt::Mark, Opt::Output, Opt::Force],
     run,
 };
 
-/// As long as a line may be.
-const LONGEST_LINE: u64 = 4096;
+/// As long as a line may be, with its end.
+const LONGEST_LINE: usize = 4096;
+
+/// The words that a step begins with where it is no reading.
+const WORDS: [&str; 5] = ["save", "back", "kept", "entry", "ask"];
+
+/// The lines of standard input.
+struct Lines {
+    input: io::StdinLock<'static>,
+    /// How many bytes were read: a stream that does not end is given up, as any other.
+    read: u64,
+}
+
+enum Line {
+    Whole(Vec<u8>),
+    TooLong,
+}
+
+impl Lines {
+    /// The next line, none at the end. Of one that is too long all is read, and nothing of it is a step.
+    fn next(&mut self) -> Result<Option<Line>, Trouble> {
+        let goes_on = |part: &[u8]| part.len() == LONGEST_LINE && !part.ends_with(b"\n");
+        let line = self.part()?;
+        if line.is_empty() {
+            return Ok(None);
+        }
+        if !goes_on(&line) {
+            return Ok(Some(Line::Whole(line)));
+        }
+        while goes_on(&self.part()?) {}
+        Ok(Some(Line::TooLong))
+    }
+
+    fn part(&mut self) -> Result<Vec<u8>, Trouble> {
+        let (mut part, input) = (Vec::new(), Path::new("-"));
+        let read = Read::take(&mut self.input, LONGEST_LINE as u64).read_until(b'\n', &mut part);
+        self.read += read.map_err(|error| Trouble::io(input, error))? as u64;
+        match self.read > LONGEST {
+            true => Err(too_long(input)),
+            false => Ok(part),
+        }
+    }
+}
 
 struct Run<'a> {
     arguments: &'a Arguments,
@@ -44,11 +88,17 @@ struct Run<'a> {
     count: u64,
     moments: BTreeMap<u32, u64>,
     status: u8,
+    /// How many lines were no step.
     bad: usize,
+    /// How many steps the run lacks: these, and those that were refused.
+    lost: usize,
 }
 
 /// Why a step is not taken.
 enum Fault {
+    /// The library refused a reading or a moment: the run lacks it.
+    Lost(Refusal),
+    /// It refused a question.
     Refused(Refusal, Option<Hint>),
     NoStep(String),
     Trouble(Trouble),
@@ -66,25 +116,30 @@ fn run(arguments: &Arguments) -> Result<Answer, Trouble> {
     let live = Live::start(&arguments.marks).and_then(|_| Live::start(&marks)).map_err(Trouble::refused_alone)?;
     // At once, and not when the run is at its end.
     arguments.output.iter().try_for_each(|name| output::may_write(arguments, name))?;
-    let mut run = Run { arguments, marks, live, count: 0, moments: BTreeMap::new(), status: 0, bad: 0 };
-    let mut input = io::stdin().lock();
+    let mut run = Run { arguments, marks, live, count: 0, moments: BTreeMap::new(), status: 0, bad: 0, lost: 0 };
+    let mut lines = Lines { input: io::stdin().lock(), read: 0 };
     for number in 1.. {
-        let mut line = Vec::new();
-        let read = Read::take(&mut input, LONGEST_LINE).read_until(b'\n', &mut line);
-        if read.map_err(|error| Trouble::io(Path::new("-"), error))? == 0 || run.bad >= NAMED {
+        let Some(line) = lines.next()? else { break };
+        if run.bad >= NAMED {
+            tell(&[format!("mill: standard input: given up after {NAMED} bad lines")]);
             break;
         }
-        run.step(number, line.trim_ascii())?;
+        run.step(number, &line)?;
     }
-    let figures = run.end()?;
-    Ok(Answer::text(figures).with_status(run.status))
+    Ok(run.end()?.with_status(run.status))
 }
 
 impl Run<'_> {
-    fn step(&mut self, number: usize, line: &[u8]) -> Result<(), Trouble> {
-        let Err(fault) = self.taken(line) else { return Ok(()) };
+    fn step(&mut self, number: usize, line: &Line) -> Result<(), Trouble> {
+        let taken = match line {
+            Line::Whole(line) => self.taken(line.trim_ascii()),
+            Line::TooLong => Err(Fault::NoStep(format!("is longer than {} bytes", LONGEST_LINE - 1))),
+        };
+        let Err(fault) = taken else { return Ok(()) };
+        self.lost += usize::from(matches!(fault, Fault::Lost(_) | Fault::NoStep(_)));
         let (status, why, hint) = match fault {
             Fault::Trouble(trouble) => return Err(trouble),
+            Fault::Lost(refusal) => (1, words(refusal), None),
             Fault::Refused(refusal, hint) => (1, words(refusal), hint),
             Fault::NoStep(why) => (2, why, None),
         };
@@ -102,13 +157,13 @@ impl Run<'_> {
             ("", "") => Ok(()),
             ("save", name) => {
                 let moment = moment(name)?;
-                self.live.save(moment)?;
+                self.live.save(moment).map_err(Fault::Lost)?;
                 self.moments.insert(moment, self.count);
                 Ok(())
             }
             ("back", name) => {
                 let moment = moment(name)?;
-                self.live.restore(moment)?;
+                self.live.restore(moment).map_err(Fault::Lost)?;
                 self.count = self.moments.get(&moment).copied().unwrap_or(0);
                 Ok(())
             }
@@ -122,8 +177,8 @@ impl Run<'_> {
             }
             ("ask", question) => self.asked(question.trim()),
             _ => {
-                let reading = csv::line(line).map_err(|why| Fault::NoStep(format!("{} is no step: {why}", quoted(&text))))?;
-                self.live.add(&reading.to_bytes())?;
+                let reading = csv::line(line).map_err(|why| no_step(&text, why))?;
+                self.live.add(&reading.to_bytes()).map_err(Fault::Lost)?;
                 self.count += 1;
                 Ok(())
             }
@@ -148,20 +203,38 @@ impl Run<'_> {
         answer.say().map_err(Fault::Trouble)
     }
 
-    /// What is held goes to the file of `-o`.
-    fn end(&self) -> Result<String, Trouble> {
-        let Some(name) = &self.arguments.output else { return Ok(String::new()) };
+    /// What is held goes to the file of `-o`, where no step is lacking.
+    fn end(&self) -> Result<Answer, Trouble> {
+        let Some(name) = &self.arguments.output else { return Ok(Answer::text(String::new())) };
+        if self.lost > 0 {
+            let note = format!("mill: {}: not written, for {} steps were not taken", shown(name), self.lost);
+            return Ok(Answer::text(String::new()).noting([note]));
+        }
         let readings = self.live.kept().map_err(Trouble::refused_alone)?;
         let tin = Tin { marks: self.marks.clone(), taken: Some(self.count), pins: 0, readings };
         output::save(self.arguments, name, &tin.bytes())?;
+        let notes = noise::of_tin(name, &tin);
         if self.arguments.json {
             let mut object = json::Object::new();
             object.number("readings", self.count);
             object.number("kept", tin.held());
-            return Ok(object.line());
+            return Ok(Answer::text(object.line()).noting(notes));
         }
-        Ok(format!("readings {}\nkept     {}\n", self.count, tin.held()))
+        Ok(Answer::text(format!("readings {}\nkept     {}\n", self.count, tin.held())).noting(notes))
     }
+}
+
+/// What is wrong with a line that is no step; `why` is what a reading lacks.
+fn no_step(text: &str, why: String) -> Fault {
+    let word = text.split(|c: char| !c.is_alphanumeric()).next().unwrap_or_default();
+    let why = match word {
+        "kept" | "entry" => format!("{word} stands alone"),
+        word if word.starts_with(char::is_alphabetic) => {
+            format!("neither a reading nor one of {}{}", WORDS.join(", "), similar::hint(word, WORDS))
+        }
+        _ => why,
+    };
+    Fault::NoStep(format!("{} is no step: {why}", quoted(text)))
 }
 
 /// The number of a moment, for the library to judge.

@@ -3,10 +3,11 @@
 use super::Command;
 use crate::arguments::{self, Arguments};
 use crate::output::Answer;
+use crate::source::{self, Kept, Source};
 use crate::store::{can_be_kept, Store};
 use crate::tin::Tin;
 use crate::trouble::{shown, Trouble};
-use crate::{input, json, tin};
+use crate::{json, noise};
 use mill::sys::{MILL_MAX_RECORDS, MILL_RECORD_BYTES};
 use mill::{Reading, Thinning};
 use std::collections::BTreeSet;
@@ -31,10 +32,7 @@ fn run(arguments: &Arguments) -> Result<Answer, Trouble> {
     let (kept, full) = (Path::new(kept), Path::new(full));
     can_be_kept("pin", "TIN", kept)?;
     let times = times.into_iter().map(time).collect::<Result<BTreeSet<i64>, Trouble>>()?;
-    let bytes = input::whole(full)?;
-    if tin::is_one(&bytes) {
-        return Err(Trouble::of_file(full, "is a tin: a pin is taken from the full recording"));
-    }
+    let bytes = recording(full)?;
     if !kept.exists() {
         return Err(Trouble::of_file(kept, "No such file or directory"));
     }
@@ -42,14 +40,26 @@ fn run(arguments: &Arguments) -> Result<Answer, Trouble> {
     let before = store.tin(&[])?;
     let pinned = pinned(kept, full, &before, &bytes, &times)?;
     store.put(&pinned)?;
+    let notes = noise::of_tin(kept, &pinned);
     let [pins, held] = [pinned.pins as usize, pinned.held()];
     if arguments.json {
         let mut object = json::Object::new();
         object.number("pinned", pins);
         object.number("held", held);
-        return Ok(Answer::text(object.line()));
+        return Ok(Answer::text(object.line()).noting(notes));
     }
-    Ok(Answer::text(format!("pinned {pins}\nheld   {held}\n")))
+    Ok(Answer::text(format!("pinned {pins}\nheld   {held}\n")).noting(notes))
+}
+
+/// The bytes of a recording that is not known to lack readings.
+fn recording(full: &Path) -> Result<Vec<u8>, Trouble> {
+    let Source { readings, kept } = source::long(full)?;
+    let what = match kept {
+        Kept::Unknown => return Ok(readings),
+        Kept::Under { tin: Some(_), .. } => "is a tin",
+        Kept::Under { tin: None, .. } | Kept::Doubtful(_) => "has marks beside it, as kept readings have",
+    };
+    Err(Trouble::of_file(full, format!("{what}: a pin is taken from the full recording")))
 }
 
 fn time(word: &OsStr) -> Result<i64, Trouble> {
@@ -76,6 +86,11 @@ fn pinned(kept: &Path, full: &Path, before: &Tin, bytes: &[u8], times: &BTreeSet
     if thinning.held() != own || !held.is_empty() {
         return Err(Trouble::of_file(kept, format!("does not hold what is kept of {}", shown(full))));
     }
+    // Another recording may keep the same.
+    if let Some(taken) = before.taken.filter(|taken| *taken != all.len() as u64) {
+        let why = format!("was made of {taken} readings, and {} has {}", shown(full), all.len());
+        return Err(Trouble::of_file(kept, why));
+    }
     if let Some(time) = missing.first() {
         return Err(Trouble::of_file(full, format!("has no reading at {time}")));
     }
@@ -83,5 +98,5 @@ fn pinned(kept: &Path, full: &Path, before: &Tin, bytes: &[u8], times: &BTreeSet
     if held > MILL_MAX_RECORDS {
         return Err(Trouble::of_file(kept, format!("would hold {held} readings, and a tin holds at most {MILL_MAX_RECORDS}")));
     }
-    Ok(Tin { marks: before.marks.clone(), taken: Some(all.len() as u64), pins: pins as u32, readings })
+    Ok(Tin { marks: before.marks.clone(), taken: before.taken, pins: pins as u32, readings })
 }

@@ -108,7 +108,7 @@ fn not_assured(arguments: &Arguments, all: &[Said]) -> Result<Vec<String>, Troub
         lines.extend(answered.assurance.note(said.file));
     }
     if lines.len() > 1 {
-        let count = format!("mill: {} of {} recordings are not assured", lines.len(), all.len());
+        let count = format!("mill: {} of {} recordings are not assured", lines.len(), good(all).count());
         lines.truncate(1);
         lines.push(count);
     }
@@ -134,7 +134,7 @@ fn figures(all: &[Said], text: &[u8], target: i64) -> Result<Figures, Refusal> {
 fn told(arguments: &Arguments, all: &[Said], figures: Option<Figures>) -> String {
     let each = arguments.has(Opt::Each);
     if arguments.json {
-        return as_json(all, figures, each);
+        return as_json(all, figures, each, arguments.has(Opt::SkipRefused));
     }
     if arguments.has(Opt::Csv) {
         return table(all).csv();
@@ -153,7 +153,7 @@ fn in_lines(all: &[Said], figures: Figures) -> String {
     format!("recordings {count}\nmet        {met}\nempty      {empty}\ndistances  {distances}\nmean       {mean}\n")
 }
 
-fn as_json(all: &[Said], figures: Option<Figures>, each: bool) -> String {
+fn as_json(all: &[Said], figures: Option<Figures>, each: bool, skip: bool) -> String {
     let mut object = json::Object::new();
     if let Some(Figures { met, empty, distances, mean }) = figures {
         object.number("recordings", good(all).count());
@@ -175,6 +175,9 @@ fn as_json(all: &[Said], figures: Option<Figures>, each: bool) -> String {
         },
     );
     object.number("not_assured", not);
+    if skip {
+        object.number("left_out", all.len() - good(all).count());
+    }
     if each {
         object.raw("each", &json::list(all.iter().map(one)));
     }

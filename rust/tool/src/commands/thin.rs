@@ -34,7 +34,11 @@ fn run(arguments: &Arguments) -> Result<Answer, Trouble> {
     let marks = marks_for(recording, &source, &arguments.marks)?;
     let kept = mill::thin(&source.readings, &marks).map_err(refused)?;
     let [full, count] = [source.readings.len(), kept.len()].map(|bytes| bytes / MILL_RECORD_BYTES);
-    let taken = source.counts().map_or(Some(full as u64), |counts| counts.taken);
+    // Of kept readings only a tin tells how many they were taken from.
+    let taken = match &source.kept {
+        Kept::Under { tin, .. } => tin.and_then(|counts| counts.taken),
+        _ => Some(full as u64),
+    };
     let tin = Tin { marks: marks::plain(&marks), taken, pins: 0, readings: kept };
     let notes = noise::of_tin(recording, &tin);
     let file = match (&arguments.output, arguments.json) {
@@ -54,13 +58,15 @@ fn run(arguments: &Arguments) -> Result<Answer, Trouble> {
     answer.map(|answer| answer.noting(notes))
 }
 
-/// The marks to thin with. Kept readings may lack what other marks than their own would keep.
+/// The marks to thin with. Kept readings may lack what other marks than their own would keep; where it is not known whether they
+/// are those of the marks beside them, a tin of them would promise what they may not hold.
 fn marks_for(file: &Path, source: &Source, given: &[u32]) -> Result<Vec<u32>, Trouble> {
     match &source.kept {
         Kept::Under { marks: own, .. } if given.iter().all(|mark| own.contains(mark)) => {
             Ok(if given.is_empty() { own.clone() } else { given.to_vec() })
         }
         Kept::Under { .. } => source.marks(file, given),
-        _ => Ok(given.to_vec()),
+        Kept::Doubtful(why) => Err(Trouble::of_file(file, why)),
+        Kept::Unknown => Ok(given.to_vec()),
     }
 }

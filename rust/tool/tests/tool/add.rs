@@ -163,6 +163,14 @@ fn a_wrong_file_is_named_and_left() {
     says(b"no readings", Some(b"mill marks\n"), "kept: holds no readings: ");
     says(&[255; 32], Some(b"mill marks\n"), "kept: holds no readings: ");
     says(&vec![0; 65_552], Some(b"mill marks\n"), "kept: holds no readings: ");
+    // A summary is neither a tin nor a piece of a recording.
+    folder.mill(&["entry", "-o", "sum", "r1.rec"]).answers("entries 1\n");
+    let sum = folder.read("sum").unwrap();
+    std::fs::remove_file(folder.at("sum")).unwrap();
+    says(&sum, None, "kept: is a summary, and no tin");
+    folder.mill_reads(&["add", "none", "-"], &sum).troubles("standard input: is a summary, and no recording");
+    assert_eq!(folder.read("none"), None);
+    let _ = std::fs::remove_file(folder.at("none.lock"));
     let no_marks: [&[u8]; 14] = [
         b"",
         b"mill marks",

@@ -315,3 +315,48 @@ fn a_tin_as_a_piece_can_only_begin_a_tin() {
     folder.mill(&["add", "new", "second"]).answers("taken 5\nheld  8\n");
     assert_eq!(folder.tin("new"), Some(Tin::of(&[40], 9, &reference::thin(&r3, &mark_bytes(&[40]), 4096).unwrap())));
 }
+
+/// So it is with readings that have their marks beside them, as they were kept before there were tins.
+#[test]
+fn a_pair_as_a_piece_can_only_begin_a_tin() {
+    let folder = Folder::with_recordings("pair_piece");
+    let all = reference::recording::bytes(&recordings::with_slopes(0, &[2, 2, 1, 1, 0, 0, 1, 1]));
+    folder.put("first", &all[..32]);
+    folder.put("second", &mill::thin(&all[32..], &[]).unwrap());
+    folder.put("second.marks", b"mill marks\n");
+    folder.mill(&["add", "joined", "first"]).answers("taken 2\nheld  2\n");
+    let before = folder.read("joined");
+    let line = "second: holds kept readings with marks, and lacks readings that may have to be kept behind others";
+    folder.mill(&["add", "joined", "second"]).troubles_with(line);
+    assert_eq!(folder.read("joined"), before);
+    // It begins one under its own marks, of which nobody knows how many readings were taken.
+    let kept = |marks: &[i64]| reference::thin(&r3_bytes(), &mark_bytes(marks), 4096).unwrap();
+    folder.put("pair", &kept(&[40]));
+    folder.put("pair.marks", b"mill marks\n40\n");
+    folder.mill(&["add", "-m", "10", "other", "pair"]).troubles("pair: its marks are 40, as pair.marks says, and not 10");
+    assert_eq!(folder.read("other"), None);
+    folder.mill(&["add", "begun", "pair"]).answers(&format!("taken {0}\nheld  {0}\n", kept(&[40]).len() / 16));
+    assert_eq!(folder.tin("begun"), Some(Tin { taken: None, ..Tin::of(&[40], 0, &kept(&[40])) }));
+    folder.mill(&["add", "-m", "10", "ten", "empty.rec"]).answers("taken 0\nheld  0\n");
+    folder.mill(&["add", "ten", "pair"]).troubles("ten: its marks are 10, and not 40");
+    // A link to it is the same, and a table that has such a file beside it is none.
+    std::os::unix::fs::symlink("pair", folder.at("link")).unwrap();
+    folder.mill(&["add", "begun", "link"]).troubles_with("link: holds kept readings with marks, and lacks readings");
+    folder.put("table", b"time,a,b,slope_a,slope_b\n90,1,0,1,1\n");
+    folder.put("table.marks", b"mill marks\n40\n");
+    folder.mill(&["import", "--into", "begun", "table"]).answers("taken 1\nheld  8\n");
+    // Marks that are not those of the readings tell nothing.
+    folder.put("doubtful", &r3_bytes());
+    folder.put("doubtful.marks", b"mill marks\n40\n");
+    folder.put("talk", &r3_bytes());
+    folder.put("talk.marks", b"what was talked of that day\n");
+    for (name, why) in [
+        ("doubtful", "doubtful: its readings are not those kept under its marks"),
+        ("talk", "talk: talk.marks holds no list of marks"),
+    ] {
+        folder.mill(&["add", "no", name]).troubles(why);
+        folder.mill(&["thin", name]).troubles(why);
+        folder.mill(&["thin", "-m", "40", "-o", "no", name]).troubles(why);
+    }
+    assert_eq!(folder.read("no"), None);
+}

@@ -66,6 +66,21 @@ fn near_words_are_named() {
         .troubles("ask: no option '--asured'; did you mean '--assured'?; see 'mill ask --help'");
     folder.mill(&["thin", "--markk", "4"]).troubles("thin: no option '--markk'; did you mean '--mark'?; see 'mill thin --help'");
     folder.mill(&["nonsense"]).troubles("no command 'nonsense'; see 'mill --help'");
+    // All that are as near.
+    folder.mill(&["help", "tin"]).troubles("no command 'tin'; did you mean 'thin' or 'pin' or 'tins'?; see 'mill --help'");
+}
+
+/// The page of a command that takes `--exit-code` tells of the status 3, and so does that of all.
+#[test]
+fn the_status_of_exit_code_is_told() {
+    let folder = Folder::new("status_3");
+    let overview = page(&folder, &["help"]);
+    let line = "With --exit-code it is 3 where nothing is found, met or fits.\n";
+    assert!(overview.ends_with(line), "{overview}");
+    for name in names(&overview) {
+        let text = page(&folder, &[&name, "--help"]);
+        assert_eq!(text.ends_with(line), text.contains("  --exit-code "), "{text}");
+    }
 }
 
 /// 3 where nothing is found, met or fits, and the same answer.

@@ -7,11 +7,13 @@ use crate::support::random::Random;
 use crate::support::{recordings, texts};
 
 /// A text, how many characters stand before the mark, and the words behind it.
-const HINTS: [(&str, usize, &str); 34] = [
+const HINTS: [(&str, usize, &str); 36] = [
     ("peaks(a)", 6, "a curve is A or B: write peaks(A)"),
     ("peaks (A)", 5, "a text has no blanks: write peaks(A)"),
     ("A >= v", 1, "a text has no blanks: write A>=v"),
     ("A>=5.5", 4, "numbers are whole: write A>=5 or A>=6"),
+    ("A>=5.0", 4, "numbers are whole: write A>=5"),
+    ("A>=5.|B<2.00", 4, "numbers are whole: write A>=5|B<2"),
     ("lowafter(A,5.5)", 12, "numbers are whole: write lowafter(A,5) or lowafter(A,6)"),
     ("Peaks(A)", 1, "= is wanted here: write peaks(A)"),
     ("PEAKS(A)", 1, "= is wanted here: write peaks(A)"),

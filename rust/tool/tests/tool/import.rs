@@ -176,6 +176,10 @@ fn slopes_come_from_the_values_only_when_asked() {
         import(&folder, &["--slopes", wrong], table).troubles_with("DEAD");
     }
     import(&folder, &["--slopes=-1"], table).troubles_with("DEAD is below 0");
+    // Slopes that the table has are let be, and named.
+    let ran = import(&folder, &["--slopes", "0"], "time,slope_b,a,b,slope_a\n1,x,0,0,\n2,,1,1,2\n");
+    assert_eq!((ran.status, ran.err.as_str()), (Some(0), "mill: standard input: columns let be: slope_b, slope_a\n"));
+    assert_eq!(readings(&ran)[1].slope_b, Slope::Rising);
     // The widest step of values.
     let widest = "time,a,b\n1,-1000000000,1000000000\n2,1000000000,-1000000000\n";
     assert_eq!(readings(&import(&folder, &["--slopes", "1999999999"], widest))[1].slope_a, Slope::Rising);
@@ -194,6 +198,23 @@ fn a_long_table_goes_into_pieces_or_into_a_tin() {
     folder
         .mill(&["import", "--pieces", "--json", "--force", "-o", "part", "long.csv"])
         .answers("{\"readings\":9000,\"pieces\":3}\n");
+    // Pieces of a longer table would be taken for some of this one.
+    let all = folder.read("part-1");
+    for force in [&["--force"][..], &[]] {
+        let words = [&["import", "--pieces", "-o", "part", "-"][..], force].concat();
+        let ran = folder.mill_reads(&words, format!("{HEADER}1,1,1,1,1\n").as_bytes());
+        let line = match force.is_empty() {
+            true => "part-1: is there already; --force writes over it",
+            false => "part-2: is there, and the table has 1 pieces: take it away first",
+        };
+        ran.troubles(line);
+    }
+    assert_eq!(folder.read("part-1"), all);
+    folder.put("behind-7", b"");
+    folder.put("behind-x", b"");
+    let short = format!("{HEADER}1,1,1,1,1\n");
+    folder.mill_reads(&["import", "--pieces", "-o", "behind", "-"], short.as_bytes()).troubles_with("behind-7: is there, and");
+    folder.mill_reads(&["import", "--pieces", "-o", "./part-1", "-"], short.as_bytes()).answers("readings 1\npieces   1\n");
     for number in 1..=3 {
         assert_eq!(folder.mill(&["add", "-m", "40", "tin", &format!("part-{number}")]).status, Some(0));
     }

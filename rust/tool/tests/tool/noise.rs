@@ -14,6 +14,20 @@ fn a_noisy_recording_is_named_and_why() {
     let ran = folder.mill(&["thin", "noisy"]);
     assert_eq!((ran.status, ran.err.as_str()), (Some(0), format!("mill: {line}\n").as_str()));
     folder.mill(&["add", "kept", "noisy"]).answers_noting("taken 400\nheld  400\n", &line.replacen("noisy", "kept", 1));
+    // What is pinned is not noise: only what had to be kept is counted.
+    folder.mill(&["pin", "kept", "noisy", "10"]).answers_noting("pinned 0\nheld   400\n", &line.replacen("noisy", "kept", 1));
+    folder.put("some", &bytes(&recordings::with_additions(100, 88, 3)));
+    assert_eq!(folder.mill(&["thin", "-o", "some.tin", "some"]).err, "");
+    let times = folder
+        .mill(&["export", "some"])
+        .text()
+        .lines()
+        .skip(1)
+        .map(|line| line.split(',').next().unwrap().to_string())
+        .collect::<Vec<_>>();
+    let words: Vec<&str> = ["pin", "some.tin", "some"].into_iter().chain(times.iter().map(String::as_str)).collect();
+    let ran = folder.mill(&words);
+    assert_eq!((ran.status, ran.err.as_str(), ran.text().contains("held   100")), (Some(0), "", true), "{}", ran.text());
     // One that thins well, and one that is short.
     folder.put("calm", &bytes(&recordings::with_tops(400, [10, 5])));
     folder.put("short", &bytes(&recordings::with_most_tops(0, 99)));

@@ -70,6 +70,34 @@ fn a_wrong_recording_or_time_changes_nothing() {
     folder.mill(&["pin", "-", "r2.rec", "20"]).troubles("pin: TIN must be a file; see 'mill pin --help'");
 }
 
+/// Other recordings keep the same: what is kept alone, or one with a reading more that is not kept.
+#[test]
+fn how_many_were_taken_stays() {
+    let folder = folder("pin_taken");
+    folder.put("kept", &at(&[0, 10, 30, 40, 50, 60, 80]));
+    folder.mill(&["pin", "tin", "kept", "30"]).troubles("tin: was made of 9 readings, and kept has 7");
+    folder.put("kept.marks", b"mill marks\n40\n");
+    let line = "kept: has marks beside it, as kept readings have: a pin is taken from the full recording";
+    folder.mill(&["pin", "tin", "kept", "30"]).troubles(line);
+    assert_eq!(folder.tin("tin"), Some(Tin::of(&[40], 9, &at(&[0, 10, 30, 40, 50, 60, 80]))));
+    // Where nobody counted, a pin does not tell either.
+    folder.mill(&["add", "kept", "empty.rec"]).answers("taken 0\nheld  7\n");
+    folder.mill(&["pin", "kept", "r2.rec", "20"]).answers("pinned 1\nheld   8\n");
+    assert_eq!(
+        folder.tin("kept"),
+        Some(Tin { taken: None, pins: 1, ..Tin::of(&[40], 9, &at(&[0, 10, 20, 30, 40, 50, 60, 80])) })
+    );
+}
+
+/// A tin that begins with a pinned one is without the pins, and says so.
+#[test]
+fn pins_are_not_handed_on_without_a_word() {
+    let folder = folder("pin_piece");
+    folder.mill(&["pin", "tin", "r2.rec", "20", "70"]).answers("pinned 2\nheld   9\n");
+    folder.mill(&["add", "next", "tin"]).answers_noting("taken 9\nheld  7\n", "tin: 2 pinned readings are dropped");
+    assert_eq!(folder.tin("next"), Some(Tin::of(&[40], 9, &at(&[0, 10, 30, 40, 50, 60, 80]))));
+}
+
 /// A pin more than the head counts, or one less, is noticed.
 #[test]
 fn the_count_of_pins_is_checked() {

@@ -97,6 +97,14 @@ mill: empty.rec: is empty: neither a recording nor a tin
     let ran = folder.mill(&[&["report", "--skip-refused", "--each", "--csv", "peaks(A)", "40"][..], &files].concat());
     assert_eq!((ran.status, ran.err.as_str()), (Some(0), left_out.as_str()));
     assert_eq!(ran.text().lines().count(), 6);
+    let told = json::line(&folder.mill(&[&["report", "--skip-refused", "--json", "peaks(A)", "40"][..], &files].concat()).out);
+    assert_eq!((told.at("recordings"), told.at("left_out")), (&json::number(2), &json::number(3)));
+    // Of tins whose answer is not assured, those that answered are counted.
+    for name in ["one.tin", "two.tin"] {
+        folder.mill(&["thin", "-o", name, "r2.rec"]).answers("readings 9\nkept     6\n");
+    }
+    let tins = folder.mill(&["report", "--skip-refused", "lowafter(A,10)", "5", "one.tin", "bad.rec", "two.tin", "none.rec"]);
+    assert!(tins.err.contains("mill: 2 of 2 recordings are not assured\n"), "{}", tins.err);
     assert!(ran.text().contains("none.rec,refused,,,,No such file or directory\n"), "{}", ran.text());
     // Without leaving them out each has its line, and there are no figures.
     let ran = folder.mill(&[&["report", "--each", "peaks(A)", "40"][..], &files].concat());

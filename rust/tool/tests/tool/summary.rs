@@ -63,12 +63,16 @@ fn what_is_refused() {
 #[test]
 fn a_summary_has_at_most_2048_entries() {
     let folder = Folder::with_recordings("entry_many");
+    let names: Vec<String> = (0..2049).map(|number| format!("{number}.rec")).collect();
+    for name in &names {
+        folder.put(name, &folder.read("r1.rec").unwrap());
+    }
     let mut words = vec!["entry", "-o", "tins"];
-    words.extend(["r1.rec"; 2048]);
+    words.extend(names[..2048].iter().map(String::as_str));
     folder.mill(&words).answers("entries 2048\n");
     let found = folder.mill(&["find", "A", "90", "tins"]);
     assert_eq!(found.text().lines().count(), 2048);
-    words.push("r1.rec");
+    words.push(&names[2048]);
     let tins = folder.read("tins");
     folder.mill(&[&words[..], &["--force"]].concat()).refused("", 20, 0);
     folder.mill(&["entry", "--append", "-o", "tins", "r2.rec"]).refused("", 20, 0);
@@ -115,6 +119,18 @@ fn what_is_no_summary_is_named() {
     }
     folder.mill(&["entry", "-o", "tins", "r1.rec"]).answers("entries 1\n");
     folder.mill(&["find", "--raw", "A", "5", "tins"]).troubles("tins: is a summary with names: leave --raw out");
+    // Nor is a tin read as bare entries, nor either of them with a damaged magic word, whatever its length.
+    for (name, line) in [("tin", "is a tin, and no summary"), ("tins", "is a summary with names: leave --raw out")] {
+        let whole = folder.read(name).unwrap();
+        for bit in 0..128 {
+            let mut flipped = whole.clone();
+            flipped[bit / 8] ^= 1 << (bit % 8);
+            flipped.truncate(flipped.len() / 32 * 32);
+            folder.put("flipped", &flipped);
+            folder.mill(&["find", "--raw", "A", "5", "flipped"]).troubles(&format!("flipped: {line}"));
+        }
+        folder.mill(&["find", "--raw", "A", "5", name]).troubles(&format!("{name}: {line}"));
+    }
     for words in [&["ask", "high(A)", "tins"][..], &["show", "tins"], &["add", "kept", "tins"], &["entry", "tins"]] {
         let ran = folder.mill(words);
         assert_ne!(ran.status, Some(0), "mill {}", ran.words);
@@ -144,6 +160,34 @@ fn entries_are_added_by_their_names() {
     folder.mill(&["entry", "--append", "r1.rec"]).troubles_with("--append and --raw want a summary, with -o");
     folder.mill(&["entry", "--append", "--raw", "-o", "tins", "r1.rec"]).troubles_with("--append goes with no --raw");
     folder.mill(&["entry", "--append", "-o", "r1.rec", "r2.rec"]).troubles_with("r1.rec: is no summary");
+}
+
+/// Each name once, however a summary is written; bare entries have no names.
+#[test]
+fn a_name_is_in_a_summary_once() {
+    let folder = Folder::with_recordings("names_once");
+    folder.mill(&["entry", "-o", "tins", "r1.rec", "./r1.rec", "r1.rec", "r2.rec"]).answers("entries 3\n");
+    folder.mill(&["find", "A", "10", "tins"]).answers("0 r1.rec\n1 ./r1.rec\n2 r2.rec\n");
+    folder.mill(&["entry", "--append", "-o", "tins", "r1.rec"]).answers("entries 3\n");
+    folder.mill(&["entry", "--raw", "-o", "bare", "r1.rec", "r1.rec"]).answers("entries 2\n");
+}
+
+/// The names that `add` uses are none of a summary: the next `add` would take it away, or a tin would seem to have other marks.
+#[test]
+fn what_add_keeps_is_not_added_to() {
+    let folder = Folder::with_recordings("append_of_add");
+    folder.mill(&["add", "tin", "r2.rec"]).answers("taken 9\nheld  6\n");
+    folder.put("pair", &folder.kept("tin").unwrap());
+    folder.put("pair.marks", b"mill marks\n");
+    let there = folder.names();
+    for name in ["tin.mill-new", "tin.marks", "tin.lock", "pair", "pair.marks", "pair.lock"] {
+        let append = folder.mill(&["entry", "--append", "-o", name, "r1.rec"]);
+        append.troubles_with(": only 'mill add' writes it");
+        assert_eq!(folder.mill(&["entry", "--force", "-o", name, "r1.rec"]).err, append.err);
+        assert_eq!(folder.names(), there, "{name}");
+    }
+    // Only names: nothing that is kept stands there.
+    folder.mill(&["entry", "--append", "-o", "other.marks", "r1.rec"]).answers("entries 1\n");
 }
 
 /// Each waits for the one before it.

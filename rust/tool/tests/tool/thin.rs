@@ -53,6 +53,9 @@ fn a_tin_is_thinned_under_its_own_marks() {
     folder.put("pair.marks", b"mill marks\n40\n");
     folder.mill(&["thin", "pair"]).gives(&kept(&[40]));
     folder.mill(&["thin", "-m10", "pair"]).troubles("pair: its marks are 40, as pair.marks says, and not 10");
+    // And nobody counted of how many these were.
+    folder.mill(&["thin", "-o", "of_pair", "pair"]).answers("readings 7\nkept     7\n");
+    assert_eq!(folder.tin("of_pair"), Some(Tin { taken: None, ..Tin::of(&[40], 0, &kept(&[40])) }));
 }
 
 #[test]
