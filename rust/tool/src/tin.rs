@@ -15,8 +15,8 @@ const NEAR: u32 = 8;
 
 pub const FORMAT: u32 = 1;
 
-/// The kept rule of this library: that of Paper 5.
-pub const RULE: u32 = 5;
+/// The kept rule of this library, as its states name it: that of document 01 was 1, and Papers 1, 3 and 5 changed it.
+pub const RULE: u32 = 4;
 
 /// Where the readings begin.
 pub const HEAD_BYTES: usize = 128;

@@ -159,7 +159,7 @@ fn other_formats_and_rules_are_named() {
     folder.put("later", &with(16, 2));
     folder.put("rule", &with(20, 6));
     let later = "later: is a tin of format 2, and this version of mill reads format 1";
-    let rule = "rule: is a tin of the kept rule 6, and this version of mill keeps by rule 5";
+    let rule = "rule: is a tin of the kept rule 6, and this version of mill keeps by rule 4";
     for (name, line) in [("later", later), ("rule", rule)] {
         let before = folder.read(name);
         for words in

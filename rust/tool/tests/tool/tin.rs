@@ -35,7 +35,7 @@ impl Tin {
     pub fn bytes(&self) -> Vec<u8> {
         let mut head = MAGIC.to_vec();
         let held = (self.readings.len() / 16) as u32;
-        for number in [1, 5, self.marks.len() as u32, held, self.pins, 0] {
+        for number in [1, 4, self.marks.len() as u32, held, self.pins, 0] {
             head.extend(number.to_le_bytes());
         }
         head.extend(self.taken.unwrap_or(u64::MAX).to_le_bytes());
