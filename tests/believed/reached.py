@@ -1,6 +1,7 @@
 """The definitions of specs/ that the pages reach by name, and the lines of code of each file that hold them.
 
-Names are resolved through the `use` lines of a file; imports, comments and blank lines are not counted. A local name that is also the name of a
+Names are resolved through the `use` lines of a file; imports, comments, blank lines, and the lines that open a
+module or give an operator its precedence are not counted. A local name that is also the name of a
 definition in reach counts as one, so the list can only be too long.
 """
 
