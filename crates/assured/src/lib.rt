@@ -1,4 +1,6 @@
 // Which texts the kept readings answer as the recording did: read, judged node by node, and told.
+#![tactic(auto)]
+
 ghost use Rattle.std.specs.Prelude.{◌≡◌, ◌*◌, ◌≤◌, ◌<◌, length};
 ghost use Rattle.refusal.specs.Outcome.{judged};
 ghost use Rattle.reply.specs.Reply.{packed, InHalf};

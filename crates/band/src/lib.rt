@@ -1,4 +1,6 @@
 // The band call: what a question on extremes says of every curve within plus or minus e of a recording, and of at least one.
+#![tactic(auto)]
+
 ghost use Rattle.std.specs.Prelude.{◌≡◌, [], ◌∷◌, ◌≤◌, ◌<◌};
 ghost use Rattle.number.specs.Axis.{whole};
 ghost use Rattle.refusal.specs.Outcome.{judged};

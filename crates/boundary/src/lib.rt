@@ -1,4 +1,6 @@
 // What a call answers, as the number that it returns and the places that it leaves to its caller.
+#![tactic(auto)]
+
 ghost use Rattle.std.specs.Prelude.{◌≡◌};
 ghost use Rattle.band.specs.Call.{part_of};
 ghost use Rattle.band.specs.Call.{outcome_of as bandsIn};

@@ -1,4 +1,6 @@
 // Copying bytes: from one slice to another, and within one.
+#![tactic(auto)]
+
 ghost use Rattle.std.specs.Prelude.{◌≡◌, ◌+◌, ◌*◌, ◌≤◌, ◌++◌, length};
 ghost use Rattle.number.specs.Words.{word_bytes};
 ghost use Rattle.copying.specs.Put.{part, put, Apart};

@@ -1,4 +1,6 @@
 // The degree call: how near the answered set of a question comes to a wanted number.
+#![tactic(auto)]
+
 ghost use Rattle.std.specs.Prelude.{◌≡◌, ◌∷◌, ◌-◌, ◌<◌};
 ghost use Rattle.number.specs.Axis.{axis};
 ghost use Rattle.refusal.specs.Outcome.{result, judged};

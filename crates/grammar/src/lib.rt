@@ -1,4 +1,6 @@
 // The grammar of a question text, and the values that stand for its words and nodes.
+#![tactic(auto)]
+
 pub mod classes;
 pub mod kinds;
 

@@ -1,4 +1,6 @@
 // Joining two sets: each run of the result is stored once, where it belongs, when it closes.
+#![tactic(auto)]
+
 ghost use Rattle.std.specs.Prelude.{◌≡◌, true, false, ◌||◌, ◌+◌, ◌*◌, ◌≤◌, ◌<◌, length};
 ghost use Rattle.number.specs.Axis.{axis};
 ghost use Rattle.runs.specs.Runs.{most_runs};

@@ -1,4 +1,6 @@
 // The calls of a buyer's laboratory: question, degree and pair over A, refused by 14 where what is asked could tell of B.
+#![tactic(auto)]
+
 ghost use Rattle.std.specs.Prelude.{◌≡◌, ◌*◌, ◌≤◌, length};
 ghost use Rattle.refusal.specs.Outcome.{judged};
 ghost use Rattle.recording.specs.Output.{Answers};

@@ -1,4 +1,6 @@
 // The set of a leaf at one record: of an atom, or of a listed question.
+#![tactic(auto)]
+
 mod atoms;
 pub mod extremes;
 mod fields;

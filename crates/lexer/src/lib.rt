@@ -1,4 +1,6 @@
 // Leaves of a text: atoms and listed questions, each one node.
+#![tactic(auto)]
+
 ghost use Rattle.std.specs.Prelude.{◌≡◌, ◌&&◌, ◌+◌, ◌≤◌, ◌<◌, eqb, length};
 ghost use Rattle.grammar.specs.inner.Lexer.{closed_by, operand_at, comparison_at, timed_at, is_timed, arguments_at, takes_pigment, pigment_leaf_at, is_bare, named_at, headed_at, leaf_at};
 

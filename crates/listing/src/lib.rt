@@ -1,4 +1,6 @@
 // Finding recordings by their entries: the numbers of those in which a curve is somewhere at least a level.
+#![tactic(auto)]
+
 ghost use Rattle.std.specs.Prelude.{◌≡◌, true, cond, [], ◌∷◌, ◌++◌, ◌+◌, ◌*◌, ◌≤◌, ◌<◌, ltb, length, take, drop};
 ghost use Rattle.number.specs.Axis.{axis, whole};
 ghost use Rattle.number.specs.Words.{word_bytes, words_bytes};

@@ -1,4 +1,6 @@
 // The entry of a live run, reckoned when it is asked for from the readings that the run holds.
+#![tactic(auto)]
+
 ghost use Rattle.std.specs.Prelude.{length};
 ghost use Rattle.recording.specs.Output.{Answers};
 ghost use Rattle.live_entry.specs.Call.{held_entry_of};

@@ -1,4 +1,6 @@
 // The running sum of degrees and the last mean, which travel together from batch to batch.
+#![tactic(auto)]
+
 ghost use Rattle.std.specs.Prelude.{◌≡◌};
 ghost use Rattle.binary64.specs.Degree.{degree_of};
 ghost use Rattle.mean.specs.inner.Running.{start, next};

@@ -1,4 +1,6 @@
 // What two sets share, run by run; and the complement of a set.
+#![tactic(auto)]
+
 pub mod complement;
 pub mod run;
 pub mod walk;

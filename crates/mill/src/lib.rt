@@ -1,4 +1,6 @@
 // The C boundary of the library: every call that others make, and of each the page's contract (crate `promises`). Complete: Page; what is carried from
+#![tactic(auto)]
+
 // call to call: InTurn, with Reports and LiveRuns.
 ghost use Rattle.std.specs.Prelude.{[], ◌∷◌};
 ghost use Rattle.report.specs.Report.{start_report, add_batch};

@@ -1,4 +1,6 @@
 // Numbers of the axis, and numbers of 32 bits in bytes.
+#![tactic(auto)]
+
 ghost use Rattle.std.specs.Prelude.{◌≡◌, ◌+◌, ◌%◌, ◌<◌, ◌≤◌, min, max, ◌++◌, length, take, drop};
 ghost use Rattle.number.specs.Axis.{axis, whole};
 ghost use Rattle.number.specs.Words.{word, word_bytes, offset_binary, bits};

@@ -1,4 +1,6 @@
 // What the program prints: from the bytes of a recording and of a typed text to the bytes of the page.
+#![tactic(auto)]
+
 mod call;
 pub mod intake;
 mod lines;

@@ -1,4 +1,6 @@
 // The pair call: the times of two tops of a curve whose distance in time is the target.
+#![tactic(auto)]
+
 ghost use Rattle.std.specs.Prelude.{◌≡◌, [], ◌∷◌, ◌/◌, ◌≤◌, ◌<◌, pos, length, take};
 ghost use Rattle.number.specs.Axis.{whole};
 ghost use Rattle.recording.specs.Recording.{readings, Accepted};

@@ -1,4 +1,6 @@
 // The reader: functions for or, and, not and primary call each other, and the bytes left to read fall.
+#![tactic(auto)]
+
 // Each writes the nodes of what it reads behind the n rows that stand in the table.
 ghost use Rattle.std.specs.Prelude.{◌+◌, ◌≤◌, ◌<◌};
 ghost use Rattle.grammar.specs.inner.Table.{unary_from, binary_from, kinds};

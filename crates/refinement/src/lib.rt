@@ -1,1 +1,3 @@
 // That the state of a live run follows its history: definitions and theorems, no code.
+#![tactic(auto)]
+

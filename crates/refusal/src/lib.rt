@@ -1,4 +1,6 @@
 // The refusals of the calls, and the number and the place that each is reported with.
+#![tactic(auto)]
+
 ghost use Rattle.std.specs.Prelude.{◌≡◌};
 ghost use Rattle.refusal.specs.Numbers.{number_of, place_of};
 

@@ -1,4 +1,6 @@
 // An outcome as the one number that a call returns: the refusal's number in the high 32 bits, its place in the low ones.
+#![tactic(auto)]
+
 ghost use Rattle.std.specs.Prelude.{◌≡◌, ◌<◌};
 ghost use Rattle.refusal.specs.Outcome.{refused};
 ghost use Rattle.refusal.specs.Numbers.{number_of, place_of};

@@ -1,4 +1,6 @@
 // The report under way: one text and one target, put to a named number of recordings, one after another. It goes in and comes back by value.
+#![tactic(auto)]
+
 ghost use Rattle.std.specs.Prelude.{◌≡◌, cond, [], ◌<◌, eqb};
 ghost use Rattle.number.specs.Axis.{axis};
 ghost use Rattle.refusal.specs.Outcome.{judged};

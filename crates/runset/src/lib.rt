@@ -1,4 +1,6 @@
 // Sets of numbers of the axis, with at most MOST_RUNS runs. A number is carried as its index on the axis.
+#![tactic(auto)]
+
 // A set lies in SLOT words that the caller lends; how, nobody above this crate knows.
 ghost use Rattle.std.specs.Prelude.{◌≡◌, true, false, not, ◌||◌, ◌&&◌, ◌++◌, ℕ, ◌*◌, ◌≤◌, ◌<◌, leb, length, get_or, drop};
 ghost use Rattle.number.specs.Axis.{axis};

@@ -1,4 +1,6 @@
 // Sets on bytes, for tests and measurements from outside.
+#![tactic(auto)]
+
 ghost use Rattle.std.specs.Prelude.{◌≡◌, ◌+◌, ◌≤◌, false, ◌||◌, length};
 ghost use Rattle.runs.specs.Set.{slot_words, shared_words, member, Valid, Makes};
 ghost use Rattle.runset_c.specs.Bytes.{index_at, set_of, unfit, unfit_any, chosen, asked, reply_of, output_of, member_reply, distance_reply, repeat_reply, stores_reply};

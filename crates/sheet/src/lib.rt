@@ -1,4 +1,6 @@
 // Order sheets: whether each pigment went in after those that must be in before it.
+#![tactic(auto)]
+
 ghost use Rattle.std.specs.Prelude.{◌≡◌, ◌/◌, ◌<◌, length, get_or};
 ghost use Rattle.refusal.specs.Outcome.{result, judged};
 ghost use Rattle.recording.specs.Condition.{some_of};

@@ -1,4 +1,6 @@
 // Targets: whole numbers that may lie off the axis.
+#![tactic(auto)]
+
 ghost use Rattle.targets.specs.Target.{Placed};
 
 use number::ORIGIN;

@@ -1,4 +1,6 @@
 // The question text: its one reading, as a table of nodes, or a refusal.
+#![tactic(auto)]
+
 ghost use Rattle.std.specs.Prelude.{◌≡◌, ◌*◌, ◌≤◌, length};
 ghost use Rattle.grammar.specs.Size.{most_bytes};
 ghost use Rattle.grammar.specs.Syntax.{Text};

@@ -1,4 +1,6 @@
 // The reader of texts behind the C boundary, for tests from outside.
+#![tactic(auto)]
+
 ghost use Rattle.std.specs.Prelude.{◌≡◌};
 ghost use Rattle.reply.specs.Reply.{packed};
 ghost use Rattle.text_c.specs.Reads.{nodes_or_refusal};

@@ -1,4 +1,6 @@
 // Words of a text.
+#![tactic(auto)]
+
 ghost use Rattle.std.specs.Prelude.{◌≡◌, [], ◌∷◌, ◌++◌, ◌+◌, ◌≤◌, ◌<◌, length};
 ghost use Rattle.grammar.specs.Bytes.{bytes};
 ghost use Rattle.grammar.specs.inner.Lexer.{byte, word, spelled_at, first_of, curves, relations, fields, level_names, top_names, difference_names, pigment_names, openings, heads};
