@@ -3,7 +3,8 @@
 
 ghost use Rattle.std.specs.Prelude.{◌≡◌, ◌∷◌, ◌-◌, ◌<◌};
 ghost use Rattle.number.specs.Axis.{axis};
-ghost use Rattle.refusal.specs.Outcome.{result, judged};
+ghost use Rattle.refusal.specs.Outcome as outcome;
+ghost use Rattle.refusal.specs.Outcome.{judged};
 ghost use Rattle.runs.specs.Set.{member, Valid};
 ghost use Rattle.grammar.specs.inner.Kinds.{NOT};
 ghost use Rattle.grammar.specs.inner.Table.{row_at};
@@ -47,7 +48,7 @@ pub enum Nearness {
 
 // What a distance is worth.
 fn grade(d: u32) -> Nearness
-    ensures* { λ r. ⌜ outcome_of r ≡ result (graded d) ⌝ }
+    ensures { outcome_of result ≡ outcome.result (graded d) }
 {
     if d == 0 {
         return Nearness::Met;
@@ -59,7 +60,7 @@ fn grade(d: u32) -> Nearness
 
 // The answer with the distance graded.
 fn graded(x: Reached) -> Nearness
-    ensures* { λ r. ⌜ outcome_of r ≡ mapped valued (reached_of x) ⌝ }
+    ensures { outcome_of result ≡ mapped valued (reached_of x) }
 {
     match x {
         Reached::Away(d) => grade(d),
@@ -71,7 +72,7 @@ fn graded(x: Reached) -> Nearness
 // How far the number at an index is from a set.
 fn near_set(set: &[u32], index: u32) -> Reached
     requires { Valid set.now × (index < axis) }
-    ensures* { λ r. ⌜ reached_of r ≡ result (reach_in (member set.now) index) ⌝ }
+    ensures { reached_of result ≡ outcome.result (reach_in (member set.now) index) }
 {
     let nearest = RunSet::distance(set, index);
     match nearest {
@@ -83,7 +84,7 @@ fn near_set(set: &[u32], index: u32) -> Reached
 // How far the number at an index is from the set of a text of one leaf.
 fn near_leaf(rec: &[u8], table: &[u32], count: usize, index: u32) -> Reached
     requires { Answerable table.now count rec.now × (index < axis) × ((row_at table.now (count - 1)).kind < NOT) }
-    ensures* { λ r. ⌜ reached_of r ≡ judged (set_lines rec.now (text_of table.now count)) (reach_in (λ n. val (coded rec.now) n (text_of table.now count) 0) index) ⌝ }
+    ensures { reached_of result ≡ judged (set_lines rec.now (text_of table.now count)) (reach_in (λ n. val (coded rec.now) n (text_of table.now count) 0) index) }
 {
     let mut set = [0u32; runset::SLOT];
     let verdict = question::answered::of_leaf(rec, table, count, &mut set);
@@ -96,7 +97,7 @@ fn near_leaf(rec: &[u8], table: &[u32], count: usize, index: u32) -> Reached
 // The same of any other text.
 fn near_tree(rec: &[u8], table: &[u32], count: usize, index: u32) -> Reached
     requires { Answerable table.now count rec.now × (index < axis) }
-    ensures* { λ r. ⌜ reached_of r ≡ judged (set_lines rec.now (text_of table.now count)) (reach_in (λ n. val (coded rec.now) n (text_of table.now count) 0) index) ⌝ }
+    ensures { reached_of result ≡ judged (set_lines rec.now (text_of table.now count)) (reach_in (λ n. val (coded rec.now) n (text_of table.now count) 0) index) }
 {
     let mut set = [0u32; runset::SLOT];
     let verdict = question::answered::of_tree(rec, table, count, &mut set);
@@ -109,7 +110,7 @@ fn near_tree(rec: &[u8], table: &[u32], count: usize, index: u32) -> Reached
 // The same of a text that was read.
 fn near_text(rec: &[u8], table: &[u32], count: usize, index: u32) -> Reached
     requires { Answerable table.now count rec.now × (index < axis) }
-    ensures* { λ r. ⌜ reached_of r ≡ judged (set_lines rec.now (text_of table.now count)) (reach_in (λ n. val (coded rec.now) n (text_of table.now count) 0) index) ⌝ }
+    ensures { reached_of result ≡ judged (set_lines rec.now (text_of table.now count)) (reach_in (λ n. val (coded rec.now) n (text_of table.now count) 0) index) }
 {
     if question::answered::is_leaf(table, count) {
         return near_leaf(rec, table, count, index);
@@ -120,7 +121,7 @@ fn near_text(rec: &[u8], table: &[u32], count: usize, index: u32) -> Reached
 // How near the set of a text that was read comes to a target.
 pub fn near_target(rec: &[u8], table: &[u32], count: usize, target: i64) -> Nearness
     requires { Answerable table.now count rec.now }
-    ensures* { λ r. ⌜ outcome_of r ≡ judged (target_line target ∷ set_lines rec.now (text_of table.now count)) (value_of (λ n. val (coded rec.now) n (text_of table.now count) 0) (index_of target)) ⌝ }
+    ensures { outcome_of result ≡ judged (target_line target ∷ set_lines rec.now (text_of table.now count)) (value_of (λ n. val (coded rec.now) n (text_of table.now count) 0) (index_of target)) }
 {
     let place = targets::on_axis(target);
     match place {
@@ -135,7 +136,7 @@ pub fn near_target(rec: &[u8], table: &[u32], count: usize, target: i64) -> Near
 // The distance of the number at an index from the answered set, as a whole number.
 pub fn distance_at(rec: &[u8], text: &[u8], index: u32) -> Reached
     requires { index < axis }
-    ensures* { λ r. ⌜ reached_of r ≡ reach_at rec.now text.now index ⌝ }
+    ensures { reached_of result ≡ reach_at rec.now text.now index }
 {
     let mut table = [0u32; text::TABLE_SIZE];
     let prepared = question::prepare::prepare(rec, text, &mut table);
@@ -147,7 +148,7 @@ pub fn distance_at(rec: &[u8], text: &[u8], index: u32) -> Reached
 
 // THE DEGREE CALL: whether the target makes the question true, and else how near the nearest number that does comes to it.
 pub fn degree(rec: &[u8], text: &[u8], target: i64) -> Nearness
-    ensures* { λ r. ⌜ outcome_of r ≡ nearness_of rec.now text.now target ⌝ }
+    ensures { outcome_of result ≡ nearness_of rec.now text.now target }
 {
     let mut table = [0u32; text::TABLE_SIZE];
     let prepared = question::prepare::prepare(rec, text, &mut table);

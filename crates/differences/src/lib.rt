@@ -1,7 +1,7 @@
 // The sets of differences between times: of all pairs, of neighbours, of a later and an earlier one; and the set of the times themselves.
+// A time, like every number here, is carried as its index on the axis. Differences are added in ascending order, so that a run too many is known when it comes.
 #![tactic(auto)]
 
-// A time, like every number here, is carried as its index on the axis. Differences are added in ascending order, so that a run too many is known when it comes.
 ghost use Rattle.std.specs.Prelude.{◌≡◌, true, false, ◌&&◌, ◌||◌, ℕ, ◌+◌, ◌-◌, ◌<◌, ◌≤◌, leb, length};
 ghost use Rattle.number.specs.Axis.{origin, axis};
 ghost use Rattle.differences.specs.inner.Times.{Times, lags_of, gaps_of, steps_of, time_set};

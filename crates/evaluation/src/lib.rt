@@ -1,7 +1,6 @@
 // Evaluation of a text over a recording, from the last record to the first.
 #![tactic(auto)]
 
-
 mod node;
 pub mod rows;
 pub mod slots;

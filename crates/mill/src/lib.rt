@@ -1,7 +1,7 @@
 // The C boundary of the library: every call that others make, and of each the page's contract (crate `promises`). Complete: Page; what is carried from
+// call to call: InTurn, with Reports and LiveRuns.
 #![tactic(auto)]
 
-// call to call: InTurn, with Reports and LiveRuns.
 ghost use Rattle.std.specs.Prelude.{[], ◌∷◌};
 ghost use Rattle.report.specs.Report.{start_report, add_batch};
 ghost use Rattle.promises.specs.Page as call;

@@ -1,6 +1,7 @@
 // The lines of a page.
 ghost use Rattle.std.specs.Prelude.{◌+◌, ◌*◌, ◌≤◌, ◌<◌, length};
-ghost use Rattle.refusal.specs.Outcome.{result, refused};
+ghost use Rattle.refusal.specs.Outcome as outcome;
+ghost use Rattle.refusal.specs.Outcome.{refused};
 ghost use Rattle.refusal.specs.Numbers.{number_of, place_of};
 ghost use Rattle.number.specs.Words.{signed};
 ghost use Rattle.page.specs.Page.{page, run_line, run_lines};
@@ -16,7 +17,7 @@ const RUN: usize = 8;
 // Puts the line of a run, whose ends have these 32 bits.
 fn run(out: &mut [u8], at: usize, low: u32, high: u32) -> usize
     requires { at + length (run_line (signed low) (signed high)) ≤ length out.old }
-    ensures* { λ r. ⌜ Puts (run_line (signed low) (signed high)) out.old at out.new r ⌝ }
+    ensures { Puts (run_line (signed low) (signed high)) out.old at out.new result }
 {
     let blank = numbers::signed(out, at, low);
     let second = put::byte(out, blank, b' ');
@@ -27,7 +28,7 @@ fn run(out: &mut [u8], at: usize, low: u32, high: u32) -> usize
 // Puts the lines of the first n runs of a set.
 fn runs(out: &mut [u8], at: usize, set: &[u8], n: usize) -> usize
     requires { (8 * n ≤ length set.now) × (at + length (run_lines n set.now) ≤ length out.old) }
-    ensures* { λ r. ⌜ Puts (run_lines n set.now) out.old at out.new r ⌝ }
+    ensures { Puts (run_lines n set.now) out.old at out.new result }
 {
     let mut end = at;
     let mut i: usize = 0;
@@ -43,7 +44,7 @@ fn runs(out: &mut [u8], at: usize, set: &[u8], n: usize) -> usize
 // Puts the page of a set.
 pub fn set_page(out: &mut [u8], set: &[u8]) -> usize
     requires { length (page (result set.now)) ≤ length out.old }
-    ensures* { λ r. ⌜ Puts (page (result set.now)) out.old 0 out.new r ⌝ }
+    ensures { Puts (page (outcome.result set.now)) out.old 0 out.new result }
 {
     let n = set.len() / RUN;
     let number = put::bytes(out, 0, b"runs ");
@@ -55,7 +56,7 @@ pub fn set_page(out: &mut [u8], set: &[u8]) -> usize
 // Puts the page of a refusal.
 pub fn refusal_page(out: &mut [u8], x: Refusal) -> usize
     requires { page_size ≤ length out.old }
-    ensures* { λ r. ⌜ Puts (page (refused (number_of x) (place_of x))) out.old 0 out.new r ⌝ }
+    ensures { Puts (page (refused (number_of x) (place_of x))) out.old 0 out.new result }
 {
     let number = put::bytes(out, 0, b"refused ");
     let blank = numbers::unsigned(out, number, refusal::number(x) as u64);

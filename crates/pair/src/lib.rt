@@ -4,7 +4,8 @@
 ghost use Rattle.std.specs.Prelude.{◌≡◌, [], ◌∷◌, ◌/◌, ◌≤◌, ◌<◌, pos, length, take};
 ghost use Rattle.number.specs.Axis.{whole};
 ghost use Rattle.recording.specs.Recording.{readings, Accepted};
-ghost use Rattle.refusal.specs.Outcome.{result, judged};
+ghost use Rattle.refusal.specs.Outcome as outcome;
+ghost use Rattle.refusal.specs.Outcome.{judged};
 ghost use Rattle.pair.specs.Pair.{pairs_of, first_apart, first_pair, too_many_tops, accepted_lines, outcome_of, pair_of};
 ghost use Rattle.pair.specs.inner.Search.{Rising};
 ghost use Rattle.recording.specs.Reading.{curve_of};
@@ -21,7 +22,7 @@ pub enum TopPair {
 
 // The number in 64 bits.
 fn wide(x: u32) -> u64
-    ensures* { λ r. ⌜ (r ≡ x) × (r < 4294967296) ⌝ }
+    ensures { (result ≡ x) × (result < 4294967296) }
 {
     x as u64
 }
@@ -29,7 +30,7 @@ fn wide(x: u32) -> u64
 // The first two of the first n times, which ascend, that differ by g: the later one is sought for each earlier one in turn, from where the search before it ended.
 fn search(times: &[u32], n: usize, g: u32) -> TopPair
     requires { (n ≤ length times.now) × (0 < g) × Rising times.now n }
-    ensures* { λ r. ⌜ outcome_of r ≡ result (first_apart (pos g) (pairs_of (take n times.now))) ⌝ }
+    ensures { outcome_of result ≡ outcome.result (first_apart (pos g) (pairs_of (take n times.now))) }
 {
     let mut i: usize = 0;
     let mut j: usize = 0;
@@ -59,7 +60,7 @@ fn search(times: &[u32], n: usize, g: u32) -> TopPair
 // The first two tops of a curve whose times are the number at `index` apart.
 fn tops_apart(rec: &[u8], n: usize, curve: usize, index: u32) -> TopPair
     requires { Accepted rec.now × (n ≡ length rec.now / 16) × (curve < 2) }
-    ensures* { λ r. ⌜ outcome_of r ≡ judged (too_many_tops rec.now curve ∷ []) (first_pair (readings rec.now) (curve_of curve) (whole index)) ⌝ }
+    ensures { outcome_of result ≡ judged (too_many_tops rec.now curve ∷ []) (first_pair (readings rec.now) (curve_of curve) (whole index)) }
 {
     let mut times = [0u32; tops::MOST_TOPS];
     let count = tops::event_times(rec, n, tops::Event::Top(curve), &mut times);
@@ -75,7 +76,7 @@ fn tops_apart(rec: &[u8], n: usize, curve: usize, index: u32) -> TopPair
 // The pair call on an accepted recording of n records.
 fn in_accepted(rec: &[u8], n: usize, curve: u32, target: i64) -> TopPair
     requires { Accepted rec.now × (n ≡ length rec.now / 16) }
-    ensures* { λ r. ⌜ outcome_of r ≡ judged (accepted_lines rec.now curve target) (first_pair (readings rec.now) (curve_of curve) target) ⌝ }
+    ensures { outcome_of result ≡ judged (accepted_lines rec.now curve target) (first_pair (readings rec.now) (curve_of curve) target) }
 {
     if n == 0 {
         return TopPair::Refused(refusal::Refusal::NoRecord);
@@ -92,7 +93,7 @@ fn in_accepted(rec: &[u8], n: usize, curve: u32, target: i64) -> TopPair
 
 // THE PAIR CALL: the times of the first two tops of the curve, 0 for A and 1 for B, whose later time minus the earlier is the target.
 pub fn pair(rec: &[u8], curve: u32, target: i64) -> TopPair
-    ensures* { λ r. ⌜ outcome_of r ≡ pair_of rec.now curve target ⌝ }
+    ensures { outcome_of result ≡ pair_of rec.now curve target }
 {
     let checked = recording::check(rec);
     match checked {

@@ -1,7 +1,7 @@
 // The reader: functions for or, and, not and primary call each other, and the bytes left to read fall.
+// Each writes the nodes of what it reads behind the n rows that stand in the table.
 #![tactic(auto)]
 
-// Each writes the nodes of what it reads behind the n rows that stand in the table.
 ghost use Rattle.std.specs.Prelude.{◌+◌, ◌≤◌, ◌<◌};
 ghost use Rattle.grammar.specs.inner.Table.{unary_from, binary_from, kinds};
 ghost use Rattle.grammar.specs.inner.Parse.{bars, ampersands, chain, not_at, prim_at, argument};

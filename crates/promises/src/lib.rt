@@ -1,4 +1,3 @@
 // The three demands on one page, the table by its meaning, and what holds over several calls: kept as full, end to end, the listed questions as their formulas, and the
-#![tactic(auto)]
-
 // marked lines of R1. Statements and laws only.
+#![tactic(auto)]

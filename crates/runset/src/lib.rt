@@ -1,7 +1,7 @@
 // Sets of numbers of the axis, with at most MOST_RUNS runs. A number is carried as its index on the axis.
+// A set lies in SLOT words that the caller lends; how, nobody above this crate knows.
 #![tactic(auto)]
 
-// A set lies in SLOT words that the caller lends; how, nobody above this crate knows.
 ghost use Rattle.std.specs.Prelude.{◌≡◌, true, false, not, ◌||◌, ◌&&◌, ◌++◌, ℕ, ◌*◌, ◌≤◌, ◌<◌, leb, length, get_or, drop};
 ghost use Rattle.number.specs.Axis.{axis};
 ghost use Rattle.runs.specs.Runs.{run_count, lows, highs, set_bytes};

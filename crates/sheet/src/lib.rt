@@ -2,7 +2,8 @@
 #![tactic(auto)]
 
 ghost use Rattle.std.specs.Prelude.{◌≡◌, ◌/◌, ◌<◌, length, get_or};
-ghost use Rattle.refusal.specs.Outcome.{result, judged};
+ghost use Rattle.refusal.specs.Outcome as outcome;
+ghost use Rattle.refusal.specs.Outcome.{judged};
 ghost use Rattle.recording.specs.Condition.{some_of};
 ghost use Rattle.recording.specs.Recording.{readings, Accepted};
 ghost use Rattle.sheet.specs.Sheet.{sheet_of, no_pigment, bad_sheet, AcceptedSheet};
@@ -35,14 +36,14 @@ struct Break {
 
 // The number in the machine's width.
 fn wide(x: u8) -> usize
-    ensures* { λ r. ⌜ (r ≡ x) × (r < 256) ⌝ }
+    ensures { (result ≡ x) × (result < 256) }
 {
     x as usize
 }
 
 // Whether some number of the sheet is not that of a pigment.
 fn some_foreign(sheet: &[u8]) -> bool
-    ensures* { λ r. ⌜ r ≡ some_of no_pigment sheet.now ⌝ }
+    ensures { result ≡ some_of no_pigment sheet.now }
 {
     let mut i: usize = 0;
     while i < sheet.len() {
@@ -60,7 +61,7 @@ fn some_foreign(sheet: &[u8]) -> bool
 
 // Whether 13 meets the sheet.
 fn is_bad(sheet: &[u8]) -> bool
-    ensures* { λ r. ⌜ r ≡ (bad_sheet sheet.now).meets ⌝ }
+    ensures { result ≡ (bad_sheet sheet.now).meets }
 {
     if sheet.len() % 2 != 0 {
         return true;
@@ -74,7 +75,7 @@ fn is_bad(sheet: &[u8]) -> bool
 // The index of the first addition of each pigment, at its number; n where it is never added. From the last record to the first.
 fn first_additions(rec: &[u8], n: usize) -> [usize; PLACES]
     requires { Accepted rec.now × (n ≡ length rec.now / 16) }
-    ensures* { λ r. ⌜ Firsts (readings rec.now) r ⌝ }
+    ensures { Firsts (readings rec.now) result }
 {
     let mut first = [n; PLACES];
     let mut i = n;
@@ -89,7 +90,7 @@ fn first_additions(rec: &[u8], n: usize) -> [usize; PLACES]
 // The index of the first addition of the pigment whose number stands at `at` in the sheet.
 fn first_of(sheet: &[u8], at: usize, first: [usize; PLACES]) -> usize
     requires { (at < length sheet.now) × AcceptedSheet sheet.now }
-    ensures* { λ r. ⌜ r ≡ get_or first (get_or sheet.now at 0) 0 ⌝ }
+    ensures { result ≡ get_or first (get_or sheet.now at 0) 0 }
 {
     first[wide(sheet[at])]
 }
@@ -97,7 +98,7 @@ fn first_of(sheet: &[u8], at: usize, first: [usize; PLACES]) -> usize
 // The first break of an accepted sheet by the table of first additions: the earliest record, and of its lines the first. n is the index where there is none.
 fn first_break(sheet: &[u8], first: [usize; PLACES], n: usize) -> Break
     requires { AcceptedSheet sheet.now }
-    ensures* { λ r. ⌜ Earliest first n sheet.now (length sheet.now / 2) r.index r.line ⌝ }
+    ensures { Earliest first n sheet.now (length sheet.now / 2) result.index result.line }
 {
     let count = sheet.len() / 2;
     let mut index = n;
@@ -123,7 +124,7 @@ fn first_break(sheet: &[u8], first: [usize; PLACES], n: usize) -> Break
 // What the check finds in an accepted recording of n records.
 fn find(rec: &[u8], n: usize, sheet: &[u8]) -> Ordered
     requires { Accepted rec.now × (n ≡ length rec.now / 16) × AcceptedSheet sheet.now }
-    ensures* { λ r. ⌜ outcome_of r ≡ result (finding (sheet_of sheet.now) (readings rec.now)) ⌝ }
+    ensures { outcome_of result ≡ outcome.result (finding (sheet_of sheet.now) (readings rec.now)) }
 {
     let first = first_additions(rec, n);
     let found = first_break(sheet, first, n);
@@ -139,7 +140,7 @@ fn find(rec: &[u8], n: usize, sheet: &[u8]) -> Ordered
 // The order call on an accepted recording of n records.
 fn in_accepted(rec: &[u8], n: usize, sheet: &[u8]) -> Ordered
     requires { Accepted rec.now × (n ≡ length rec.now / 16) }
-    ensures* { λ r. ⌜ outcome_of r ≡ judged (sheet_lines rec.now sheet.now) (finding (sheet_of sheet.now) (readings rec.now)) ⌝ }
+    ensures { outcome_of result ≡ judged (sheet_lines rec.now sheet.now) (finding (sheet_of sheet.now) (readings rec.now)) }
 {
     if n == 0 {
         return Ordered::Refused(refusal::Refusal::NoRecord);
@@ -152,7 +153,7 @@ fn in_accepted(rec: &[u8], n: usize, sheet: &[u8]) -> Ordered
 
 // THE ORDER CALL: met, or the first record whose addition breaks a line of the sheet, and the first line that it breaks.
 pub fn order(rec: &[u8], sheet: &[u8]) -> Ordered
-    ensures* { λ r. ⌜ outcome_of r ≡ order_of rec.now sheet.now ⌝ }
+    ensures { outcome_of result ≡ order_of rec.now sheet.now }
 {
     let checked = recording::check(rec);
     match checked {
