@@ -43,7 +43,7 @@ fn runs(out: &mut [u8], at: usize, set: &[u8], n: usize) -> usize
 
 // Puts the page of a set.
 pub fn set_page(out: &mut [u8], set: &[u8]) -> usize
-    requires { length (page (result set.now)) ≤ length out.old }
+    requires { length (page (outcome.result set.now)) ≤ length out.old }
     ensures { Puts (page (outcome.result set.now)) out.old 0 out.new result }
 {
     let n = set.len() / RUN;

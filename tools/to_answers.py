@@ -1,0 +1,372 @@
+#!/usr/bin/env python3
+"""Turns proofs that walk the code (Proof.antt) into invariants and answers (Invariants.antt, Answers.antt).
+
+usage: python3 tools/to_answers.py CRATE..        at the top of the repository
+
+Each CRATE's names, old and new, are those that `rt check --generated DIR --old-names` lists. An answer that only searches is left out,
+for the check searches by itself. What cannot be turned is told, and that Proof.antt stays. Proofs of cycles are turned by hand.
+"""
+
+import json
+import pathlib
+import re
+import subprocess
+import sys
+import tempfile
+
+ROOT = pathlib.Path(__file__).resolve().parents[1]
+W = r"[^\s(){}.;,@\"«»\[\]\\]+"
+TOKEN = re.compile(r"--[^\n]*|\"(?:[^\"\\\n]|\\.)*\"|" + W)
+SEARCH = re.compile(r"^search \(?rules\)?$")
+
+
+def norm(name):
+    return name.replace("_", "-")
+
+
+def names_of(crate):
+    with tempfile.TemporaryDirectory() as folder:
+        subprocess.run(["rt", "check", "--generated", folder, "--old-names"], cwd=ROOT / "crates" / crate, stdout=subprocess.DEVNULL, stderr=subprocess.DEVNULL)
+        path = pathlib.Path(folder) / "names.json"
+        return json.loads(path.read_text(encoding="utf-8")) if path.is_file() else {}
+
+
+class Block:
+    """A top-level declaration: its comment, signature and clauses."""
+
+    def __init__(self, text):
+        self.text = text
+        lines = [l for l in text.splitlines() if l.strip() and not l.lstrip().startswith("--")]
+        self.head = lines[0] if lines else ""
+        found = re.match(r"^((?:abbrev |unfoldable |pub )*)(record|data|module)?\s*(\S+)", self.head)
+        self.kind = found[2] if found else None
+        self.name = found[3] if found else ""
+        if self.kind == "module":
+            self.declares = set(re.findall(r"(?m)^  (?:(?:abbrev|unfoldable|pub|record|data) )*([^\s:(]+)(?=[ :])", text))
+        else:
+            self.declares = {self.name}
+            if self.kind == "data":
+                self.declares |= set(re.findall(r"(?m)^  (?:pub )?([^\s:(]+) :", text))
+
+    def words(self):
+        return {w for w in TOKEN.findall(self.text) if not w.startswith(("--", '"'))}
+
+
+def blocks(text):
+    """The header comment, the `use` lines, and the declarations."""
+    lines = text.splitlines()
+    at = 0
+    header = []
+    while at < len(lines) and (lines[at].startswith("--") or not lines[at].strip()):
+        header.append(lines[at])
+        at += 1
+    uses, rest = [], []
+    for line in lines[at:]:
+        (uses if re.match(r"^(pub )?use ", line) else rest).append(line)
+    out, current = [], []
+    for line in rest:
+        begins = line and not line[0].isspace() and not line.startswith("--")
+        if begins and current:
+            name = re.match(r"^(?:(?:abbrev|unfoldable|pub|record|data) )*(\S+)", line)[1]
+            have = [l for l in current if l.strip() and not l.startswith("--")]
+            own = re.match(r"^(?:(?:abbrev|unfoldable|pub|record|data) )*(\S+)", have[0])[1] if have else None
+            is_clause = have and (name == own or line.startswith("unfolding ")) and not re.match(r"^(record|data|module|pub record|pub data) ", line)
+            if have and not is_clause:
+                # a comment just above belongs to what follows
+                tail = []
+                while current and (current[-1].startswith("--") or not current[-1].strip()):
+                    tail.insert(0, current.pop())
+                out.append("\n".join(current))
+                current = tail
+        current.append(line)
+    if any(l.strip() for l in current):
+        out.append("\n".join(current))
+    return header, uses, [Block("\n".join(l for l in b.strip("\n").splitlines())) for b in out if b.strip()]
+
+
+class Turn:
+    def __init__(self, of):
+        self.needs = {}
+        for old, new in of["needs"]:
+            self.needs.setdefault(norm(old), new)
+        self.new_needs = {norm(new): new for _, new in of["needs"]}
+        self.settled = {norm(n) for n in of.get("settled", [])}
+        self.steps = {}
+        self.fields = {}
+        self.params = {}
+        self.clauses = {}
+        for place, clause in zip(of["places"], of["clauses"]):
+            _, _, (old, new), callee, extra = place
+            if not old:
+                continue
+            self.steps.setdefault(norm(old), new)
+            self.fields.setdefault(new, {}).update({norm(a): b for a, b in extra})
+            if callee:
+                self.params[new] = of["params"].get(callee, [])
+            if clause:
+                self.clauses[new] = clause["fields"]
+        self.args = {a.split(" .")[-1]: b.split(" .")[-1] for a, b in of["args"] if a.startswith(" .args") or a.startswith(".args")}
+        self.loops = {norm(old): (new, names, changed) for ((old, new), names), changed in zip(of["loops"], of["changed"])}
+
+    def need(self, text):
+        it = norm(text)
+        return self.needs.get(it) or self.new_needs.get(it)
+
+    def path(self, head, fields):
+        """A path below c, or below a name that stands for a part of c."""
+        out = []
+        at = 0
+        fields = [f for f in fields if f != "before"]
+        step = None
+        while at < len(fields):
+            f = fields[at]
+            if step is None and norm(f) in self.steps:
+                step = self.steps[norm(f)]
+                out.append(step)
+            elif step is not None and norm(f) in self.fields.get(step, {}):
+                out.append(self.fields[step][norm(f)])
+            elif step is not None and f in ("new", "auto") and at + 1 < len(fields) and fields[at + 1] in "01":
+                out.append(f)
+                index = 0
+                at += 1
+                while at < len(fields) and fields[at] == "1":
+                    index += 1
+                    at += 1
+                names = self.params.get(step, [])
+                if at < len(fields) and fields[at] == "0":
+                    out.append(names[index] if index < len(names) else f"?{index}")
+                else:
+                    continue
+            elif f == "args" and at + 1 < len(fields):
+                out.append(f)
+                at += 1
+                out.append(self.args.get(fields[at], fields[at]))
+                step = step or "args"
+            else:
+                out.append(f)
+                if step is None:
+                    step = f
+            at += 1
+        return ".".join([head, *out])
+
+    def body(self, text):
+        """The text of an answer, its paths turned."""
+        aliases = {"c": None}
+        for found in re.finditer(r"let (%s) = (c|%s)((?:\.%s)+) in" % (W, W, W), text):
+            if found[2] in aliases:
+                fields = [f for f in found[3][1:].split(".") if f != "before"]
+                step = next((self.steps[norm(f)] for f in fields if norm(f) in self.steps), None)
+                if step is None and aliases[found[2]]:
+                    step = aliases[found[2]]
+                aliases[found[1]] = step or (fields[0] if fields else None)
+        for found in re.finditer(r"let (%s) = (%s) in" % (W, W), text):
+            if found[2] in aliases:
+                aliases[found[1]] = aliases[found[2]]
+
+        def one(match):
+            head, rest = match[1], match[2]
+            fields = rest[1:].split(".")
+            if head not in aliases:
+                return match[0]
+            if aliases[head] is None:
+                return self.path(head, fields)
+            step = aliases[head]
+            out = []
+            first = True
+            at = 0
+            while at < len(fields):
+                f = fields[at]
+                if f == "before":
+                    at += 1
+                    continue
+                if first and norm(f) in self.fields.get(step, {}):
+                    out.append(self.fields[step][norm(f)])
+                elif first and f in ("new", "auto") and at + 1 < len(fields) and fields[at + 1] in "01":
+                    out.append(f)
+                    at += 1
+                    index = 0
+                    while at < len(fields) and fields[at] == "1":
+                        index += 1
+                        at += 1
+                    names = self.params.get(step, [])
+                    out.append(names[index] if index < len(names) else f"?{index}")
+                elif norm(f) in self.steps and step == "args":
+                    out.append(f)
+                elif first and step == "args":
+                    out.append(self.args.get(f, f))
+                else:
+                    out.append(f)
+                first = False
+                at += 1
+            return ".".join([head, *out])
+
+        text = re.sub(r"(?<![\w.)'-])(%s)((?:\.%s)+)" % (W, W), one, text)
+        return re.sub(r"let (%s) = c in" % W, r"let \1 = c in", text)
+
+
+def invariant(turn, block):
+    """An invariant or a measure: its patterns become fields of l."""
+    name = block.name
+    kind, loop = re.match(r"(invariant|decreases)[-_](\S+)", name).groups()
+    if norm(loop) not in turn.loops:
+        return None
+    new, variables, changed = turn.loops[norm(loop)]
+    head, _, body = block.text.partition("\n")
+    comment = []
+    while head.startswith("--"):
+        comment.append(head)
+        head, _, body = body.partition("\n")
+    unfolding = ""
+    while body.startswith("unfolding "):
+        line, _, body = body.partition("\n")
+        unfolding += line + "\n"
+    left, _, right = body.partition(" =")
+    patterns = left.split()[1:]
+    values = [f"l.initial.{v}" if c else f"l.{v}" for v, c in zip(variables, changed)] + [f"l.{v}" for v, c in zip(variables, changed) if c]
+    if len(patterns) != len(values) or any(not re.fullmatch(W, p) for p in patterns):
+        return None
+    table = {p: v for p, v in zip(patterns, values) if p != "_"}
+
+    def one(match):
+        word = match[0]
+        before = right[: match.start()]
+        if word in table and not before.endswith("."):
+            return table[word]
+        return word
+
+    right = TOKEN.sub(one, right)
+    full = f"{kind}-{new}"
+    return "\n".join(comment) + ("\n" if comment else "") + f"abbrev pub {full} : goal.{full}\n{unfolding}{full} l ={right}"
+
+
+def answer(turn, block):
+    """(goal, text, or None where the check finds it alone)"""
+    lines = block.text.splitlines()
+    comment = []
+    while lines[0].startswith("--"):
+        comment.append(lines.pop(0))
+    found = re.match(r"^(?:pub )?(\S+) : tie\.Need-(\S+)", lines[0])
+    new = turn.need(found[2])
+    name = found[1]
+    rest = lines[1:]
+    unfolding = [l for l in rest if l.startswith("unfolding ")]
+    rest = [l for l in rest if not l.startswith("unfolding ")]
+    if not rest:
+        return name, new, None, "no clause"
+    text = "\n".join(rest)
+    clause = re.match(r"^%s((?: %s| _)*) =" % (re.escape(name), W), text)
+    if not clause:
+        return name, new, None, "clause by patterns"
+    arguments = [a for a in clause[1].split() if a not in ("κs",)]
+    body = text[clause.end() :]
+    if SEARCH.match(" ".join(body.split())) and not unfolding:
+        return name, new, None, None
+    if new is None:
+        return name, new, None, "settled" if norm(found[2]) in turn.settled else f"no goal {found[2]}"
+    body = turn.body(body)
+    out = comment + [f"pub {new} : goal.{new}"] + unfolding + [f"{new} {' '.join(arguments)} ={body}"]
+    return name, new, "\n".join(out), None
+
+
+def used(start, helpers):
+    """The helpers that these words need, in the order in which they stand."""
+    want, seen = set(start), set()
+    again = True
+    while again:
+        again = False
+        for i, b in enumerate(helpers):
+            if i not in seen and b.declares & want:
+                seen.add(i)
+                want |= b.words()
+                again = True
+    return [helpers[i] for i in sorted(seen)]
+
+
+def public(text):
+    out = []
+    for line in text.splitlines():
+        if re.match(r"^(abbrev |unfoldable )?(record |data )?[^\s(].* (: |where$)", line) and not line.startswith(("module", "--", "unfolding", "pub ")):
+            line = re.sub(r"^(abbrev |unfoldable )?", lambda m: (m[1] or "") + "pub ", line)
+        out.append(line)
+    return "\n".join(out)
+
+
+def convert(crate, path, of):
+    text = path.read_text(encoding="utf-8")
+    if "Lts-" in text or "tie.Joined" in text or "tie.Then" in text or "tie.Start" in text:
+        return "walks by hand"
+    if "open goal" in text:
+        return "opens"
+    function = ".".join(path.parent.relative_to(ROOT / "crates" / crate / "proofs").parts)
+    turn = Turn(of)
+    header, uses, parts = blocks(text)
+    uses = [u for u in uses if not re.search(r"\.(Statement\.\{statement\}|Tie as tie)$", u)]
+    invariants, answers, helpers, notes, renamed = [], [], [], [], {}
+    for b in parts:
+        if re.search(r": \{M : Type 1\} → statement M", b.text):
+            continue
+        if re.search(r"(?m)^(abbrev )?(pub )?\S+ : tie\.(invariant|decreases)[-_]", b.text):
+            it = invariant(turn, b)
+            if it is None:
+                return f"invariant {b.name}"
+            invariants.append((b, it))
+        elif re.search(r"(?m)^(pub )?\S+ : tie\.Need-", b.text):
+            name, new, out, why = answer(turn, b)
+            if why and why != "settled":
+                notes.append(f"{name}: {why}")
+            if new:
+                renamed[name] = new
+            if out:
+                answers.append(out)
+        else:
+            helpers.append(b)
+    folder = path.parent
+    said = "\n".join(header).strip()
+    made = []
+    early = []
+    if invariants:
+        words = set()
+        for _, it in invariants:
+            words |= {w for w in TOKEN.findall(it) if not w.startswith("--")}
+        early = used(words, helpers)
+        lines = [said] if said else []
+        lines += [u for u in uses]
+        lines.append(f"use Rattle.{crate}.proofs.{function}.Given as goal")
+        for b in early:
+            lines += ["", public(b.text)]
+        for _, it in invariants:
+            lines += ["", it]
+        (folder / "Invariants.antt").write_text("\n".join(lines) + "\n", encoding="utf-8")
+        made.append("Invariants")
+    late = [b for b in helpers if b not in early]
+    words = {w for a in answers for w in TOKEN.findall(a) if not w.startswith("--")}
+    late = used(words, late)
+    if answers:
+        lines = [said] if said else []
+        lines += uses
+        names = sorted(set().union(*(b.declares for b in early)) if early else set())
+        names = [n for n in names if n not in ("where",)]
+        if names:
+            lines.append(f"use Rattle.{crate}.proofs.{function}.Invariants.{{{', '.join(names)}}}")
+        lines.append(f"use Rattle.{crate}.proofs.{function}.Goals as goal")
+        for b in late:
+            lines += ["", b.text]
+        for a in answers:
+            lines += ["", a]
+        (folder / "Answers.antt").write_text("\n".join(lines) + "\n", encoding="utf-8")
+        made.append("Answers")
+    path.unlink()
+    return " ".join(made or ["nothing is left"]) + ("; " + "; ".join(notes) if notes else "")
+
+
+def main():
+    for crate in sys.argv[1:]:
+        names = names_of(crate)
+        for path in sorted((ROOT / "crates" / crate / "proofs").rglob("Proof.antt")):
+            function = ".".join(path.parent.relative_to(ROOT / "crates" / crate / "proofs").parts)
+            of = names.get(f"Rattle-{crate}-proofs.{function}.Lts")
+            said = convert(crate, path, of) if of else "no names"
+            print(f"{crate}::{function}: {said}")
+
+
+main()
