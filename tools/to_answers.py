@@ -61,11 +61,12 @@ def blocks(text):
         header.append(lines[at])
         at += 1
     uses, rest = [], []
-    for line in lines[at:]:
+    text = re.sub(r"(?m)^((?:pub )?use [^\n{]*\{)([^}]*)\}", lambda m: m[1] + " ".join(m[2].split()).rstrip(",") + "}", "\n".join(lines[at:]))
+    for line in text.splitlines():
         (uses if re.match(r"^(pub )?use ", line) else rest).append(line)
     out, current = [], []
     for line in rest:
-        begins = line and not line[0].isspace() and not line.startswith("--")
+        begins = line and not line[0].isspace() and line[0] not in "})]" and not line.startswith("--")
         if begins and current:
             name = re.match(r"^(?:(?:abbrev|unfoldable|pub|record|data) )*(\S+)", line)[1]
             have = [l for l in current if l.strip() and not l.startswith("--")]
@@ -85,123 +86,100 @@ def blocks(text):
 
 
 class Turn:
+    """The names of one function, old and new."""
+
     def __init__(self, of):
+        self.of = of
         self.needs = {}
-        for old, new in of["needs"]:
+        self.at = {}
+        places = [at for _, at in sorted((i, p) for i, p in enumerate(of["asked_at"]))]
+        for (old, new), at in zip(of["needs"], places):
             self.needs.setdefault(norm(old), new)
+            self.at.setdefault(new, at[0])
         self.new_needs = {norm(new): new for _, new in of["needs"]}
         self.settled = {norm(n) for n in of.get("settled", [])}
-        self.steps = {}
-        self.fields = {}
-        self.params = {}
-        self.clauses = {}
-        for place, clause in zip(of["places"], of["clauses"]):
-            _, _, (old, new), callee, extra = place
-            if not old:
-                continue
-            self.steps.setdefault(norm(old), new)
-            self.fields.setdefault(new, {}).update({norm(a): b for a, b in extra})
-            if callee:
-                self.params[new] = of["params"].get(callee, [])
-            if clause:
-                self.clauses[new] = clause["fields"]
-        self.args = {a.split(" .")[-1]: b.split(" .")[-1] for a, b in of["args"] if a.startswith(" .args") or a.startswith(".args")}
+        self.places = {p[0]: i for i, p in enumerate(of["places"])}
+        self.args = {a.split(" .")[-1]: b.split(" .")[-1] for a, b in of["args"] if ".args" in a}
         self.loops = {norm(old): (new, names, changed) for ((old, new), names), changed in zip(of["loops"], of["changed"])}
 
     def need(self, text):
         it = norm(text)
         return self.needs.get(it) or self.new_needs.get(it)
 
-    def path(self, head, fields):
-        """A path below c, or below a name that stands for a part of c."""
-        out = []
-        at = 0
+    def stand(self, goal):
+        """What is known where a goal stands: the steps and the arms on the way to it, the nearest first."""
+        self.steps, self.arms = {}, {}
+        place = self.at.get(goal)
+        if place not in self.places:
+            order = range(len(self.of["places"]))
+        else:
+            order = []
+            while place in self.places:
+                order.append(self.places[place])
+                place = self.of["places"][self.places[place]][1]
+        for i in order:
+            _, _, (old, new), callee, extra = self.of["places"][i]
+            if old and norm(old) not in self.steps:
+                fields = {norm(x): y for x, y in extra}
+                self.steps[norm(old)] = (new, fields, self.of["params"].get(callee, []) if callee else [])
+            arm = self.of["arms"][i]
+            if arm:
+                for field, step, path in arm[2]:
+                    self.arms.setdefault((norm(step), tuple(path)), (arm[0], field))
+
+    def path(self, fields):
+        """The new fields of a path below c."""
         fields = [f for f in fields if f != "before"]
-        step = None
-        while at < len(fields):
-            f = fields[at]
-            if step is None and norm(f) in self.steps:
-                step = self.steps[norm(f)]
-                out.append(step)
-            elif step is not None and norm(f) in self.fields.get(step, {}):
-                out.append(self.fields[step][norm(f)])
-            elif step is not None and f in ("new", "auto") and at + 1 < len(fields) and fields[at + 1] in "01":
-                out.append(f)
-                index = 0
-                at += 1
-                while at < len(fields) and fields[at] == "1":
-                    index += 1
+        if not fields:
+            return []
+        first = norm(fields[0])
+        for size in range(len(fields) - 1, -1, -1):
+            arm = self.arms.get((first, tuple(fields[1 : 1 + size])))
+            if arm:
+                return [arm[0], arm[1], *fields[1 + size :]]
+        if first in self.steps:
+            new, changed, params = self.steps[first]
+            out, rest = [new], fields[1:]
+            if rest and norm(rest[0]) in changed:
+                out.append(changed[norm(rest[0])])
+                rest = rest[1:]
+            elif len(rest) > 1 and rest[0] in ("new", "auto") and rest[1] in ("0", "1"):
+                at = 1
+                while at < len(rest) and rest[at] == "1":
                     at += 1
-                names = self.params.get(step, [])
-                if at < len(fields) and fields[at] == "0":
-                    out.append(names[index] if index < len(names) else f"?{index}")
-                else:
-                    continue
-            elif f == "args" and at + 1 < len(fields):
-                out.append(f)
-                at += 1
-                out.append(self.args.get(fields[at], fields[at]))
-                step = step or "args"
-            else:
-                out.append(f)
-                if step is None:
-                    step = f
-            at += 1
-        return ".".join([head, *out])
+                index = at - 1
+                out += [rest[0], params[index] if index < len(params) else f"param{index}"]
+                rest = rest[at + 1 :]
+            return out + rest
+        if fields[0] in ("args", "ranges") and len(fields) > 1:
+            return [fields[0], self.args.get(fields[1], fields[1]), *fields[2:]]
+        return fields
 
     def body(self, text):
-        """The text of an answer, its paths turned."""
-        aliases = {"c": None}
-        for found in re.finditer(r"let (%s) = (c|%s)((?:\.%s)+) in" % (W, W, W), text):
-            if found[2] in aliases:
-                fields = [f for f in found[3][1:].split(".") if f != "before"]
-                step = next((self.steps[norm(f)] for f in fields if norm(f) in self.steps), None)
-                if step is None and aliases[found[2]]:
-                    step = aliases[found[2]]
-                aliases[found[1]] = step or (fields[0] if fields else None)
-        for found in re.finditer(r"let (%s) = (%s) in" % (W, W), text):
-            if found[2] in aliases:
-                aliases[found[1]] = aliases[found[2]]
+        """The text of an answer, its paths turned. A name that only stands for a path goes."""
+        aliases = {"c": []}
+        again = True
+        while again:
+            again = False
+            for found in re.finditer(r"(?<![\w'-])let (%s) = (%s)((?:\.%s)*) in\b[ \n]?" % (W, W, W), text):
+                if found[2] in aliases and found[1] != "c":
+                    aliases[found[1]] = aliases[found[2]] + ([f for f in found[3][1:].split(".")] if found[3] else [])
+                    line = text.rfind("\n", 0, found.start()) + 1
+                    start = found.start()
+                    if found[0].endswith("\n") and not text[line:start].strip():
+                        start = line
+                    text = text[:start] + text[found.end() :]
+                    again = True
+                    break
 
         def one(match):
             head, rest = match[1], match[2]
-            fields = rest[1:].split(".")
             if head not in aliases:
                 return match[0]
-            if aliases[head] is None:
-                return self.path(head, fields)
-            step = aliases[head]
-            out = []
-            first = True
-            at = 0
-            while at < len(fields):
-                f = fields[at]
-                if f == "before":
-                    at += 1
-                    continue
-                if first and norm(f) in self.fields.get(step, {}):
-                    out.append(self.fields[step][norm(f)])
-                elif first and f in ("new", "auto") and at + 1 < len(fields) and fields[at + 1] in "01":
-                    out.append(f)
-                    at += 1
-                    index = 0
-                    while at < len(fields) and fields[at] == "1":
-                        index += 1
-                        at += 1
-                    names = self.params.get(step, [])
-                    out.append(names[index] if index < len(names) else f"?{index}")
-                elif norm(f) in self.steps and step == "args":
-                    out.append(f)
-                elif first and step == "args":
-                    out.append(self.args.get(f, f))
-                else:
-                    out.append(f)
-                first = False
-                at += 1
-            return ".".join([head, *out])
+            fields = aliases[head] + (rest[1:].split(".") if rest else [])
+            return ".".join(["c", *self.path(fields)])
 
-        text = re.sub(r"(?<![\w.)'-])(%s)((?:\.%s)+)" % (W, W), one, text)
-        return re.sub(r"let (%s) = c in" % W, r"let \1 = c in", text)
+        return re.sub(r"(?<![\w.)'-])(%s)((?:\.%s)*)(?![\w'-])" % (W, W), one, text)
 
 
 def invariant(turn, block):
@@ -263,6 +241,7 @@ def answer(turn, block):
         return name, new, None, None
     if new is None:
         return name, new, None, "settled" if norm(found[2]) in turn.settled else f"no goal {found[2]}"
+    turn.stand(new)
     body = turn.body(body)
     out = comment + [f"pub {new} : goal.{new}"] + unfolding + [f"{new} {' '.join(arguments)} ={body}"]
     return name, new, "\n".join(out), None
@@ -284,6 +263,8 @@ def used(start, helpers):
 
 def public(text):
     out = []
+    if re.search(r"(?m)^(pub )?record ", text):
+        text = re.sub(r"(?m)^  (?!pub |--)([^\s:(]+ :)", r"  pub \1", text)
     for line in text.splitlines():
         if re.match(r"^(abbrev |unfoldable )?(record |data )?[^\s(].* (: |where$)", line) and not line.startswith(("module", "--", "unfolding", "pub ")):
             line = re.sub(r"^(abbrev |unfoldable )?", lambda m: (m[1] or "") + "pub ", line)
