@@ -25,12 +25,12 @@ loop-k-preserved c =
     let past : (b < c.loop-k.index → a < b) → Earliest c.args.first c.args.n c.args.sheet.now (c.loop-k.k + 1) c.loop-k.index c.loop-k.line =
     earliest_past c.args.first c.args.n c.args.sheet.now c.loop-k.k c.loop-k.index c.loop-k.line a b c.first_of-a.ensures c.first_of-b.ensures c.loop-k.invariant.0 in (
       elim c.if-b-index.branch [
-        then-b-index+then-b-a w ↦ left_at c.args.first c.args.n c.args.sheet.now (c.loop-k.k + 1) c.if-b-index.index b c.if-b-index.line c.loop-k.k w.index-is w.line-is
-          (earliest_here c.args.first c.args.n c.args.sheet.now c.loop-k.k c.loop-k.index c.loop-k.line a b c.first_of-a.ensures c.first_of-b.ensures c.loop-k.invariant.0 w.if-b-index.true w.if-b-a.true)
+        | then-b-index+then-b-a w ↦ left_at c.args.first c.args.n c.args.sheet.now (c.loop-k.k + 1) c.if-b-index.index b c.if-b-index.line c.loop-k.k w.index-is w.line-is
+            (earliest_here c.args.first c.args.n c.args.sheet.now c.loop-k.k c.loop-k.index c.loop-k.line a b c.first_of-a.ensures c.first_of-b.ensures c.loop-k.invariant.0 w.if-b-index.true w.if-b-a.true)
         | then-b-index+else-b-a w ↦ left_at c.args.first c.args.n c.args.sheet.now (c.loop-k.k + 1) c.if-b-index.index c.loop-k.index c.if-b-index.line c.loop-k.line w.index-is w.line-is
-          (past (λ m. w.if-b-a.false))
+            (past (λ m. w.if-b-a.false))
         | else-b-index w ↦ left_at c.args.first c.args.n c.args.sheet.now (c.loop-k.k + 1) c.if-b-index.index c.loop-k.index c.if-b-index.line c.loop-k.line w.index-is w.line-is
-          (past (λ m. let z = w.if-b-index.false in absurd (omega arith)))
+            (past (λ m. let z = w.if-b-index.false in absurd (omega arith)))
       ],
       omega arith,
     )
