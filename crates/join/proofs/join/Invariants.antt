@@ -1,0 +1,14 @@
+-- The invariant: the runs before the open one are stored, those behind it are still in the lists.
+use Prim.Native.Nat.{◌+◌, ◌-◌}
+use mathlib.Core.Path.{◌≡◌, refl, sym, ◌∙◌}
+use native.Mathlib.Omega.{arith}
+use lib.ListN.{length}
+use Rattle.join.specs.laws.Join.{Joining, whole-rest, joining_start, joins_none, place_right, left_any, right_any, open_left, open_right, joins_left, joins_right, joining_meet, joining_full, joining_room, joining_apart}
+use borrow.Author.Rules.{rules}
+use Rattle.join.proofs.join.Given as goal
+
+abbrev pub invariant-loop-run : goal.invariant-loop-run
+invariant-loop-run l = Joining l.a l.b l.set l.n l.run × (l.stores ≡ l.n)
+
+abbrev pub decreases-loop-run : goal.decreases-loop-run
+decreases-loop-run l = (length l.a + length l.b) - (l.run.i + l.run.j)
