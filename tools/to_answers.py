@@ -104,7 +104,8 @@ class Turn:
 
     def need(self, text):
         it = norm(text)
-        return self.needs.get(it) or self.new_needs.get(it)
+        # the renaming put `overflow` before each product too, also where it is an index's times an element's size
+        return self.needs.get(it) or self.new_needs.get(it) or self.needs.get(it.removeprefix("overflow-"))
 
     def stand(self, goal):
         """What is known where a goal stands: the steps and the arms on the way to it, the nearest first."""

@@ -9,8 +9,7 @@ use Rattle.runs.specs.Runs.{most_runs}
 use Rattle.runs.specs.Set.{slot_words, cuts_of, member, Valid, Holds}
 use Rattle.runs.specs.laws.Set.{held, cuts-length}
 use borrow.Author.Rules.{rules}
-use Rattle.runset.proofs.RunSet.copy.Statement.{statement}
-use Rattle.runset.proofs.RunSet.copy.Tie as tie
+use Rattle.runset.proofs.RunSet.copy.Goals as goal
 
 short : (a k : List ℕ) → Valid a → k ≡ cuts_of a → length k ≤ 2 * most_runs
 short a k v e = omega (arith, ap length e ∙ cuts-length a v, v.few)
@@ -24,31 +23,11 @@ copied a old k p v e size is =
     (ap (λ (i : ℕ). take i (set p (2 * most_runs) (length k))) (sym n) ∙ take-set-le (length k) p (2 * most_runs) (length k) (short a k v e) ∙ ap (take (length k)) is ∙ take-append_seam k (drop (0 + length k) old) ∙ e)
     (member a) (λ w h. refl)
 
-cuts_of_requires : tie.Need-cuts-of-requires
-cuts_of_requires c κs = search rules
+pub copy-requires : goal.copy-requires
+copy-requires c = let s = c in omega (arith, short s.args.a.now _ s.requires.0 c.cuts_of-cuts.ensures, s.requires.1)
 
-copy_requires : tie.Need-copy-requires
-copy_requires c κs = let s = c.before.before.before.before in omega (arith, short s.args.a.now _ s.requires.0 c.before.cuts-of.ensures, s.requires.1)
+pub overflow_cast-set : goal.overflow_cast-set
+overflow_cast-set c = let s = c in omega (arith, short s.args.a.now _ s.requires.0 c.cuts_of-cuts.ensures)
 
-cast_set : tie.Need-overflow-cast-set
-cast_set c = let s = c.before.before.before.before.before.before.before in omega (arith, short s.args.a.now _ s.requires.0 c.before.before.before.before.cuts-of.ensures)
-
-slice_write_set : tie.Need-slice-write-set
-slice_write_set c = search rules
-
-same_length : tie.Need-same-length
-same_length c = search rules
-
-returns : tie.Need-returns
-returns c = let s = c.before.before.before.before.before.before.before in copied s.args.a.now s.args.set.now _ _ s.requires.0 c.before.before.before.before.cuts-of.ensures (c.before.set.given ∙ s.requires.1) c.before.before.copy.ensures
-
-pub copy_spec : {M : Type 1} → statement M
-copy_spec =
-    tie.close
-    (tie.spec
-    cuts_of_requires
-    copy_requires
-    cast_set
-    slice_write_set
-    same_length
-    returns)
+pub returns : goal.returns
+returns c = let s = c in copied s.args.a.now s.args.set.now _ _ s.requires.0 c.cuts_of-cuts.ensures (c.set-1.given ∙ s.requires.1) c.copy.ensures

@@ -1,0 +1,17 @@
+-- The first cut of the run.
+use native.Mathlib.Omega.{arith}
+use Rattle.runs.specs.laws.Set.{valid_cuts}
+use Rattle.runset.proofs.Reading.{run}
+use Rattle.runset.proofs.RunSet.low.Goals as goal
+
+pub overflow_mul-result : goal.overflow_mul-result
+overflow_mul-result c = omega (arith, valid_cuts c.args.set.now c.requires.0, c.requires.0.few, c.requires.0.size)
+
+pub offset_bounds-set-run : goal.offset_bounds-set-run
+offset_bounds-set-run c = omega (arith, valid_cuts c.args.set.now c.requires.0, c.requires.0.few, c.requires.0.size)
+
+pub bounds-set-run : goal.bounds-set-run
+bounds-set-run c = omega (arith, valid_cuts c.args.set.now c.requires.0, c.requires.0.few, c.requires.0.size)
+
+pub returns : goal.returns
+returns c = let s = c in (run s.args.set.now s.requires.0 s.args.run s.requires.1).low
