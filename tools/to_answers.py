@@ -104,8 +104,8 @@ class Turn:
 
     def need(self, text):
         it = norm(text)
-        # the renaming put `overflow` before each product too, also where it is an index's times an element's size
-        return self.needs.get(it) or self.new_needs.get(it) or self.needs.get(it.removeprefix("overflow-"))
+        # the renaming put `overflow` before the old name of each sum and product, also where it is an index's times an element's size
+        return self.needs.get(it) or self.needs.get(it.removeprefix("overflow-")) or self.new_needs.get(it)
 
     def stand(self, goal):
         """What is known where a goal stands: the steps and the arms on the way to it, the nearest first."""
