@@ -99,6 +99,7 @@ class Turn:
         self.new_needs = {norm(new): new for _, new in of["needs"]}
         self.settled = {norm(n) for n in of.get("settled", [])}
         self.places = {p[0]: i for i, p in enumerate(of["places"])}
+        self.places_new = {norm(p[0]): n for p, n in zip(of["places"], of["places_by_name"])}
         self.args = {a.split(" .")[-1]: b.split(" .")[-1] for a, b in of["args"] if ".args" in a}
         self.loops = {norm(old): (new, names, changed) for ((old, new), names), changed in zip(of["loops"], of["changed"])}
 
@@ -107,10 +108,10 @@ class Turn:
         # the renaming put `overflow` before the old name of each sum and product, also where it is an index's times an element's size
         return self.needs.get(it) or self.needs.get(it.removeprefix("overflow-")) or self.new_needs.get(it)
 
-    def stand(self, goal):
+    def stand(self, goal, place=None):
         """What is known where a goal stands: the steps and the arms on the way to it, the nearest first."""
         self.steps, self.arms = {}, {}
-        place = self.at.get(goal)
+        place = place or self.at.get(goal)
         if place not in self.places:
             order = range(len(self.of["places"]))
         else:
@@ -248,6 +249,16 @@ def answer(turn, block):
     return name, new, "\n".join(out), None
 
 
+def helper(turn, text):
+    """A lemma on a place in the code."""
+    found = re.search(r"tie\.((?:Joined|Then|Else|After|In|At)[^\s)]*)((?: (?:invariant|decreases)_\w+)*)", text)
+    old = next((p for p in turn.places if norm(p) == norm(found[1])), None) if found else None
+    if old is None:
+        return text
+    turn.stand(None, old)
+    return turn.body(text.replace(found[0], f"goal.{turn.places_new[norm(old)]}"))
+
+
 def used(start, helpers):
     """The helpers that these words need, in the order in which they stand."""
     want, seen = set(start), set()
@@ -275,7 +286,7 @@ def public(text):
 
 def convert(crate, path, of):
     text = path.read_text(encoding="utf-8")
-    if "Lts-" in text or "tie.Joined" in text or "tie.Then" in text or "tie.Start" in text:
+    if "Lts-" in text or "tie.Start" in text:
         return "walks by hand"
     if "open goal" in text:
         return "opens"
@@ -301,7 +312,7 @@ def convert(crate, path, of):
             if out:
                 answers.append(out)
         else:
-            helpers.append(b)
+            helpers.append(Block(helper(turn, b.text)) if "tie." in b.text else b)
     folder = path.parent
     said = "\n".join(header).strip()
     made = []
