@@ -234,7 +234,7 @@ def answer(turn, block):
     if not rest:
         return name, new, None, "no clause"
     text = "\n".join(rest)
-    clause = re.match(r"^%s((?: %s| _)*) =" % (re.escape(name), W), text)
+    clause = re.match(r"^%s((?: %s| _)*?) =" % (re.escape(name), W), text)
     if not clause:
         return name, new, None, "clause by patterns"
     arguments = [a for a in clause[1].split() if a not in ("κs",)]

@@ -1,0 +1,6 @@
+-- The span is the ray itself.
+use Rattle.leaves.specs.laws.Span.{spans_upto}
+use Rattle.leaves.proofs.span.upto.Goals as goal
+
+pub returns : goal.returns
+returns c = spans_upto c.args.high c.requires
