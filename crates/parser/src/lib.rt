@@ -19,7 +19,7 @@ pub enum Got {
 }
 
 // Texts joined by `|`.
-#[cycle(and_more_and_text_argument_binary_not_text_or_more_or_text_primary_unary)]
+#[cycle(reader)]
 pub fn or_text(text: &[u8], table: &mut [u32], at: usize, n: usize) -> Got
     requires { Room text.now table.old at n }
     ensures { Parses text.now (chain bars at) at n table.old table.new result }
@@ -31,7 +31,7 @@ pub fn or_text(text: &[u8], table: &mut [u32], at: usize, n: usize) -> Got
 }
 
 // The rest of texts joined by `|`: those read so far are the tree of the row before n.
-#[cycle(and_more_and_text_argument_binary_not_text_or_more_or_text_primary_unary)]
+#[cycle(reader)]
 fn or_more(text: &[u8], table: &mut [u32], at: usize, n: usize) -> Got
     requires { Room text.now table.old at n × (0 < n) }
     ensures { AnswersMore text.now bars at n table.old table.new result }
@@ -50,7 +50,7 @@ fn or_more(text: &[u8], table: &mut [u32], at: usize, n: usize) -> Got
 }
 
 // Texts joined by `&`.
-#[cycle(and_more_and_text_argument_binary_not_text_or_more_or_text_primary_unary)]
+#[cycle(reader)]
 fn and_text(text: &[u8], table: &mut [u32], at: usize, n: usize) -> Got
     requires { Room text.now table.old at n }
     ensures { Parses text.now (chain ampersands at) at n table.old table.new result }
@@ -62,7 +62,7 @@ fn and_text(text: &[u8], table: &mut [u32], at: usize, n: usize) -> Got
 }
 
 // The rest of texts joined by `&`.
-#[cycle(and_more_and_text_argument_binary_not_text_or_more_or_text_primary_unary)]
+#[cycle(reader)]
 fn and_more(text: &[u8], table: &mut [u32], at: usize, n: usize) -> Got
     requires { Room text.now table.old at n × (0 < n) }
     ensures { AnswersMore text.now ampersands at n table.old table.new result }
@@ -81,7 +81,7 @@ fn and_more(text: &[u8], table: &mut [u32], at: usize, n: usize) -> Got
 }
 
 // A text under `!`, which may be repeated.
-#[cycle(and_more_and_text_argument_binary_not_text_or_more_or_text_primary_unary)]
+#[cycle(reader)]
 fn not_text(text: &[u8], table: &mut [u32], at: usize, n: usize) -> Got
     requires { Room text.now table.old at n }
     ensures { Parses text.now (not_at at) at n table.old table.new result }
@@ -100,7 +100,7 @@ fn not_text(text: &[u8], table: &mut [u32], at: usize, n: usize) -> Got
 }
 
 // A leaf, or an opening and what it holds.
-#[cycle(and_more_and_text_argument_binary_not_text_or_more_or_text_primary_unary)]
+#[cycle(reader)]
 fn primary(text: &[u8], table: &mut [u32], at: usize, n: usize) -> Got
     requires { Room text.now table.old at n }
     ensures { Parses text.now (prim_at at) at n table.old table.new result }
@@ -124,7 +124,7 @@ fn primary(text: &[u8], table: &mut [u32], at: usize, n: usize) -> Got
 }
 
 // Behind `X(`, `F(` or `G(`: a text and a bracket.
-#[cycle(and_more_and_text_argument_binary_not_text_or_more_or_text_primary_unary)]
+#[cycle(reader)]
 fn unary(text: &[u8], table: &mut [u32], at: usize, n: usize, kind: u32) -> Got
     requires { Room text.now table.old at n × (n < at) × (unary_from ≤ kind) × (kind < binary_from) }
     ensures { AnswersOpened text.now kind at n table.old table.new result }
@@ -139,7 +139,7 @@ fn unary(text: &[u8], table: &mut [u32], at: usize, n: usize, kind: u32) -> Got
 }
 
 // Behind `U(` or `W(`: a text, a comma, a text and a bracket.
-#[cycle(and_more_and_text_argument_binary_not_text_or_more_or_text_primary_unary)]
+#[cycle(reader)]
 fn binary(text: &[u8], table: &mut [u32], at: usize, n: usize, kind: u32) -> Got
     requires { Room text.now table.old at n × (n < at) × (binary_from ≤ kind) × (kind < kinds) }
     ensures { AnswersOpened text.now kind at n table.old table.new result }
@@ -157,7 +157,7 @@ fn binary(text: &[u8], table: &mut [u32], at: usize, n: usize, kind: u32) -> Got
 }
 
 // A whole text, and the byte behind it.
-#[cycle(and_more_and_text_argument_binary_not_text_or_more_or_text_primary_unary)]
+#[cycle(reader)]
 fn argument(text: &[u8], table: &mut [u32], at: usize, n: usize, end: u8) -> Got
     requires { Room text.now table.old at n × (0 < end) }
     ensures { Parses text.now (argument end at) at n table.old table.new result }

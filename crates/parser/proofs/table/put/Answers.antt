@@ -1,0 +1,21 @@
+-- Four stores make the row.
+use native.Mathlib.Omega.{arith}
+use borrow.Author.Rules.{rules}
+use lib.ListN.{length-set}
+use Rattle.parser.proofs.TableLaws.{put-row}
+use Rattle.parser.proofs.table.put.Goals as goal
+
+pub bounds-table-at-2 : goal.bounds-table-at-2
+bounds-table-at-2 c = simp length-set (omega arith)
+
+pub bounds-table-at-3 : goal.bounds-table-at-3
+bounds-table-at-3 c = simp length-set (omega arith)
+
+pub bounds-table-at-4 : goal.bounds-table-at-4
+bounds-table-at-4 c = simp length-set (omega arith)
+
+pub shape_of-table : goal.shape_of-table
+shape_of-table c = simp length-set
+
+pub returns : goal.returns
+returns c = put-row c.args.table.now c.args.n c.args.r c.requires
