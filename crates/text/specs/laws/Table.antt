@@ -83,7 +83,7 @@ tree-held {T} (unary {b} {m} {p} k a c h q) r (suc f) e l =
     ap (λ (z : ℕ). build (row_at T z) (tree T f (row_at T z).first) (tree T f (row_at T z).second)) x
     ∙ ap (λ (z : Row). build z (tree T f z.first) (tree T f z.second)) q
     ∙ build_unary k (m - 1) 0 0 (tree T f (m - 1)) (tree T f 0) (tree T f (m - 1)) a c
-    ∙ ap (λ (z : Text). node k z z) (tree-held h (m - 1) f (omega arith) (omega arith))
+    ∙ ap (λ (z : Text). node k z z) (tree-held {b = b} {m = m} {t = p} h (m - 1) f (omega arith) (omega arith))
 tree-held {T} (binary {b} {m} {n} {p} {q = u} k a c h g q) r (suc f) e l =
     let x : r ≡ n = omega arith in
     let y = laid_above h in
@@ -91,8 +91,8 @@ tree-held {T} (binary {b} {m} {n} {p} {q = u} k a c h g q) r (suc f) e l =
     ap (λ (z : ℕ). build (row_at T z) (tree T f (row_at T z).first) (tree T f (row_at T z).second)) x
     ∙ ap (λ (z : Row). build z (tree T f z.first) (tree T f z.second)) q
     ∙ build_binary k (m - 1) (n - 1) 0 (tree T f (m - 1)) (tree T f (n - 1)) a c
-    ∙ ap (λ (z : Text). node k z (tree T f (n - 1))) (tree-held h (m - 1) f (omega arith) (omega arith))
-    ∙ ap (λ (z : Text). node k p z) (tree-held g (n - 1) f (omega arith) (omega arith))
+    ∙ ap (λ (z : Text). node k z (tree T f (n - 1))) (tree-held {b = b} {m = m} {t = p} h (m - 1) f (omega arith) (omega arith))
+    ∙ ap (λ (z : Text). node k p z) (tree-held {b = m} {m = n} {t = u} g (n - 1) f (omega arith) (omega arith))
 
 pub decoded : {T : List ℕ} {b m : ℕ} {t : Text} → Laid T b m t → tree_at T (m - 1) ≡ t
 unfolding tree_at
