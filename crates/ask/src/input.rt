@@ -4,8 +4,12 @@ ghost use Rattle.io.specs.Counts.{IsPrefixLen};
 ghost use Rattle.page.specs.Intake.{spare};
 ghost use Rattle.ask.specs.Reading.{is_more, is_ended, Taken, Turn, Turns, Recorded};
 
+use std::fs;
+use std::io::{Error, ErrorKind, Read};
+use std::rt::Files;
+
 // How far an input is read.
-#[derive(Drop)]
+#[derive(Clone, Copy)]
 pub enum State {
     More,
     Ended,
@@ -13,7 +17,7 @@ pub enum State {
 }
 
 // An input, of which the first bytes of a store are kept.
-#[derive(Drop)]
+#[derive(Clone, Copy)]
 pub struct Input {
     pub kept: usize,
     pub state: State,
@@ -68,20 +72,31 @@ fn take_read(store: &mut [u8], n: usize, buffer: &[u8], got: isize) -> Input
     }
 }
 
-// Reads the next piece behind the n bytes that are kept.
-fn read_on(fd: i32, store: &mut [u8], n: usize) -> Input
+// Reads the next piece behind the n bytes that are kept. The error of a read that failed is left in `failure`.
+fn read_on<R: Read>(
+    reader: &mut R,
+    failure: &mut Option<Error>,
+    store: &mut [u8],
+    n: usize,
+) -> Input
     requires { (spare ≤ length store.old) × IsPrefixLen n store.old }
     ensures turn { Turn store.old n store.new result }
     ensures prefix_len { IsPrefixLen result.kept store.new }
 {
     let mut buffer = io::buffer();
-    let got = libc::read(fd, &mut buffer);
+    let got = match reader.read(&mut buffer) {
+        Ok(size) => size as isize,
+        Err(error) => {
+            *failure = Some(error);
+            -1
+        }
+    };
     take_read(store, n, &buffer, got)
 }
 
 // Reads to the end. A proved loop has to end, and nothing says that an input does: so the turns are counted down,
 // from a number that no run uses up. An input that goes on after that is not whole.
-pub fn read_all(fd: i32, store: &mut [u8]) -> Input
+pub fn read_all<R: Read>(reader: &mut R, failure: &mut Option<Error>, store: &mut [u8]) -> Input
     requires { spare ≤ length store.old }
     ensures turns { Turns store.old store.new result }
     ensures prefix_len { IsPrefixLen result.kept store.new }
@@ -89,7 +104,7 @@ pub fn read_all(fd: i32, store: &mut [u8]) -> Input
     let mut kept: usize = 0;
     let mut turns = u64::MAX;
     while turns > 0 {
-        let next = read_on(fd, store, kept);
+        let next = read_on(reader, failure, store, kept);
         kept = next.kept;
         if !goes_on(next) {
             return next;
@@ -103,19 +118,25 @@ pub fn read_all(fd: i32, store: &mut [u8]) -> Input
 }
 
 // Reads the recording. A missing file counts as an empty one.
-pub fn read_recording(store: &mut [u8]) -> Input
+pub fn read_recording<R: Files>(
+    files: &R,
+    failure: &mut Option<Error>,
+    store: &mut [u8],
+) -> Input
     requires { spare ≤ length store.old }
     ensures recorded { Recorded store.old store.new result }
     ensures prefix_len { IsPrefixLen result.kept store.new }
 {
-    let fd = os::open_read(b"run.rec");
-    if fd >= 0 {
-        return read_all(fd, store);
+    match fs::open(files, "run.rec") {
+        Ok(mut file) => read_all(&mut file, failure, store),
+        Err(error) => {
+            let state = if error.kind() == ErrorKind::NotFound {
+                State::Ended
+            } else {
+                State::Failed
+            };
+            *failure = Some(error);
+            Input { kept: 0, state }
+        }
     }
-    let state = if os::errno() == libc::ENOENT {
-        State::Ended
-    } else {
-        State::Failed
-    };
-    Input { kept: 0, state }
 }

@@ -7,27 +7,46 @@
 
 mod input;
 
-use libc::{STDIN_FILENO, STDOUT_FILENO};
+use std::io::{Error, Write};
 
-fn main() {
+fn main(rt: HostRuntime) {
     let mut typed = [0u8; page::intake::TEXT_STORE];
+    let mut failure = None;
     // Before `run.rec` is opened: with standard input closed the file would get its descriptor.
-    let text = input::read_all(STDIN_FILENO, &mut typed);
+    let text = input::read_all(&mut rt.stdin(), &mut failure, &mut typed);
     if !input::is_whole(text) {
-        os::fail(b"standard input");
+        fail(&rt, "standard input", failure);
         return;
     }
     let mut store = [0u8; page::intake::RECORDING_STORE];
-    let rec = input::read_recording(&mut store);
+    let rec = input::read_recording(&rt, &mut failure, &mut store);
     if !input::is_whole(rec) {
-        os::fail(b"run.rec");
+        fail(&rt, "run.rec", failure);
         return;
     }
     let n = rec.kept;
     let m = text.kept;
     let mut out = [0u8; page::PAGE_SIZE];
     let size = page::answer(&store[..n], &typed[..m], &mut out);
-    if !io::write_all(STDOUT_FILENO, &out[..size]) {
-        os::fail(b"standard output");
+    if let Err(error) = rt.stdout().write_all(&out[..size]) {
+        fail(&rt, "standard output", Some(error));
     }
+}
+
+// Writes a line to standard error: what failed, and the system's text of the error.
+fn fail(rt: &(impl Eprint + AllocGlobal), what: &str, failure: Option<Error>) {
+    let Some(error) = failure else {
+        let _ = eprintln!(rt; "{what}: no end");
+        return;
+    };
+    let Ok(text) = format!(in rt.alloc(); "{error}") else {
+        let _ = eprintln!(rt; "{what}: {error}");
+        return;
+    };
+    // The system's text alone, without the number that std's text of an error ends with.
+    let words = match text.as_str().rsplit_once(" (os error ") {
+        Some((words, _)) => words,
+        None => text.as_str(),
+    };
+    let _ = eprintln!(rt; "{what}: {words}");
 }
