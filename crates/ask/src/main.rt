@@ -33,20 +33,27 @@ fn main(rt: HostRuntime) {
     }
 }
 
-// Writes a line to standard error: what failed, and the system's text of the error.
+// Writes a line to standard error: what failed, and the system's words for it.
 fn fail(rt: &(impl Eprint + AllocGlobal), what: &str, failure: Option<Error>) {
     let Some(error) = failure else {
         let _ = eprintln!(rt; "{what}: no end");
         return;
     };
-    let Ok(text) = format!(in rt.alloc(); "{error}") else {
-        let _ = eprintln!(rt; "{what}: {error}");
-        return;
+    let _ = match format!(in rt.alloc(); "{error}") {
+        Ok(text) => tell(rt, what, text.as_str()),
+        Err(_) => eprintln!(rt; "{what}: {error}"),
     };
-    // The system's text alone, without the number that std's text of an error ends with.
-    let words = match text.as_str().rsplit_once(" (os error ") {
+}
+
+fn tell(rt: &impl Eprint, what: &str, text: &str) -> Result<(), Error> {
+    let words = without_number(text);
+    eprintln!(rt; "{what}: {words}")
+}
+
+// An error's text, without the number that std puts behind the system's words.
+fn without_number(text: &str) -> &str {
+    match text.rsplit_once(" (os error ") {
         Some((words, _)) => words,
-        None => text.as_str(),
-    };
-    let _ = eprintln!(rt; "{what}: {words}");
+        None => text,
+    }
 }

@@ -18,8 +18,7 @@ use Rattle.ask.specs.declared.input.Input.{Input}
 use Rattle.ask.specs.declared.input.State.{State}
 use Rattle.ask.specs.declared.input.State.TheVariants.{More, Ended, Failed}
 use Rattle.ask.specs.Reading.{state_of, piece_of, Taken}
-use Rattle.ask.proofs.input.take_read.Statement.{statement}
-use Rattle.ask.proofs.input.take_read.Tie as tie
+use Rattle.ask.proofs.input.take_read.Goals as goal
 
 abbrev input : ℕ → State → Input
 input n s = record { kept = n; state = s }
@@ -67,43 +66,14 @@ module _ (z : ℤ) (h : SFits w64 z) (store : List ℕ) (n : ℕ) (buffer : List
         takes = subst (λ (k : ℕ). TakesIn store n (take k buffer) new r) (q ∙ ap (λ (y : ℤ). clamp_len y (length buffer)) same) t;
       }
 
-returns : tie.Need-returns
+pub returns-then-got-lt0 : goal.returns-then-got-lt0
+returns-then-got-lt0 c =
+    record { taken = failed c.args.got c.ranges.got c.args.store.now c.args.n c.args.buffer.now c.if-got-lt0.true; prefix_len = c.requires.1 }
+
+pub returns-then-got-eq0 : goal.returns-then-got-eq0
+returns-then-got-eq0 c =
+    record { taken = ended c.args.got c.ranges.got c.args.store.now c.args.n c.args.buffer.now c.if-got-eq0.true; prefix_len = c.requires.1 }
+
+pub returns : goal.returns
 returns c =
-    let s = c.before.before.before in
-    (failed s.args.got s.ranges.got s.args.store.now s.args.n s.args.buffer.now c.if1.true, s.requires.1)
-
-returns_2 : tie.Need-returns-2
-returns_2 c =
-    let s = c.before.before.before.before in
-    (ended s.args.got s.ranges.got s.args.store.now s.args.n s.args.buffer.now c.if2.true, s.requires.1)
-
-count_requires : tie.Need-count-requires
-count_requires c κs = search rules
-
-slice_aggregate_take_in : tie.Need-slice-aggregate-take-in
-slice_aggregate_take_in c = search rules
-
-take_in_requires : tie.Need-take-in-requires
-take_in_requires c κs = search rules
-
-same_length : tie.Need-same-length
-same_length c = search rules
-
-returns_3 : tie.Need-returns-3
-returns_3 c =
-    let s = c.before.before.before.before.before.before.before.before.before.before in
-    let k = c.before.before.before.before.before.count in
-    let t = c.before.before.take_in in
-    (more s.args.got s.ranges.got s.args.store.now s.args.n s.args.buffer.now k.result t.result t.new.0 c.before.before.before.before.before.before.before.if1.false c.before.before.before.before.before.before.if2.false k.ensures.1 t.ensures.0, t.ensures.1)
-
-pub take-read_spec : {M : Type 1} → statement M
-take-read_spec =
-    tie.close
-    (tie.spec
-    returns
-    returns_2
-    count_requires
-    slice_aggregate_take_in
-    take_in_requires
-    same_length
-    returns_3)
+    record { taken = more c.args.got c.ranges.got c.args.store.now c.args.n c.args.buffer.now c.count-size.result c.take_in.result c.take_in.new.store c.if-got-lt0.false c.if-got-eq0.false c.count-size.ensures.value c.take_in.ensures.takes_in; prefix_len = c.take_in.ensures.prefix_len }

@@ -1,0 +1,18 @@
+-- The invariant: the lines of the first i runs are put.
+use Prim.Native.Nat.{ℕ, ◌-◌, ◌≤◌}
+use Rattle.number.specs.Words.{signed}
+use Rattle.page.specs.Page.{run_line, run_lines}
+use Rattle.page.specs.laws.Page.{runs_none, runs_next, run-within}
+use Rattle.page.specs.inner.Puts.{Puts}
+use Rattle.page.specs.laws.Puts.{puts_same}
+use borrow.Author.Rules.{rules}
+use lib.ListN.{length}
+use mathlib.Core.Path.{◌≡◌, ◌∙◌, ap, ap₂}
+use native.Mathlib.Omega.{arith}
+use Rattle.page.proofs.lines.runs.Given as goal
+
+abbrev pub invariant-loop-i : goal.invariant-loop-i
+invariant-loop-i l = (l.i ≤ l.n) × (length l.out ≡ length l.initial.out) × Puts (run_lines l.i l.set) l.initial.out l.at l.out l.end
+
+abbrev pub decreases-loop-i : goal.decreases-loop-i
+decreases-loop-i l = l.n - l.i

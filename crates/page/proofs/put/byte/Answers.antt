@@ -1,0 +1,7 @@
+-- One byte is stored.
+use Rattle.page.specs.laws.Puts.{puts_byte}
+use borrow.Author.Rules.{rules}
+use Rattle.page.proofs.put.byte.Goals as goal
+
+pub returns : goal.returns
+returns c = puts_byte c.args.out.now c.args.at c.args.b c.requires
