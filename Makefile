@@ -17,14 +17,12 @@ help:
 build: build-$(TARGET)
 
 build-x86_64:
-	rt check mill ask
-	rt staticlib mill
+	sh built.sh mill ask
 	sh shared.sh target/staticlib/libmill.a target/shared
 	cd rust && env -u CARGO_BUILD_TARGET cargo build --offline --release --package tool --target-dir target
 
 build-aarch64:
-	rt check mill
-	rt staticlib mill
+	sh built.sh mill
 	sh aarch64.sh
 
 install uninstall:
@@ -32,7 +30,7 @@ install uninstall:
 
 dev:
 	@[ -n '$(C)' ] || { echo 'make dev wants the name of a crate: make dev C=recording' >&2; exit 2; }
-	rt dev '$(C)'
+	cd 'crates/$(C)' && rt check
 
 quick:
 	@bash tests/quick/run $(SINCE)

@@ -96,8 +96,8 @@ uninstall() {
 
 install() {
     [ -n "$version" ] || fail "include/mill.h has no version"
-    [ -f target/staticlib/libmill.a ] || fail "target/staticlib/libmill.a is missing: run 'rt staticlib mill' first"
-    [ -x target/bin/ask ] || fail "target/bin/ask is missing: run 'rt check ask' first"
+    [ -f target/staticlib/libmill.a ] || fail "target/staticlib/libmill.a is missing: run 'sh built.sh mill' first"
+    [ -x target/bin/ask ] || fail "target/bin/ask is missing: run 'sh built.sh ask' first"
     made=$(mktemp -d)
     trap 'rm -r "$made"' EXIT
 

@@ -1,5 +1,5 @@
 //! Links the proved library, statically. `MILL_LIB_DIR` names the folder of `libmill.a`; else it is that of the repository, which
-//! `rt staticlib mill` writes, or an installed one that pkg-config knows. Where there is none, it says what was tried.
+//! `sh built.sh mill` writes, or an installed one that pkg-config knows. Where there is none, it says what was tried.
 
 use std::path::{Path, PathBuf};
 use std::process::Command;
@@ -35,7 +35,7 @@ fn found() -> Option<PathBuf> {
         }
     }
     eprintln!("libmill.a is not found. Tried were\n  {}", tried.join("\n  "));
-    eprintln!("Run `rt staticlib mill` in the repository, install the library, or set MILL_LIB_DIR to the folder of libmill.a.");
+    eprintln!("Run `sh built.sh mill` in the repository, install the library, or set MILL_LIB_DIR to the folder of libmill.a.");
     None
 }
 

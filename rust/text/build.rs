@@ -1,4 +1,4 @@
-//! Links the proved library that `rt staticlib text_c` writes.
+//! Links the proved library that `sh built.sh text_c` writes.
 fn main() {
     let folder = concat!(env!("CARGO_MANIFEST_DIR"), "/../../target/staticlib");
     println!("cargo:rustc-link-search=native={folder}");
