@@ -123,7 +123,7 @@ fn in_rust(text: &str) -> Vec<Call> {
 /// The exported functions of a Rattle file.
 fn in_rattle(text: &str) -> Vec<Call> {
     let code = code(text);
-    let functions: Vec<&str> = code.split("#[no_mangle]").skip(1).collect();
+    let functions: Vec<&str> = code.split("#[unsafe(no_mangle)]").skip(1).collect();
     assert_eq!(functions.len(), code.matches("extern \"C\"").count(), "each is exported by its name");
     functions
         .iter()
