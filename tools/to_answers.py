@@ -362,4 +362,5 @@ def main():
             print(f"{crate}::{function}: {said}")
 
 
-main()
+if __name__ == "__main__":
+    main()
