@@ -22,9 +22,8 @@ use Rattle.pair.specs.declared.TopPair.TheVariants as answer
 use Rattle.pair.specs.Pair.{Given, first_pair, too_many_tops, accepted_lines, outcome_of}
 use Rattle.recording.specs.Recording.{no_record}
 use Rattle.pair.specs.laws.Pair.{answer-first, answer_pass}
-use Rattle.pair.proofs.in_accepted.Statement.{statement}
-use Rattle.pair.proofs.in_accepted.Tie as tie
 use Rattle.recording.specs.Reading.{curve_of}
+use Rattle.pair.proofs.in_accepted.Goals as goal
 
 module _ (bytes : List ℕ) (n : ℕ) (e : n ≡ length bytes / 16) (curve : ℕ) (g : ℤ) where
   abbrev given : Given
@@ -63,52 +62,20 @@ module _ (bytes : List ℕ) (n : ℕ) (e : n ≡ length bytes / 16) (curve : ℕ
         (ap₂ (λ (b d : Bool). b || d) (le-ltb 1 curve h) o.0, tt)
         (subst (λ (z : ℤ). outcome_of p ≡ judged (too_many_tops bytes curve ∷ []) (first_pair (readings bytes) (curve_of curve) z)) o.2 a))
 
-returns : tie.Need-returns
-returns c =
-    let h = c.before.before in
-    empty h.args.rec.now h.args.n h.requires.1 h.args.curve h.args.target c.if1.true
+pub returns-then-n-eq0 : goal.returns-then-n-eq0
+returns-then-n-eq0 c =
+    empty c.args.rec.now c.args.n c.requires.1 c.args.curve c.args.target c.if-n-eq0.true
 
-returns_2 : tie.Need-returns-2
-returns_2 c =
-    let h = c.before.before.before in
-    no_curve h.args.rec.now h.args.n h.requires.1 h.args.curve h.args.target c.before.if1.false c.if2.true
+pub returns-then-curve-gt1 : goal.returns-then-curve-gt1
+returns-then-curve-gt1 c =
+    no_curve c.args.rec.now c.args.n c.requires.1 c.args.curve c.args.target c.if-n-eq0.false c.if-curve-gt1.true
 
-on_axis_requires : tie.Need-on-axis-requires
-on_axis_requires c κs = search rules
+pub returns-in-Index : goal.returns-in-Index
+returns-in-Index c =
+    on c.args.rec.now c.args.n c.requires.1 c.args.curve c.args.target c.if-n-eq0.false c.if-curve-gt1.false c.in-Index.index
+    (placed-handed c.args.target c.ranges.target c.on_axis-place.result (Index c.in-Index.index) c.in-Index.is c.on_axis-place.ensures) c.tops_apart.result c.tops_apart.ensures
 
-enum_known_place : tie.Need-enum-known-place
-enum_known_place c = search rules
-
-tops-apart_requires : tie.Need-tops-apart-requires
-tops-apart_requires c κs = search rules
-
-enum_told : tie.Need-enum-told
-enum_told c = search rules
-
-returns_3 : tie.Need-returns-3
-returns_3 c =
-    let t = c.before.before.before.before in
-    let h = t.before.before.before.before in
-    let told = c.before.before.place.given in
-    on h.args.rec.now h.args.n h.requires.1 h.args.curve h.args.target t.before.before.if1.false t.before.if2.false told.0.0
-    (placed-handed h.args.target h.ranges.target t.on-axis.result (Index told.0.0) told.1 t.on-axis.ensures) c.tops-apart.result c.tops-apart.ensures
-
-returns_4 : tie.Need-returns-4
-returns_4 c =
-    let t = c.before.before in
-    let h = t.before.before.before.before in
-    off h.args.rec.now h.args.n h.requires.1 h.args.curve h.args.target t.before.before.if1.false
-    (placed-handed h.args.target h.ranges.target t.on-axis.result Off c.enum_told.given.1 t.on-axis.ensures)
-
-pub in_accepted_spec : {M : Type 1} → statement M
-in_accepted_spec =
-    tie.close
-    (tie.spec
-    returns
-    returns_2
-    on_axis_requires
-    enum_known_place
-    tops-apart_requires
-    enum_told
-    returns_3
-    returns_4)
+pub returns-in-Off : goal.returns-in-Off
+returns-in-Off c =
+    off c.args.rec.now c.args.n c.requires.1 c.args.curve c.args.target c.if-n-eq0.false
+    (placed-handed c.args.target c.ranges.target c.on_axis-place.result Off c.in-Off.is c.on_axis-place.ensures)

@@ -23,8 +23,7 @@ use Rattle.pair.specs.declared.TopPair.{TopPair}
 use Rattle.pair.specs.declared.TopPair.TheVariants as answer
 use Rattle.pair.specs.Pair.{Given, pairs_of, first_apart, first_pair, too_many_tops, outcome_of}
 use Rattle.pair.specs.laws.Pair.{scanned_all, rising_taken, count-tops, none_for_low, whole_below, whole_above, answer-first}
-use Rattle.pair.proofs.tops_apart.Statement.{statement}
-use Rattle.pair.proofs.tops_apart.Tie as tie
+use Rattle.pair.proofs.tops_apart.Goals as goal
 
 module _ (bytes : List ℕ) (n curve index : ℕ) (a : Accepted bytes) (e : n ≡ length bytes / 16) (old : List ℕ) (room : length old ≡ most_tops)
     (count : ℕ) (new : List ℕ) (s : Scanned (top_times (curve_of curve) (map reading (chunks n bytes))) old count new) where
@@ -65,61 +64,26 @@ module _ (bytes : List ℕ) (n curve index : ℕ) (a : Accepted bytes) (e : n �
         ∙ ap₂ (λ (g : ℤ) (ts : List ℕ). result (first_apart g (pairs_of ts))) (sym (whole_above index (omega arith))) all
         ∙ sym (judged_none (too_many_tops bytes curve ∷ []) given few)
 
-slice_aggregate_event_times : tie.Need-slice-aggregate-event-times
-slice_aggregate_event_times c = search rules
+pub returns-then-count-gt-MOST_TOPS : goal.returns-then-count-gt-MOST_TOPS
+returns-then-count-gt-MOST_TOPS c =
+    over c.args.rec.now c.args.n c.args.curve c.args.index c.requires.0 c.requires.1 _ refl c.event_times-count.result c.event_times-count.new.times c.event_times-count.ensures c.if-count-gt-MOST_TOPS.true
 
-event-times_requires : tie.Need-event-times-requires
-event-times_requires c κs = search rules
+pub returns-then-index-le-ORIGIN : goal.returns-then-index-le-ORIGIN
+returns-then-index-le-ORIGIN c =
+    at_or_below c.args.rec.now c.args.n c.args.curve c.args.index c.requires.0 c.requires.1 _ refl c.event_times-count.result c.event_times-count.new.times c.event_times-count.ensures
+    c.if-count-gt-MOST_TOPS.false c.if-index-le-ORIGIN.true
 
-returns : tie.Need-returns
+pub search-requires : goal.search-requires
+search-requires c =
+    let new : List ℕ = c.event_times-count.new.times in
+    let long = c.event_times-count.auto.times in
+    let fits : c.event_times-count.result ≤ length new = omega arith in
+    let up : c.event_times-count.result ≤ length new → Rising new c.event_times-count.result =
+    rising c.args.rec.now c.args.n c.args.curve c.args.index c.requires.0 c.requires.1 _ refl c.event_times-count.result new c.event_times-count.ensures
+    c.if-count-gt-MOST_TOPS.false in
+    (fits, search rules, λ a b c l. up fits a b c l)
+
+pub returns : goal.returns
 returns c =
-    let t = c.before.before in
-    let h = t.before.before.before in
-    let args = h.args in
-    over args.rec.now args.n args.curve args.index h.requires.0 h.requires.1 _ refl t.event-times.result t.event-times.new.1.1.1.0 t.event-times.ensures c.if1.true
-
-returns_2 : tie.Need-returns-2
-returns_2 c =
-    let t = c.before.before.before in
-    let h = t.before.before.before in
-    let args = h.args in
-    at_or_below args.rec.now args.n args.curve args.index h.requires.0 h.requires.1 _ refl t.event-times.result t.event-times.new.1.1.1.0 t.event-times.ensures
-    c.before.if1.false c.if2.true
-
-slice_aggregate_search : tie.Need-slice-aggregate-search
-slice_aggregate_search c = search rules
-
-sub_search : tie.Need-overflow-sub-search
-sub_search c = search rules
-
-search_requires : tie.Need-search-requires
-search_requires c κs =
-    let t = c.before.before.before.before in
-    let h = t.before.before.before in
-    let args = h.args in
-    let new : List ℕ = t.event-times.new.1.1.1.0 in
-    let up : t.event-times.result ≤ length new → Rising new t.event-times.result =
-    rising args.rec.now args.n args.curve args.index h.requires.0 h.requires.1 _ refl t.event-times.result new t.event-times.ensures
-    c.before.before.if1.false in
-    (search rules, search rules, λ a b h l. up (search rules) a b h (search rules))
-
-returns_3 : tie.Need-returns-3
-returns_3 c =
-    let t = c.before.before.before.before.before in
-    let h = t.before.before.before in
-    let args = h.args in
-    above args.rec.now args.n args.curve args.index h.requires.0 h.requires.1 _ refl t.event-times.result t.event-times.new.1.1.1.0 t.event-times.ensures
-    c.before.before.before.if1.false c.before.before.if2.false c.search.result c.search.ensures
-
-pub tops-apart_spec : {M : Type 1} → statement M
-tops-apart_spec =
-    tie.close
-    (tie.spec
-    slice_aggregate_event_times
-    event-times_requires
-    returns
-    returns_2
-    slice_aggregate_search
-    sub_search
-    search_requires
-    returns_3)
+    above c.args.rec.now c.args.n c.args.curve c.args.index c.requires.0 c.requires.1 _ refl c.event_times-count.result c.event_times-count.new.times c.event_times-count.ensures
+    c.if-count-gt-MOST_TOPS.false c.if-index-le-ORIGIN.false c.search.result c.search.ensures
