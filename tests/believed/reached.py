@@ -16,8 +16,9 @@ MOST = 1300  # lines of code, without those of the assured texts
 ASSURED = "assured"
 
 HEAD = re.compile(r"^ {0,2}(?:abbrev pub|unfoldable pub|pub record|pub data|pub)\s+(?!mod\b|use\b)([^\s:({]+)")
-USED = re.compile(r"^(?:pub )?use Rattle·(\w+?)(?:·specs)?\.specs\.([\w.]+?)\.\{(.*)\}$")
-ALIAS = re.compile(r"^use Rattle·(\w+?)(?:·specs)?\.specs\.([\w.]+?) as (\S+)$")
+USED = re.compile(r"^(?:pub )?use Rattle\.(\w+)\.specs\.([\w.]+?)\.\{(.*)\}$")
+ALIAS = re.compile(r"^use Rattle\.(\w+)\.specs\.([\w.]+?) as (\S+)$")
+USES = re.compile(r"(?m)^(?:pub )?use [^\n{]*\{[^}]*\}")  # may go over several lines
 TOKEN = re.compile(r"[^\s(){}.,;:λ→∷⟨⟩]+")
 
 
@@ -31,7 +32,7 @@ class Module:
         self.aliases: dict[str, str] = {}
         self.makes: dict[str, str] = {}
         name = None
-        for line in path.read_text(encoding="utf-8").splitlines():
+        for line in USES.sub(lambda use: " ".join(use[0].split()), path.read_text(encoding="utf-8")).splitlines():
             if self.brings(line) or not line.strip() or line.strip().startswith(("--", "use ", "infix", "module ", "pub mod ")):
                 continue
             found = HEAD.match(line)
