@@ -20,6 +20,11 @@ TOKEN = re.compile(r"--[^\n]*|\"(?:[^\"\\\n]|\\.)*\"|" + W)
 SEARCH = re.compile(r"^search \(?rules\)?$")
 
 
+def loose(name):
+    """A step's name without its marks: port.py took some for names of types."""
+    return re.sub("[-_]", "", name).lower().replace("isis", "is")
+
+
 def norm(name):
     return name.replace("_", "-")
 
@@ -139,6 +144,9 @@ class Turn:
             arm = self.arms.get((first, tuple(fields[1 : 1 + size])))
             if arm:
                 return [arm[0], arm[1], *fields[1 + size :]]
+        if first not in self.steps:
+            alike = [step for step in self.steps if loose(step) == loose(first)]
+            first = alike[0] if len(alike) == 1 else first
         if first in self.steps:
             new, changed, params = self.steps[first]
             out, rest = [new], fields[1:]
