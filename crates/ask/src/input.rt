@@ -118,11 +118,7 @@ pub fn read_all<R: Read>(reader: &mut R, failure: &mut Option<Error>, store: &mu
 }
 
 // Reads the recording. A missing file counts as an empty one.
-pub fn read_recording<R: Files>(
-    files: &R,
-    failure: &mut Option<Error>,
-    store: &mut [u8],
-) -> Input
+pub fn read_recording<R: Files>(files: &R, failure: &mut Option<Error>, store: &mut [u8]) -> Input
     requires { spare ≤ length store.old }
     ensures recorded { Recorded store.old store.new result }
     ensures prefix_len { IsPrefixLen result.kept store.new }

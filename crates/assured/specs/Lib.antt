@@ -1,4 +1,3 @@
 pub mod Assured
 pub mod Call
 pub mod inner
-pub mod laws

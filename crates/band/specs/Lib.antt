@@ -2,4 +2,3 @@ pub mod Band
 pub mod Means
 pub mod Call
 pub mod inner
-pub mod laws

@@ -1,4 +1,3 @@
 pub mod Degree
 pub mod Nearest
 pub mod inner
-pub mod laws

@@ -8,7 +8,7 @@ use lib.Dec.{leb}
 use lib.ListN.{length, get_or}
 use borrow.Author.Tests.{eqb-true, leb-true, le-leb, ne_eqb}
 use Rattle.number.specs.Axis.{origin}
-use Rattle.number.specs.laws.Boolean.{same, or_left, or_right, or_cases, and_left, and_right, and_make}
+use Rattle.number.proofs.laws.Boolean.{same, or_left, or_right, or_cases, and_left, and_right, and_make}
 use Rattle.meaning.specs.inner.Truth.{some_pair, apart}
 use Rattle.differences.specs.inner.Times.{Times, lags_of, gaps_of}
 use Rattle.differences.specs.inner.Sweep.{from}

@@ -8,11 +8,11 @@ use mathlib.Core.List.{List}
 use lib.Dec.{leb, ltb}
 use borrow.Author.Tests.{le-leb, lt-leb, lt-ltb, le-ltb, ltb-true}
 use Rattle.number.specs.Axis.{axis}
-use Rattle.number.specs.laws.Boolean.{and_left}
+use Rattle.number.proofs.laws.Boolean.{and_left}
 use Rattle.runs.specs.Runs.{run_count, most_runs}
 use Rattle.runs.specs.Set.{member, Holds, Makes}
-use Rattle.runs.specs.laws.Runs.{run_count_ext, fewer_below}
-use Rattle.runs.specs.laws.Set.{holds_ext, holds_makes}
+use Rattle.runs.proofs.laws.Runs.{run_count_ext, fewer_below}
+use Rattle.runs.proofs.laws.Set.{holds_ext, holds_makes}
 use Rattle.differences.specs.inner.Sweep.{Least}
 
 pub or_false : (b : Bool) → (b || false) ≡ b

@@ -5,3 +5,4 @@ pub mod RowLaws
 pub mod SweepLaws
 pub mod TurnLaws
 pub mod GapLaws
+pub mod laws

@@ -9,9 +9,9 @@ use lib.ListN.{length, get_or, set, length-set}
 use lib.Seq.{get_or-set_same, get_or-set_other}
 use borrow.Author.Tests.{eqb-true, eq-eqb}
 use Rattle.number.specs.Axis.{origin, axis}
-use Rattle.number.specs.laws.Boolean.{same, or_left, or_right, or_cases}
+use Rattle.number.proofs.laws.Boolean.{same, or_left, or_right, or_cases}
 use Rattle.meaning.specs.inner.Truth.{apart}
-use Rattle.meaning.specs.laws.Pick.{some_at, some_find}
+use Rattle.meaning.proofs.laws.Pick.{some_at, some_find}
 use Rattle.differences.specs.inner.Times.{Times}
 use Rattle.differences.specs.inner.Sweep.{window_size, Time, row_of, Under, Parts, Behind, Beyond, Seen, Found}
 use Rattle.differences.proofs.TimeLaws.{times_up}

@@ -9,7 +9,7 @@ use mathlib.Core.List.{List, [], ◌∷◌}
 use lib.ListN.{length, get_or, take, drop}
 use lib.Seq.{take_all, drop-cons}
 use Rattle.number.specs.Axis.{origin, axis}
-use Rattle.number.specs.laws.Boolean.{or_none, or_left, or_right}
+use Rattle.number.proofs.laws.Boolean.{or_none, or_left, or_right}
 use Rattle.meaning.specs.inner.Truth.{apart}
 use Rattle.recording.specs.Condition.{some_of}
 use Rattle.differences.specs.inner.Times.{Times, lags_of, steps_of}

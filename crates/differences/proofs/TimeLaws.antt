@@ -11,7 +11,7 @@ use lib.Dec.{eqb}
 use lib.ListN.{length, get_or}
 use borrow.Author.Tests.{eqb-true, eq-eqb}
 use Rattle.number.specs.Axis.{axis}
-use Rattle.meaning.specs.laws.Pick.{some_at, some_find}
+use Rattle.meaning.proofs.laws.Pick.{some_at, some_find}
 use Rattle.differences.specs.inner.Times.{Times, time_set}
 use Rattle.differences.specs.inner.Sweep.{Least}
 

@@ -9,9 +9,9 @@ use lib.Dec.{leb, ltb}
 use lib.ListN.{get_or, replicate, get_or-replicate}
 use borrow.Author.Tests.{le-leb, lt-leb, lt-ltb, le-ltb}
 use Rattle.number.specs.Axis.{axis}
-use Rattle.number.specs.laws.Boolean.{or_pass}
+use Rattle.number.proofs.laws.Boolean.{or_pass}
 use Rattle.runs.specs.Set.{member, Valid, Holds, Makes}
-use Rattle.runs.specs.laws.Set.{holds_makes, makes_ext}
+use Rattle.runs.proofs.laws.Set.{holds_makes, makes_ext}
 use Rattle.differences.specs.inner.Times.{lags_of}
 use Rattle.differences.specs.inner.Sweep.{window_size, chosen, from, shown, Least, Seen, Found, Extends, Begins}
 use Rattle.differences.proofs.GatherLaws.{Gathered, gathered_none, gathered_end, gathered_more, gathered_many, one-part, or_false}

@@ -10,7 +10,7 @@ use lib.ListN.{length, get_or}
 use borrow.Author.Tests.{eqb-true, eq-eqb}
 use Rattle.number.specs.Axis.{origin, axis}
 use Rattle.meaning.specs.inner.Truth.{apart}
-use Rattle.meaning.specs.laws.Pick.{some_at, some_find}
+use Rattle.meaning.proofs.laws.Pick.{some_at, some_find}
 use Rattle.differences.specs.inner.Times.{Times, lags_of}
 use Rattle.differences.specs.inner.Sweep.{Least}
 use Rattle.recording.specs.Condition.{some_of}

@@ -6,11 +6,11 @@ use Prim.Native.Nat.{ℕ, zero, suc, ◌+◌, ◌≤◌, ◌<◌}
 use native.Mathlib.Omega.{arith}
 use lib.Dec.{eqb}
 use borrow.Author.Tests.{eqb-true, eqb-false, ne_eqb}
-use Rattle.number.specs.laws.Boolean.{and_left, and_right}
+use Rattle.number.proofs.laws.Boolean.{and_left, and_right}
 use Rattle.grammar.specs.declared.Class.{Class}
 use Rattle.grammar.specs.declared.Class.TheVariants.{Digit, Letter, Sign, Foreign}
 use Rattle.grammar.specs.Classes.{class_of, is_digit, is_letter, is_sign}
-use Rattle.grammar.specs.laws.Class.{number, same_number}
+use Rattle.grammar.proofs.laws.Class.{number, same_number}
 
 or_right : (x y : Bool) → (x || y) ≡ true → x ≡ false → y ≡ true
 or_right true y e f = let z : ◌≡◌ {A = ℕ} 0 1 = cc in absurd (omega arith)

@@ -4,4 +4,3 @@ pub mod Classes
 pub mod Size
 pub mod Grammar
 pub mod inner
-pub mod laws

@@ -1,4 +1,3 @@
 pub mod Kept
 pub mod Selection
 pub mod Unpigmented
-pub mod laws

@@ -1,3 +1,2 @@
 pub mod Lab
 pub mod inner
-pub mod laws

@@ -13,8 +13,8 @@ use Rattle.grammar.specs.declared.Found.TheVariants.{At, Missing}
 use Rattle.grammar.specs.Classes.{is_digit}
 use Rattle.grammar.specs.Grammar.{decimal, decimal_from}
 use Rattle.grammar.specs.inner.Lexer.{byte, digit_run, unsigned_at, number_at, negated, shifted, of_pigment, pigment_at}
-use Rattle.grammar.specs.laws.Word.{bound}
-use Rattle.grammar.specs.laws.Number.{run_ends, run-first, digit_low, digit_high, Unsigned, naught, counted, unsigned_sound, number_sound, pigment_sound}
+use Rattle.grammar.proofs.laws.Word.{bound}
+use Rattle.grammar.proofs.laws.Number.{run_ends, run-first, digit_low, digit_high, Unsigned, naught, counted, unsigned_sound, number_sound, pigment_sound}
 
 -- the value of digits, held
 abbrev pub held : ℕ → List ℕ → ℕ

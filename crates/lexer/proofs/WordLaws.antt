@@ -5,11 +5,11 @@ use mathlib.Core.List.{List, [], ◌∷◌}
 use Prim.Native.Nat.{ℕ, ◌+◌, ◌≤◌, ◌<◌}
 use native.Mathlib.Omega.{arith}
 use lib.ListN.{length}
-use Rattle.number.specs.laws.Boolean.{and_left, and_right}
+use Rattle.number.proofs.laws.Boolean.{and_left, and_right}
 use Rattle.grammar.specs.declared.Found.{Found}
 use Rattle.grammar.specs.declared.Found.TheVariants.{At}
 use Rattle.grammar.specs.inner.Lexer.{spelled_at, Word, first_of, curves, relations, heads}
-use Rattle.grammar.specs.laws.Word.{bound, solid, stands_solid}
+use Rattle.grammar.proofs.laws.Word.{bound, solid, stands_solid}
 
 unfoldable pub all_solid : List Word → Bool
 all_solid [] = true

@@ -1,4 +1,3 @@
 pub mod Listing
 pub mod Call
 pub mod Opened
-pub mod laws

@@ -1,4 +1,3 @@
 pub mod History
 pub mod Call
 pub mod inner
-pub mod laws

@@ -1,3 +1,2 @@
 pub mod Mean
 pub mod inner
-pub mod laws

@@ -7,4 +7,3 @@ pub mod Named
 pub mod Unpigmented
 pub mod Ranges
 pub mod inner
-pub mod laws

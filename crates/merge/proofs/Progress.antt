@@ -8,12 +8,12 @@ use native.Mathlib.Omega.{arith}
 use lib.ListN.{length, take, drop, get_or, set, length-append, length-set, take-append-drop}
 use lib.Seq.{length-take-le, drop-set-lt, drop-drop, drop-length}
 use borrow.Author.Tests.{lt-ltb, le-ltb}
-use Rattle.number.specs.laws.Order.{less_or_not}
+use Rattle.number.proofs.laws.Order.{less_or_not}
 use Rattle.runs.specs.Set.{Canonical}
-use Rattle.runs.specs.laws.Added.{put_two}
+use Rattle.runs.proofs.laws.Added.{put_two}
 use Rattle.merge.specs.inner.Merge.{Merged}
-use Rattle.merge.specs.laws.Shared.{shared, none_left, none_right, apart, apart_right, meeting, meeting_right}
-use Rattle.runs.specs.laws.Place.{two_left, first_run, run-ascends, behind_first}
+use Rattle.merge.proofs.laws.Shared.{shared, none_left, none_right, apart, apart_right, meeting, meeting_right}
+use Rattle.runs.proofs.laws.Place.{two_left, first_run, run-ascends, behind_first}
 
 -- n cuts of m are written over `before`, and `left` is to come
 pub record Progress (m before out : List ℕ) (n : ℕ) (left : List ℕ) : Type 0 where

@@ -1,4 +1,3 @@
 pub mod Axis
 pub mod Words
 pub mod Least
-pub mod laws

@@ -4,4 +4,3 @@ pub mod Typed
 pub mod Printed
 pub mod Intake
 pub mod inner
-pub mod laws

@@ -1,2 +1,3 @@
 mod TableLaws
 mod ReaderLaws
+pub mod laws

@@ -16,10 +16,10 @@ use Rattle.grammar.specs.inner.Table.{row, unary_from, binary_from, kinds}
 use Rattle.grammar.specs.inner.Lexer.{byte, leaf_at}
 use Rattle.grammar.specs.inner.Parse.{Joiner, bars, ampersands, sign, chain, more, not_at, prim_at, argument, part, join_kind, row_text, node, Out, got, unread, after, closed, parse, rank}
 use Rattle.parser.specs.inner.Rows.{Put, Same, Laid, leaf, unary, binary, Room, Ahead, Onward, Within, Fits, Parses, AnswersMore, AnswersOpened}
-use Rattle.parser.specs.laws.Rows.{ahead_of, laid_stays}
-use Rattle.grammar.specs.laws.Word.{inside, bound}
-use Rattle.grammar.specs.laws.Leaf.{Opening, round, single, double, open_held, leaf_held, leaf_low}
-use Rattle.grammar.specs.laws.Unique.{longer, rank-part, rank-low, rank-high}
+use Rattle.parser.proofs.laws.Rows.{ahead_of, laid_stays}
+use Rattle.grammar.proofs.laws.Word.{inside, bound}
+use Rattle.grammar.proofs.laws.Leaf.{Opening, round, single, double, open_held, leaf_held, leaf_low}
+use Rattle.grammar.proofs.laws.Unique.{longer, rank-part, rank-low, rank-high}
 
 -- room further on, in a table of the same length
 pub room : {s T : List ℕ} {at n : ℕ} (U : List ℕ) (e m : ℕ) → Room s T at n → length U ≡ length T → e ≤ length s → m ≤ e → Room s U e m

@@ -11,4 +11,3 @@ pub mod LiveCalls
 pub mod LiveRuns
 pub mod Lines
 pub mod inner
-pub mod laws

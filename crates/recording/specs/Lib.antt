@@ -7,4 +7,3 @@ pub mod R1
 pub mod R2
 pub mod R3
 pub mod inner
-pub mod laws

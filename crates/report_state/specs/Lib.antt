@@ -2,4 +2,3 @@ pub mod State
 pub mod Call
 pub mod Calls
 pub mod inner
-pub mod laws

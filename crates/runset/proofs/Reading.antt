@@ -8,12 +8,12 @@ use native.Mathlib.Numerals.{add-one}
 use lib.ListN.{length, take, drop, get_or}
 use lib.Seq.{length-take-le, get_or-take, take-suc, take_all}
 use Rattle.number.specs.Axis.{axis}
-use Rattle.number.specs.laws.Words.{put_behind}
+use Rattle.number.proofs.laws.Words.{put_behind}
 use Rattle.runs.specs.Runs.{most_runs, lows, highs, run_count, number_bytes, run_bytes, set_bytes}
 use Rattle.runs.specs.Set.{cuts_of, inside, member, Ascending, Valid}
-use Rattle.runs.specs.laws.Cuts.{low_cuts, high_cuts, lone, rest_ended}
-use Rattle.runs.specs.laws.Runs.{lows_are, highs_are, lows-highs, run_bytes-length, set_bytes-length}
-use Rattle.runs.specs.laws.Set.{valid_cuts, cuts-length}
+use Rattle.runs.proofs.laws.Cuts.{low_cuts, high_cuts, lone, rest_ended}
+use Rattle.runs.proofs.laws.Runs.{lows_are, highs_are, lows-highs, run_bytes-length, set_bytes-length}
+use Rattle.runs.proofs.laws.Set.{valid_cuts, cuts-length}
 
 -- run i of a list of cuts
 pub record RunAt (hi : ℕ) (l lows highs : List ℕ) (i : ℕ) : Type 0 where

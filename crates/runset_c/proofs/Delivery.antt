@@ -4,12 +4,12 @@ use borrow.Author.Tests.{lt-leb}
 use Rattle.number.specs.Axis.{axis}
 use Rattle.runs.specs.Runs.{most_runs, run_count, set_bytes}
 use Rattle.runs.specs.Distance.{distance}
-use Rattle.runs.specs.laws.Distance.{distance_ext}
+use Rattle.runs.proofs.laws.Distance.{distance_ext}
 use Rattle.runs.specs.Set.{member, Makes}
 use Rattle.join.specs.inner.Join.{Joins}
 use Rattle.join.specs.declared.Joined.{Joined}
-use Rattle.runs.specs.laws.Runs.{run_count_ext, set_bytes_ext}
-use Rattle.runs.specs.laws.Set.{makes_ext}
+use Rattle.runs.proofs.laws.Runs.{run_count_ext, set_bytes_ext}
+use Rattle.runs.proofs.laws.Set.{makes_ext}
 use Rattle.runset_c.specs.Bytes.{chosen, asked, set_of, unfit, unfit_any, reply_of, output_of, member_reply, distance_reply, stores_reply}
 use Rattle.runset_c.specs.Promises.{Loaded, Delivered}
 

@@ -5,8 +5,8 @@ use Rattle.number.specs.Axis.{axis}
 use Rattle.number.specs.Words.{word, offset_binary}
 use Rattle.runs.specs.Runs.{most_runs, run_count}
 use Rattle.runs.specs.Set.{member, Holds, Makes}
-use Rattle.runs.specs.laws.Runs.{run_count_ext}
-use Rattle.runs.specs.laws.Set.{holds_ext, makes_ext}
+use Rattle.runs.proofs.laws.Runs.{run_count_ext}
+use Rattle.runs.proofs.laws.Set.{holds_ext, makes_ext}
 use Rattle.runset_c.specs.Bytes.{index_at, in_runs, unfit_runs, set_of}
 use Rattle.runset_c.specs.Promises.{Extended, Loaded}
 

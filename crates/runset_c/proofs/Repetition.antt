@@ -3,7 +3,7 @@ use Rattle.std.proofs.Common.{◌≡◌, ℕ, zero, suc, ◌+◌, ◌%◌, ◌^�
 use Rattle.number.specs.Axis.{axis}
 use Rattle.runs.specs.Runs.{most_runs, run_count, lows}
 use Rattle.runs.specs.Set.{member, Makes}
-use Rattle.runs.specs.laws.Runs.{run_count_ext, lows_ext}
+use Rattle.runs.proofs.laws.Runs.{run_count_ext, lows_ext}
 use Rattle.runset_c.specs.Bytes.{repeat_sum, repeat_reply}
 
 pub no_turn : (f : ℕ → Bool) → 0 ≡ repeat_reply false f 0

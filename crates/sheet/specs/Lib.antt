@@ -2,4 +2,3 @@ pub mod Sheet
 pub mod Finding
 pub mod Call
 pub mod inner
-pub mod laws

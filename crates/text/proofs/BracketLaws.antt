@@ -10,8 +10,8 @@ use lib.ListN.{length, get_or, take}
 use lib.Seq.{take-suc}
 use borrow.Author.Tests.{lt-ltb, le-ltb, ltb-true, ltb-false}
 use Rattle.number.specs.Least.{least}
-use Rattle.number.specs.laws.Least.{least_none}
-use Rattle.number.specs.laws.Order.{one_at_most}
+use Rattle.number.proofs.laws.Least.{least_none}
+use Rattle.number.proofs.laws.Order.{one_at_most}
 use Rattle.grammar.specs.Size.{count, open_at, too_deep}
 
 count-parts : (b : ℕ) (x y : List ℕ) → count b (x ++ y) ≡ count b x + count b y

@@ -1,3 +1,4 @@
 mod TableLaws
 mod BracketLaws
 mod ToldLaws
+pub mod laws

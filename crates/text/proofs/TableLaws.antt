@@ -10,8 +10,8 @@ use Rattle.grammar.specs.Classes.{within}
 use Rattle.grammar.specs.Syntax.{Text}
 use Rattle.grammar.specs.Size.{temporal, has_listed, mixed, nodes}
 use Rattle.parser.specs.inner.Rows.{Laid}
-use Rattle.text.specs.laws.Table as rows
-use Rattle.text.specs.laws.Table.{held-nodes, held_some, some_either, listed_kind, temporal_kind, listed_by_kind, temporal_by_kind}
+use Rattle.text.proofs.laws.Table as rows
+use Rattle.text.proofs.laws.Table.{held-nodes, held_some, some_either, listed_kind, temporal_kind, listed_by_kind, temporal_by_kind}
 
 -- SCANS over the kinds
 pub some_here : (P : ℕ → Bool) (T : List ℕ) (n i k : ℕ) (t : Bool) → i < n → k ≡ (row_at T i).kind → t ≡ P k → t ≡ true → true ≡ some_kind P T 0 n

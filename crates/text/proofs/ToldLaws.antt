@@ -18,7 +18,7 @@ use Rattle.grammar.specs.Size.{mixed, nodes, too_deep, most_bytes, most_nodes}
 use Rattle.grammar.specs.inner.Parse.{Out, got, unread, chain, bars, parse, one, none, unmixed, at_end, parsed}
 use Rattle.parser.specs.inner.Rows.{Laid, Fits, Parses}
 use Rattle.text.specs.inner.Judge.{judged_text}
-use Rattle.text.specs.laws.Table.{decoded, held_falling, held-nodes}
+use Rattle.text.proofs.laws.Table.{decoded, held_falling, held-nodes}
 use Rattle.text.specs.Told.{bad_length, Tabled, Told}
 
 -- JUDGING a text whose tree is read

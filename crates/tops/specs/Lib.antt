@@ -1,3 +1,2 @@
 pub mod Tops
 pub mod inner
-pub mod laws

@@ -9,7 +9,7 @@ use lib.Dec.{eqb}
 use lib.ListN.{length, get_or, drop, drop_of_length-le}
 use lib.Seq.{drop-cons}
 use borrow.Author.Tests.{eq-eqb, ne_eqb, eqb-true}
-use Rattle.number.specs.laws.Boolean.{and_left, and_right}
+use Rattle.number.proofs.laws.Boolean.{and_left, and_right}
 use Rattle.grammar.specs.declared.Class.{Class}
 use Rattle.grammar.specs.declared.Class.TheVariants.{Digit, Letter, Sign, Foreign}
 use Rattle.grammar.specs.declared.Found.{Found}

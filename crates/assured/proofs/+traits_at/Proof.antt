@@ -5,7 +5,7 @@ use borrow.Author.Rules.{rules}
 use borrow.Fn.Kinds.{In}
 use borrow.Fn.PlainCycle.{Measures, is, falls, and}
 use Rattle.marks.specs.Marks.{marks_of}
-use Rattle.assured.specs.laws.Row as laws
+use Rattle.assured.proofs.laws.Row as laws
 use Rattle.assured.proofs.traits_at.Reads as traits-at
 use Rattle.assured.proofs.traits_at.Kinds as traits-at-kinds
 use Rattle.assured.proofs.+traits_at.Lts-traits_at as traits-at-lts

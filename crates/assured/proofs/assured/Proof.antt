@@ -1,7 +1,7 @@
 -- The refusal of the text, or the verdict on what was read.
 use native.Mathlib.Omega.{arith}
 use borrow.Author.Rules.{rules}
-use Rattle.assured.specs.laws.Call.{call_refused, call_ready, call_judged}
+use Rattle.assured.proofs.laws.Call.{call_refused, call_ready, call_judged}
 use Rattle.assured.proofs.assured.Statement.{statement}
 use Rattle.assured.proofs.assured.Tie as tie
 

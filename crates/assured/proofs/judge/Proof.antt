@@ -1,6 +1,6 @@
 -- 11, or what the traits of the root say.
 use borrow.Author.Rules.{rules}
-use Rattle.assured.specs.laws.Call.{judge_refused, judge_told}
+use Rattle.assured.proofs.laws.Call.{judge_refused, judge_told}
 use Rattle.assured.proofs.judge.Statement.{statement}
 use Rattle.assured.proofs.judge.Tie as tie
 

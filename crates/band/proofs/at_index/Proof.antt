@@ -1,7 +1,7 @@
 -- Refused by 16, or by the text.
 use Rattle.evaluation.specs.inner.Evaluation.{text_of}
 use Rattle.meaning.specs.inner.Coded.{coded}
-use Rattle.band.specs.laws.Call.{width_below, width_over, width_good}
+use Rattle.band.proofs.laws.Call.{width_below, width_over, width_good}
 use Rattle.band.proofs.at_index.Statement.{statement}
 use Rattle.band.proofs.at_index.Tie as tie
 

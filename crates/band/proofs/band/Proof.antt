@@ -2,8 +2,8 @@
 use native.Mathlib.Omega.{arith}
 use mir.Syntax.{w64}
 use mir.ValLaws.{to_z-of_z}
-use Rattle.question.specs.laws.Call.{prepared_ready}
-use Rattle.band.specs.laws.Call.{band_refused, band_answered}
+use Rattle.question.proofs.laws.Call.{prepared_ready}
+use Rattle.band.proofs.laws.Call.{band_refused, band_answered}
 use borrow.Author.Rules.{rules}
 use Rattle.band.proofs.band.Statement.{statement}
 use Rattle.band.proofs.band.Tie as tie

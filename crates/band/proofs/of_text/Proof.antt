@@ -5,7 +5,7 @@ use Rattle.recording.specs.Reading.{curve_of}
 use Rattle.grammar.specs.Syntax as asks
 use Rattle.meaning.specs.inner.Coded.{coded}
 use Rattle.evaluation.specs.inner.Evaluation.{text_of}
-use Rattle.band.specs.laws.Call.{asked, text-high, text-low, text_lowafter, text_capafter, text_ampl, text-other}
+use Rattle.band.proofs.laws.Call.{asked, text-high, text-low, text_lowafter, text_capafter, text_ampl, text-other}
 use borrow.Author.Rules.{rules}
 use Rattle.band.proofs.of_text.Statement.{statement}
 use Rattle.band.proofs.of_text.Tie as tie

@@ -1,9 +1,9 @@
 -- Off the axis there is no band.
 use Rattle.evaluation.specs.inner.Evaluation.{text_of}
 use Rattle.meaning.specs.inner.Coded.{coded}
-use Rattle.targets.specs.laws.Target.{placed-handed}
+use Rattle.targets.proofs.laws.Target.{placed-handed}
 use Rattle.targets.specs.declared.OnAxis.TheVariants.{Index, Off}
-use Rattle.band.specs.laws.Call.{width_off, width_on}
+use Rattle.band.proofs.laws.Call.{width_off, width_on}
 use borrow.Author.Rules.{rules}
 use Rattle.band.proofs.within.Statement.{statement}
 use Rattle.band.proofs.within.Tie as tie

@@ -3,7 +3,7 @@ use mathlib.Core.Path.{ap}
 use lib.Ieee.{Float, binary64, div, of_bits}
 use native.Mathlib.Omega.{arith}
 use Rattle.binary64.specs.Degree.{one, degree_of}
-use Rattle.binary64.specs.laws.Degree.{sum_exact}
+use Rattle.binary64.proofs.laws.Degree.{sum_exact}
 use Rattle.binary64.proofs.degree_of.Goals as goal
 
 pub int_to_float-result : goal.int_to_float-result

@@ -9,7 +9,7 @@ use Rattle.band.specs.declared.InBand.TheVariants.{Sets}
 use Rattle.reply.specs.Reply.{InHalf}
 use Rattle.boundary.specs.Boundary.{filled, band_told, low_after, high_after, InBands}
 use Rattle.boundary.specs.inner.Fits.{EndsIn}
-use Rattle.boundary.specs.laws.Boundary.{filled-one}
+use Rattle.boundary.proofs.laws.Boundary.{filled-one}
 use borrow.Author.Rules.{rules}
 use Rattle.boundary.proofs.tell_bands.Statement.{statement}
 use Rattle.boundary.proofs.tell_bands.Tie as tie

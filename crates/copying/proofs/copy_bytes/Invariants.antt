@@ -6,7 +6,7 @@ use native.Mathlib.Omega.{arith}
 use native.Mathlib.Numerals.{add-one}
 use lib.ListN.{length, get_or, drop, set, length-set, length-drop}
 use lib.Seq.{paste, paste-zero, paste-suc, get_or-drop}
-use Rattle.copying.specs.laws.Put.{paste-put}
+use Rattle.copying.proofs.laws.Put.{paste-put}
 use borrow.Author.Rules.{rules}
 use Rattle.copying.proofs.copy_bytes.Given as goal
 

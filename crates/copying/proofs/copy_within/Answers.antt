@@ -5,7 +5,7 @@ use Prim.Native.Nat.{ℕ, ◌+◌, ◌-◌, ◌*◌, ◌≤◌}
 use native.Mathlib.Omega.{arith}
 use lib.ListN.{length, take, drop, length-drop}
 use lib.Seq.{paste, paste-zero, length-paste}
-use Rattle.copying.specs.laws.Put.{paste-put, block_more, still_stands}
+use Rattle.copying.proofs.laws.Put.{paste-put, block_more, still_stands}
 use borrow.Author.Rules.{rules}
 use Rattle.copying.proofs.copy_within.Goals as goal
 

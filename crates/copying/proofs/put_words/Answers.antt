@@ -1,6 +1,6 @@
 -- Four numbers in a row.
 use Rattle.copying.specs.Put.{put}
-use Rattle.copying.specs.laws.Words.{words-put}
+use Rattle.copying.proofs.laws.Words.{words-put}
 use borrow.Author.Rules.{rules}
 use Rattle.copying.proofs.put_words.Goals as goal
 

@@ -2,8 +2,8 @@
 use native.Mathlib.Omega.{arith}
 use mir.Syntax.{w64}
 use mir.ValLaws.{to_z-of_z}
-use Rattle.question.specs.laws.Call.{prepared_ready}
-use Rattle.degree.specs.laws.Call.{degree_refused, degree_answered}
+use Rattle.question.proofs.laws.Call.{prepared_ready}
+use Rattle.degree.proofs.laws.Call.{degree_refused, degree_answered}
 use borrow.Author.Rules.{rules}
 use Rattle.degree.proofs.degree.Statement.{statement}
 use Rattle.degree.proofs.degree.Tie as tie

@@ -1,7 +1,7 @@
 -- Refused by 1 to 7, or by the text.
 use native.Mathlib.Omega.{arith}
-use Rattle.question.specs.laws.Call.{prepared_ready}
-use Rattle.degree.specs.laws.Call.{at_refused, at_answered}
+use Rattle.question.proofs.laws.Call.{prepared_ready}
+use Rattle.degree.proofs.laws.Call.{at_refused, at_answered}
 use borrow.Author.Rules.{rules}
 use Rattle.degree.proofs.distance_at.Statement.{statement}
 use Rattle.degree.proofs.distance_at.Tie as tie

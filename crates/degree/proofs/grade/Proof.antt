@@ -1,5 +1,5 @@
 -- By the distance.
-use Rattle.degree.specs.laws.Call.{grade_met, grade_short}
+use Rattle.degree.proofs.laws.Call.{grade_met, grade_short}
 use borrow.Author.Rules.{rules}
 use Rattle.degree.proofs.grade.Statement.{statement}
 use Rattle.degree.proofs.grade.Tie as tie

@@ -1,7 +1,7 @@
 -- By the nearest member.
 use mathlib.Core.Path.{sym, ◌∙◌}
 use Rattle.runs.specs.Set.{member}
-use Rattle.degree.specs.laws.Call.{near_at, near-nothing}
+use Rattle.degree.proofs.laws.Call.{near_at, near-nothing}
 use borrow.Author.Rules.{rules}
 use Rattle.degree.proofs.near_set.Statement.{statement}
 use Rattle.degree.proofs.near_set.Tie as tie

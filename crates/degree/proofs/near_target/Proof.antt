@@ -3,14 +3,14 @@ use Rattle.evaluation.specs.inner.Evaluation.{text_of}
 use Rattle.meaning.specs.inner.Coded.{coded}
 use Rattle.meaning.specs.inner.Truth.{val}
 use Rattle.question.specs.Question.{set_lines}
-use Rattle.targets.specs.laws.Target.{placed-handed}
+use Rattle.targets.proofs.laws.Target.{placed-handed}
 use Rattle.targets.specs.declared.OnAxis.TheVariants.{Index, Off}
 use Prim.Native.Nat.{ℕ}
 use mathlib.Core.Bool.{Bool}
 use mathlib.Core.List.{List}
 use Rattle.refusal.specs.Outcome.{Line}
 use Rattle.degree.specs.Degree.{reach_in}
-use Rattle.degree.specs.laws.Call.{target_off, target_on, graded-lines}
+use Rattle.degree.proofs.laws.Call.{target_off, target_on, graded-lines}
 use borrow.Author.Rules.{rules}
 use Rattle.degree.proofs.near_target.Statement.{statement}
 use Rattle.degree.proofs.near_target.Tie as tie

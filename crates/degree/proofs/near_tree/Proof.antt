@@ -1,6 +1,6 @@
 -- Refused by 9 or 8, or by the set.
 use Rattle.evaluation.specs.inner.Evaluation.{text_of}
-use Rattle.degree.specs.laws.Call.{text_refused, text-near}
+use Rattle.degree.proofs.laws.Call.{text_refused, text-near}
 use borrow.Author.Rules.{rules}
 use Rattle.degree.proofs.near_tree.Statement.{statement}
 use Rattle.degree.proofs.near_tree.Tie as tie

@@ -1,7 +1,7 @@
 -- `gaps` meets its contract. A later time minus an earlier one is a difference over 0.
 use Prim.Native.Nat.{suc}
 use Rattle.number.specs.Axis.{origin}
-use Rattle.runs.specs.laws.Set.{makes_ext}
+use Rattle.runs.proofs.laws.Set.{makes_ext}
 use Rattle.differences.specs.inner.Sweep.{from}
 use Rattle.differences.specs.inner.Times.{lags_of, gaps_of}
 use Rattle.differences.proofs.GapLaws.{gaps_are}

@@ -1,5 +1,5 @@
 -- `steps` meets its contract. Every difference lies from the low end of the axis on.
-use Rattle.runs.specs.laws.Set.{makes_ext}
+use Rattle.runs.proofs.laws.Set.{makes_ext}
 use Rattle.differences.specs.inner.Sweep.{from}
 use Rattle.differences.specs.inner.Times.{steps_of}
 use Rattle.differences.proofs.GapLaws.{from_zero}

@@ -6,9 +6,9 @@ use native.Mathlib.Omega.{arith}
 use borrow.Author.Rules.{rules}
 use Rattle.grammar.specs.declared.Row.{Row}
 use Rattle.grammar.specs.inner.Table.{row_at, unary_from}
-use Rattle.leaves.specs.laws.Coding.{length-coded}
+use Rattle.leaves.proofs.laws.Coding.{length-coded}
 use Rattle.evaluation.specs.inner.Evaluate.{HasChild}
-use Rattle.evaluation.specs.laws.Line.{line-asked, line_leaf, first-node, first-falls, kind_fits, first-over, line-one_valid, line-one, second-node, second-falls, second-over, line-two_valid, line-two}
+use Rattle.evaluation.proofs.laws.Line.{line-asked, line_leaf, first-node, first-falls, kind_fits, first-over, line-one_valid, line-one, second-node, second-falls, second-over, line-two_valid, line-two}
 use Rattle.evaluation.proofs.+child_eval.Goals as goal
 
 -- the row of a node that is no leaf

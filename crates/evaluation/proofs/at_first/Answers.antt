@@ -2,8 +2,8 @@
 use mathlib.Core.Path.{refl, sym, subst}
 use native.Mathlib.Omega.{arith}
 use Rattle.runs.specs.Set.{Valid}
-use Rattle.parser.specs.laws.Rows.{laid_above}
-use Rattle.evaluation.specs.laws.Walk.{flat_node, flat_over, flat_valid, flat_done, holds_same}
+use Rattle.parser.proofs.laws.Rows.{laid_above}
+use Rattle.evaluation.proofs.laws.Walk.{flat_node, flat_over, flat_valid, flat_done, holds_same}
 use borrow.Author.Rules.{rules}
 use Rattle.evaluation.proofs.at_first.Goals as goal
 

@@ -2,9 +2,9 @@
 use native.Mathlib.Omega.{arith}
 use mathlib.Core.Path.{◌∙◌}
 use borrow.Author.Rules.{rules}
-use Rattle.parser.specs.laws.Rows.{laid_above}
-use Rattle.evaluation.specs.laws.Alone.{alone_asked, alone_evaluates}
-use Rattle.evaluation.specs.laws.Rows.{same_asking, same_temporal, same_child, same_evaluates}
+use Rattle.parser.proofs.laws.Rows.{laid_above}
+use Rattle.evaluation.proofs.laws.Alone.{alone_asked, alone_evaluates}
+use Rattle.evaluation.proofs.laws.Rows.{same_asking, same_temporal, same_child, same_evaluates}
 use Rattle.evaluation.proofs.evaluate.Goals as goal
 
 pub overflow_sub-count : goal.overflow_sub-count

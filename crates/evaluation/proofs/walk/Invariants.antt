@@ -5,9 +5,9 @@ use native.Mathlib.Omega.{arith}
 use lib.ListN.{length}
 use Rattle.runs.specs.Runs.{most_runs}
 use Rattle.runs.specs.Set.{Valid}
-use Rattle.parser.specs.laws.Rows.{laid_above}
-use Rattle.leaves.specs.laws.Coding.{length-coded}
-use Rattle.evaluation.specs.laws.Walk.{Walked, walk_start, into_a, into_b, walked_a, walked_b, over_a, over_b, valid_a, valid_b, done_a, done_b, holds_same}
+use Rattle.parser.proofs.laws.Rows.{laid_above}
+use Rattle.leaves.proofs.laws.Coding.{length-coded}
+use Rattle.evaluation.proofs.laws.Walk.{Walked, walk_start, into_a, into_b, walked_a, walked_b, over_a, over_b, valid_a, valid_b, done_a, done_b, holds_same}
 use borrow.Author.Rules.{rules}
 use Rattle.evaluation.proofs.walk.Given as goal
 

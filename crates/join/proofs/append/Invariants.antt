@@ -4,9 +4,9 @@ use mathlib.Core.Path.{◌≡◌, sym, subst}
 use native.Mathlib.Omega.{arith}
 use lib.ListN.{length}
 use Rattle.join.specs.inner.Join.{Appended}
-use Rattle.join.specs.laws.Join.{whole_runs}
-use Rattle.runs.specs.laws.Place.{two_left}
-use Rattle.join.specs.laws.Remainder.{Appending, appending_on, appended}
+use Rattle.join.proofs.laws.Join.{whole_runs}
+use Rattle.runs.proofs.laws.Place.{two_left}
+use Rattle.join.proofs.laws.Remainder.{Appending, appending_on, appended}
 use borrow.Author.Rules.{rules}
 use Rattle.join.proofs.append.Given as goal
 

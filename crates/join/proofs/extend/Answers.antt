@@ -2,9 +2,9 @@
 use Prim.Native.Nat.{◌-◌}
 use native.Mathlib.Omega.{arith}
 use lib.ListN.{length}
-use Rattle.join.specs.laws.Join.{whole_runs}
-use Rattle.runs.specs.laws.Place.{two_left}
-use Rattle.join.specs.laws.Remainder.{Reaching, reaching_on, reached_gap, reached-end}
+use Rattle.join.proofs.laws.Join.{whole_runs}
+use Rattle.runs.proofs.laws.Place.{two_left}
+use Rattle.join.proofs.laws.Remainder.{Reaching, reaching_on, reached_gap, reached-end}
 use borrow.Author.Rules.{rules}
 use Rattle.join.proofs.extend.Goals as goal
 

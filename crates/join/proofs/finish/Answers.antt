@@ -2,8 +2,8 @@
 use mathlib.Core.Path.{refl, sym, ◌∙◌}
 use native.Mathlib.Omega.{arith}
 use lib.ListN.{length-set}
-use Rattle.join.specs.laws.Join.{rest-any}
-use Rattle.join.specs.laws.Remainder.{finish_over, finish_all, run_size}
+use Rattle.join.proofs.laws.Join.{rest-any}
+use Rattle.join.proofs.laws.Remainder.{finish_over, finish_all, run_size}
 use borrow.Author.Rules.{rules}
 use Rattle.join.proofs.finish.Goals as goal
 

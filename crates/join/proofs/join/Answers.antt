@@ -3,7 +3,7 @@ use Prim.Native.Nat.{◌+◌, ◌-◌}
 use mathlib.Core.Path.{◌≡◌, refl, sym, ◌∙◌}
 use native.Mathlib.Omega.{arith}
 use lib.ListN.{length}
-use Rattle.join.specs.laws.Join.{Joining, whole-rest, joining_start, joins_none, place_right, left_any, right_any, open_left, open_right, joins_left, joins_right, joining_meet, joining_full, joining_room, joining_apart}
+use Rattle.join.proofs.laws.Join.{Joining, whole-rest, joining_start, joins_none, place_right, left_any, right_any, open_left, open_right, joins_left, joins_right, joining_meet, joining_full, joining_room, joining_apart}
 use borrow.Author.Rules.{rules}
 use Rattle.join.proofs.join.Goals as goal
 

@@ -3,8 +3,8 @@ use Prim.Native.Nat.{◌<◌}
 use mathlib.Core.Logic.{inl, inr}
 use native.Mathlib.Omega.{arith}
 use lib.ListN.{length}
-use Rattle.join.specs.laws.Join.{whole_runs, next_left, next_right}
-use Rattle.runs.specs.laws.Place.{two_left}
+use Rattle.join.proofs.laws.Join.{whole_runs, next_left, next_right}
+use Rattle.runs.proofs.laws.Place.{two_left}
 use Rattle.join.proofs.next.Goals as goal
 
 pub bounds-b-j : goal.bounds-b-j

@@ -2,8 +2,8 @@
 use mathlib.Core.Path.{◌∙◌}
 use native.Mathlib.Omega.{arith}
 use lib.ListN.{length-set}
-use Rattle.join.specs.laws.Join.{whole-rest, rest-any, joining_start, joining_meet, joining_apart}
-use Rattle.join.specs.laws.Remainder.{joins_last}
+use Rattle.join.proofs.laws.Join.{whole-rest, rest-any, joining_start, joining_meet, joining_apart}
+use Rattle.join.proofs.laws.Remainder.{joins_last}
 use borrow.Author.Rules.{rules}
 use Rattle.join.proofs.of_two.Goals as goal
 

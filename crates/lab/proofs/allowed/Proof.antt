@@ -1,6 +1,6 @@
 -- `lab::allowed` meets its contract: 11, then 14.
 use borrow.Author.Rules.{rules}
-use Rattle.lab.specs.laws.Call.{marks_refused, text_refused, text_allowed}
+use Rattle.lab.proofs.laws.Call.{marks_refused, text_refused, text_allowed}
 use Rattle.lab.proofs.allowed.Statement.{statement}
 use Rattle.lab.proofs.allowed.Tie as tie
 

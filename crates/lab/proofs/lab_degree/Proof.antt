@@ -4,8 +4,8 @@ use mathlib.Core.Path.{refl}
 use mir.Syntax.{w64}
 use mir.ValLaws.{to_z-of_z}
 use borrow.Author.Rules.{rules}
-use Rattle.question.specs.laws.Call.{prepared_ready}
-use Rattle.lab.specs.laws.Call.{degree_refused, plainly, degree_answered}
+use Rattle.question.proofs.laws.Call.{prepared_ready}
+use Rattle.lab.proofs.laws.Call.{degree_refused, plainly, degree_answered}
 use Rattle.lab.proofs.lab_degree.Statement.{statement}
 use Rattle.lab.proofs.lab_degree.Tie as tie
 

@@ -6,7 +6,7 @@ use mir.ValLaws.{to_z-of_z}
 use borrow.Author.Rules.{rules}
 use Rattle.pair.specs.Pair.{pair_of}
 use Rattle.lab.specs.Lab.{lab_pair_of}
-use Rattle.lab.specs.laws.Pair.{other_curve}
+use Rattle.lab.proofs.laws.Pair.{other_curve}
 use Rattle.lab.proofs.lab_pair.Statement.{statement}
 use Rattle.lab.proofs.lab_pair.Tie as tie
 

@@ -2,8 +2,8 @@
 use native.Mathlib.Omega.{arith}
 use mathlib.Core.Path.{refl}
 use borrow.Author.Rules.{rules}
-use Rattle.question.specs.laws.Call.{prepared_ready}
-use Rattle.lab.specs.laws.Call.{question_refused, plainly, question_answered}
+use Rattle.question.proofs.laws.Call.{prepared_ready}
+use Rattle.lab.proofs.laws.Call.{question_refused, plainly, question_answered}
 use Rattle.lab.proofs.lab_question.Statement.{statement}
 use Rattle.lab.proofs.lab_question.Tie as tie
 

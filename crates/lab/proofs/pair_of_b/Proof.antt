@@ -1,8 +1,8 @@
 -- `lab::pair_of_b` meets its contract: the lines one by one, the last of which always meets.
 use borrow.Author.Rules.{rules}
-use Rattle.targets.specs.laws.Target.{placed-handed}
+use Rattle.targets.proofs.laws.Target.{placed-handed}
 use Rattle.targets.specs.declared.OnAxis.TheVariants.{Index, Off}
-use Rattle.lab.specs.laws.Pair.{recording_refused, none_there, target_off, always_b}
+use Rattle.lab.proofs.laws.Pair.{recording_refused, none_there, target_off, always_b}
 use Rattle.lab.proofs.pair_of_b.Statement.{statement}
 use Rattle.lab.proofs.pair_of_b.Tie as tie
 

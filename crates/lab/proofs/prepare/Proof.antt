@@ -1,8 +1,8 @@
 -- `lab::prepare` meets its contract: refused by 1 to 7, or by 11 and 14.
 use native.Mathlib.Omega.{arith}
 use borrow.Author.Rules.{rules}
-use Rattle.question.specs.laws.Call.{prepared_ready}
-use Rattle.lab.specs.laws.Call.{prepare_refused, prepare_asked}
+use Rattle.question.proofs.laws.Call.{prepared_ready}
+use Rattle.lab.proofs.laws.Call.{prepare_refused, prepare_asked}
 use Rattle.lab.proofs.prepare.Statement.{statement}
 use Rattle.lab.proofs.prepare.Tie as tie
 

@@ -2,10 +2,10 @@
 use Rattle.std.proofs.Common.{sym, ap, rules}
 use Rattle.grammar.specs.Syntax.{Text}
 use Rattle.grammar.specs.inner.Kinds.{DOSE}
-use Rattle.runs.specs.laws.Set.{makes_of}
+use Rattle.runs.proofs.laws.Set.{makes_of}
 use Rattle.meaning.specs.inner.Coded.{coded}
 use Rattle.meaning.specs.inner.Truth.{val}
-use Rattle.leaves.specs.laws.Leaf.{leaf_at}
+use Rattle.leaves.proofs.laws.Leaf.{leaf_at}
 use Rattle.leaves.proofs.added.Goals as goal
 
 pub returns : goal.returns

@@ -7,7 +7,7 @@ use Rattle.grammar.specs.inner.Kinds.{AMPL}
 use Rattle.meaning.specs.inner.Truth.{val, truth}
 use Rattle.meaning.specs.inner.Coded.{coded}
 use Rattle.leaves.specs.inner.Span.{Spans}
-use Rattle.leaves.specs.laws.Leaf.{by_kind}
+use Rattle.leaves.proofs.laws.Leaf.{by_kind}
 use Rattle.leaves.proofs.amplitude.Goals as goal
 
 pub ampl-requires : goal.ampl-requires

@@ -2,7 +2,7 @@
 use Rattle.std.proofs.Common.{true, false, rules}
 use Rattle.meaning.specs.inner.Coded.{coded}
 use Rattle.leaves.specs.inner.Leaf.{leaf_of}
-use Rattle.leaves.specs.laws.Differing.{never_many, made_runs, none_asked}
+use Rattle.leaves.proofs.laws.Differing.{never_many, made_runs, none_asked}
 use Rattle.leaves.proofs.apart.Goals as goal
 
 pub returns-in-TooManyTops : goal.returns-in-TooManyTops

@@ -2,11 +2,11 @@
 use Rattle.std.proofs.Common.{sym, ◌∙◌, arith, rules}
 use Rattle.grammar.specs.Syntax.{Text}
 use Rattle.grammar.specs.inner.Kinds.{COMPARE-V}
-use Rattle.runs.specs.laws.Set.{holds_ext}
+use Rattle.runs.proofs.laws.Set.{holds_ext}
 use Rattle.meaning.specs.inner.Truth.{val}
 use Rattle.meaning.specs.inner.Coded.{coded}
 use Rattle.leaves.specs.inner.Span.{Spans}
-use Rattle.leaves.specs.laws.Leaf.{by_kind, past}
+use Rattle.leaves.proofs.laws.Leaf.{by_kind, past}
 use Rattle.leaves.proofs.atom.Goals as goal
 
 pub against_v-s-requires : goal.against_v-s-requires

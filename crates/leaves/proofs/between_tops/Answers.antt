@@ -8,7 +8,7 @@ use Rattle.meaning.specs.inner.Coded.{Coded, coded}
 use Rattle.meaning.specs.inner.Truth.{val, truth, many_tops, asks_too_many, of_listed}
 use Rattle.leaves.specs.inner.Differing.{Differs}
 use Rattle.leaves.specs.declared.Differing.{Differing}
-use Rattle.leaves.specs.laws.Leaf.{by_kind, past, just, under}
+use Rattle.leaves.proofs.laws.Leaf.{by_kind, past, just, under}
 use Rattle.leaves.proofs.between_tops.Goals as goal
 
 -- what is promised of a text

@@ -3,7 +3,7 @@ use Rattle.std.proofs.Common.{sym, ap, ◌∙◌, rules}
 use Rattle.recording.specs.Reading.{Curve}
 use Rattle.grammar.specs.Syntax.{listed, peaks, dips}
 use Rattle.grammar.specs.inner.Kinds.{PEAKS, DIPS, CROSS, CROSSUP}
-use Rattle.leaves.specs.laws.Leaf.{leaf_at, past, just, under}
+use Rattle.leaves.proofs.laws.Leaf.{leaf_at, past, just, under}
 use Rattle.leaves.proofs.event_of.Goals as goal
 
 pub returns-then-kind-eq-CROSS : goal.returns-then-kind-eq-CROSS

@@ -7,7 +7,7 @@ use Rattle.grammar.specs.inner.Kinds.{HIGH, LOW, LOWAFTER, CAPAFTER}
 use Rattle.meaning.specs.inner.Truth.{val, truth}
 use Rattle.meaning.specs.inner.Coded.{coded}
 use Rattle.leaves.specs.inner.Span.{Spans}
-use Rattle.leaves.specs.laws.Leaf.{by_kind, past, just}
+use Rattle.leaves.proofs.laws.Leaf.{by_kind, past, just}
 use Rattle.leaves.proofs.extreme.Goals as goal
 
 pub high-requires : goal.high-requires

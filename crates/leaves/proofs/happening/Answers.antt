@@ -1,7 +1,7 @@
 -- The times of the event that the row asks for.
 use Rattle.std.proofs.Common.{sym, rules}
 use Rattle.grammar.specs.Syntax.{Text}
-use Rattle.runs.specs.laws.Set.{makes_of}
+use Rattle.runs.proofs.laws.Set.{makes_of}
 use Rattle.meaning.specs.inner.Coded.{coded}
 use Rattle.meaning.specs.inner.Truth.{val}
 use Rattle.leaves.proofs.happening.Goals as goal

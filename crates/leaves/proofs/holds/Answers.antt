@@ -4,7 +4,7 @@ use Rattle.grammar.specs.Syntax.{Text}
 use Rattle.grammar.specs.inner.Kinds.{COMPARE, A-TO-B, FALL, RISE, PIGMENT}
 use Rattle.meaning.specs.inner.Truth.{val}
 use Rattle.meaning.specs.inner.Coded.{coded}
-use Rattle.leaves.specs.laws.Leaf.{by_kind, past, just}
+use Rattle.leaves.proofs.laws.Leaf.{by_kind, past, just}
 use Rattle.leaves.proofs.holds.Goals as goal
 
 pub against_number-requires : goal.against_number-requires

@@ -1,11 +1,11 @@
 -- An atom, one run by its ends, else the times of events or additions, or the differences between tops.
 use Rattle.std.proofs.Common.{ℕ, Bool, List, rules}
 use Rattle.grammar.specs.declared.Row.{Row}
-use Rattle.runs.specs.laws.Set.{holds_makes}
+use Rattle.runs.proofs.laws.Set.{holds_makes}
 use Rattle.meaning.specs.inner.Truth.{val}
 use Rattle.meaning.specs.inner.Coded.{coded}
 use Rattle.leaves.specs.inner.Leaf.{leaf_of}
-use Rattle.leaves.specs.laws.Span.{spans_make}
+use Rattle.leaves.proofs.laws.Span.{spans_make}
 use Rattle.leaves.proofs.leaf.Goals as goal
 
 -- the members of the leaf's set

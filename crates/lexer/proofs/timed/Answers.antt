@@ -2,7 +2,7 @@
 use mathlib.Core.Path.{sym, ◌∙◌}
 use native.Mathlib.Omega.{arith}
 use borrow.Author.Rules.{rules}
-use Rattle.grammar.specs.laws.Word.{inside}
+use Rattle.grammar.proofs.laws.Word.{inside}
 use Rattle.lexer.proofs.LeafLaws.{timing, timed_is, timed_none, when-found, when_missing}
 use Rattle.lexer.proofs.NumberLaws.{number-within}
 use Rattle.lexer.proofs.timed.Goals as goal

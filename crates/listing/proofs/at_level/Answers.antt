@@ -8,8 +8,8 @@ use borrow.Author.Tests.{ltb-true, ltb-false}
 use Rattle.number.specs.Axis.{whole}
 use Rattle.recording.specs.Reading.{curve_of}
 use Rattle.listing.specs.Listing.{entry_at, said_to_reach, numbers_to}
-use Rattle.listing.specs.laws.Listing.{count_few}
-use Rattle.listing.specs.laws.Call.{of_short, of_written}
+use Rattle.listing.proofs.laws.Listing.{count_few}
+use Rattle.listing.proofs.laws.Call.{of_short, of_written}
 use borrow.Author.Rules.{rules}
 use Rattle.listing.proofs.at_level.Goals as goal
 

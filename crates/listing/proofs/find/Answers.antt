@@ -10,7 +10,7 @@ use Rattle.recording.specs.Reading.{curve_of}
 use Rattle.recording.specs.Output.{Answers}
 use Rattle.listing.specs.Listing.{listing}
 use Rattle.listing.specs.Call.{level_lines}
-use Rattle.listing.specs.laws.Call.{of_partial, of_many, of_entries}
+use Rattle.listing.proofs.laws.Call.{of_partial, of_many, of_entries}
 use borrow.Author.Rules.{rules}
 use Rattle.listing.proofs.find.Goals as goal
 

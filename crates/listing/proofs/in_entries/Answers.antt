@@ -1,8 +1,8 @@
 -- A wrong curve number and a level off the axis are 12; else the level is the number at an index.
 use native.Mathlib.Omega.{arith}
-use Rattle.targets.specs.laws.Target.{placed-handed}
+use Rattle.targets.proofs.laws.Target.{placed-handed}
 use Rattle.targets.specs.declared.OnAxis.TheVariants.{Index, Off}
-use Rattle.listing.specs.laws.Call.{of_no_curve, of_off_axis, of_index}
+use Rattle.listing.proofs.laws.Call.{of_no_curve, of_off_axis, of_index}
 use borrow.Author.Rules.{rules}
 use Rattle.listing.proofs.in_entries.Goals as goal
 

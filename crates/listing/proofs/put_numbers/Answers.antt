@@ -6,7 +6,7 @@ use native.Mathlib.Omega.{arith}
 use Rattle.number.specs.Axis.{whole}
 use Rattle.recording.specs.Reading.{curve_of}
 use Rattle.listing.specs.Listing.{entry_at, said_to_reach}
-use Rattle.listing.specs.laws.Listing.{Writing, writing_start, writing-room, writing-turn, writing-end, counting_end, count_few}
+use Rattle.listing.proofs.laws.Listing.{Writing, writing_start, writing-room, writing-turn, writing-end, counting_end, count_few}
 use borrow.Author.Rules.{rules}
 use Rattle.listing.proofs.put_numbers.Invariants.{says}
 use Rattle.listing.proofs.put_numbers.Goals as goal

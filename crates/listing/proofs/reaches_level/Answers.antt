@@ -3,7 +3,7 @@ use mathlib.Core.Path.{ap, ◌∙◌}
 use Prim.Native.Nat.{ℕ, ◌+◌}
 use lib.Dec.{leb}
 use Rattle.number.specs.Words.{offset_binary}
-use Rattle.listing.specs.laws.Reaches.{reaches-index}
+use Rattle.listing.proofs.laws.Reaches.{reaches-index}
 use borrow.Author.Rules.{rules}
 use Rattle.listing.proofs.reaches_level.Goals as goal
 

@@ -10,7 +10,7 @@ use borrow.Author.Rules.{rules}
 use Rattle.number.specs.Axis.{whole}
 use Rattle.recording.specs.Reading.{curve_of}
 use Rattle.listing.specs.Listing.{entry_at, said_to_reach}
-use Rattle.listing.specs.laws.Listing.{count_few}
+use Rattle.listing.proofs.laws.Listing.{count_few}
 use Rattle.listing.proofs.too_short.Goals as goal
 
 abbrev says : List ℕ → ℕ → ℕ → ℕ → Bool

@@ -6,7 +6,7 @@ use Prim.Native.Nat.{ℕ, ◌+◌, ◌-◌, ◌*◌}
 use native.Mathlib.Omega.{arith}
 use lib.ListN.{take, drop}
 use Rattle.live_state.specs.State.{held_count, no_state}
-use Rattle.live_entry.specs.laws.Call.{held_few, held-part, records-length, answers_none, answers_held}
+use Rattle.live_entry.proofs.laws.Call.{held_few, held-part, records-length, answers_none, answers_held}
 use borrow.Author.Rules.{rules}
 use Rattle.live_entry.proofs.entry_of_run.Goals as goal
 

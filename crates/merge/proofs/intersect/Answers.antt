@@ -2,7 +2,7 @@
 use mathlib.Core.Path.{sym}
 use native.Mathlib.Omega.{arith}
 use lib.Seq.{length-take-le}
-use Rattle.merge.specs.laws.Made.{shared-over, shared_few, shared-held}
+use Rattle.merge.proofs.laws.Made.{shared-over, shared_few, shared-held}
 use borrow.Author.Rules.{rules}
 use Rattle.merge.proofs.intersect.Goals as goal
 

@@ -3,9 +3,9 @@ use mathlib.Core.Path.{refl, sym, ap, ◌∙◌, subst}
 use mathlib.Core.List.{[]}
 use borrow.Author.Rules.{rules}
 use Rattle.reply.specs.Reply.{packed, InHalf}
-use Rattle.assured.specs.laws.Call.{assured_in_half}
+use Rattle.assured.proofs.laws.Call.{assured_in_half}
 use Rattle.promises.specs.Page as call
-use Rattle.promises.specs.laws.Computed.{every_call}
+use Rattle.promises.proofs.laws.Computed.{every_call}
 use Rattle.mill.proofs.mill_assured.Statement.{statement}
 use Rattle.mill.proofs.mill_assured.Tie as tie
 

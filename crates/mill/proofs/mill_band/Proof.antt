@@ -12,12 +12,12 @@ use Rattle.band.specs.declared.InBand.{InBand}
 use Rattle.reply.specs.Reply.{InHalf}
 use Rattle.boundary.specs.Boundary.{band_told}
 use Rattle.boundary.specs.inner.Fits.{EndsIn}
-use Rattle.boundary.specs.laws.Boundary.{bands_same}
-use Rattle.promises.specs.laws.InHalf.{band_in_half, band_ends}
+use Rattle.boundary.proofs.laws.Boundary.{bands_same}
+use Rattle.promises.proofs.laws.InHalf.{band_in_half, band_ends}
 use borrow.Author.Rules.{rules}
 use Rattle.promises.specs.Page as call
 use Rattle.promises.specs.inner.Made.{four}
-use Rattle.promises.specs.laws.Computed.{every_call}
+use Rattle.promises.proofs.laws.Computed.{every_call}
 use Rattle.mill.proofs.mill_band.Statement.{statement}
 use Rattle.mill.proofs.mill_band.Tie as tie
 

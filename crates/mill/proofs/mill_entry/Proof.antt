@@ -4,10 +4,10 @@ use lib.ListN.{length}
 use borrow.Author.Rules.{rules}
 use Rattle.entry.specs.Call.{entry_of}
 use Rattle.reply.specs.Reply.{InHalf}
-use Rattle.promises.specs.laws.InHalf.{entry_in_half}
-use Rattle.boundary.specs.laws.Boundary.{writes}
+use Rattle.promises.proofs.laws.InHalf.{entry_in_half}
+use Rattle.boundary.proofs.laws.Boundary.{writes}
 use Rattle.promises.specs.Page as call
-use Rattle.promises.specs.laws.Computed.{every_call}
+use Rattle.promises.proofs.laws.Computed.{every_call}
 use Rattle.mill.proofs.mill_entry.Statement.{statement}
 use Rattle.mill.proofs.mill_entry.Tie as tie
 

@@ -11,10 +11,10 @@ use Rattle.recording.specs.Output.{Answers}
 use Rattle.recording.specs.declared.Written.{Written}
 use Rattle.listing.specs.Call.{find_of}
 use Rattle.reply.specs.Reply.{InHalf}
-use Rattle.promises.specs.laws.InHalf.{find_in_half}
-use Rattle.boundary.specs.laws.Boundary.{writes}
+use Rattle.promises.proofs.laws.InHalf.{find_in_half}
+use Rattle.boundary.proofs.laws.Boundary.{writes}
 use Rattle.promises.specs.Page as call
-use Rattle.promises.specs.laws.Computed.{every_call}
+use Rattle.promises.proofs.laws.Computed.{every_call}
 use Rattle.mill.proofs.mill_find.Statement.{statement}
 use Rattle.mill.proofs.mill_find.Tie as tie
 

@@ -12,12 +12,12 @@ use Rattle.degree.specs.declared.Nearness.{Nearness}
 use Rattle.reply.specs.Reply.{InHalf}
 use Rattle.boundary.specs.Boundary.{value_told}
 use Rattle.boundary.specs.inner.Fits.{NumbersIn}
-use Rattle.boundary.specs.laws.Boundary.{degrees_same}
-use Rattle.promises.specs.laws.InHalf.{lab_degree_in_half, lab_degree_numbers}
+use Rattle.boundary.proofs.laws.Boundary.{degrees_same}
+use Rattle.promises.proofs.laws.InHalf.{lab_degree_in_half, lab_degree_numbers}
 use borrow.Author.Rules.{rules}
 use Rattle.promises.specs.Page as call
 use Rattle.promises.specs.inner.Made.{two}
-use Rattle.promises.specs.laws.Computed.{every_call}
+use Rattle.promises.proofs.laws.Computed.{every_call}
 use Rattle.mill.proofs.mill_lab_degree.Statement.{statement}
 use Rattle.mill.proofs.mill_lab_degree.Tie as tie
 

@@ -11,12 +11,12 @@ use Rattle.lab.specs.Lab.{lab_pair_of}
 use Rattle.pair.specs.declared.TopPair.{TopPair}
 use Rattle.reply.specs.Reply.{InHalf}
 use Rattle.boundary.specs.Boundary.{pair_told}
-use Rattle.boundary.specs.laws.Boundary.{pairs_same}
-use Rattle.promises.specs.laws.InHalf.{lab_pair_in_half}
+use Rattle.boundary.proofs.laws.Boundary.{pairs_same}
+use Rattle.promises.proofs.laws.InHalf.{lab_pair_in_half}
 use borrow.Author.Rules.{rules}
 use Rattle.promises.specs.Page as call
 use Rattle.promises.specs.inner.Made.{two}
-use Rattle.promises.specs.laws.Computed.{every_call}
+use Rattle.promises.proofs.laws.Computed.{every_call}
 use Rattle.mill.proofs.mill_lab_pair.Statement.{statement}
 use Rattle.mill.proofs.mill_lab_pair.Tie as tie
 

@@ -2,8 +2,8 @@
 use mathlib.Core.Path.{sym, ap, ◌∙◌, subst}
 use borrow.Author.Rules.{rules}
 use Rattle.reply.specs.Reply.{packed, InHalf}
-use Rattle.live.specs.laws.InHalf.{add_in_half}
-use Rattle.promises.specs.laws.Carried.{live_add}
+use Rattle.live.proofs.laws.InHalf.{add_in_half}
+use Rattle.promises.proofs.laws.Carried.{live_add}
 use Rattle.mill.proofs.mill_live_add.Statement.{statement}
 use Rattle.mill.proofs.mill_live_add.Tie as tie
 

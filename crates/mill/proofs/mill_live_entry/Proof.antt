@@ -4,9 +4,9 @@ use lib.ListN.{length}
 use borrow.Author.Rules.{rules}
 use Rattle.reply.specs.Reply.{InHalf}
 use Rattle.live_entry.specs.Call.{held_entry_of}
-use Rattle.live_entry.specs.laws.InHalf.{run-entry_in_half}
-use Rattle.boundary.specs.laws.Boundary.{writes}
-use Rattle.promises.specs.laws.Carried.{live_entry}
+use Rattle.live_entry.proofs.laws.InHalf.{run-entry_in_half}
+use Rattle.boundary.proofs.laws.Boundary.{writes}
+use Rattle.promises.proofs.laws.Carried.{live_entry}
 use Rattle.mill.proofs.mill_live_entry.Statement.{statement}
 use Rattle.mill.proofs.mill_live_entry.Tie as tie
 

@@ -4,9 +4,9 @@ use lib.ListN.{length}
 use borrow.Author.Rules.{rules}
 use Rattle.reply.specs.Reply.{InHalf}
 use Rattle.live.specs.Call.{held_of}
-use Rattle.live.specs.laws.InHalf.{held_in_half}
-use Rattle.boundary.specs.laws.Boundary.{writes}
-use Rattle.promises.specs.laws.Carried.{live_kept}
+use Rattle.live.proofs.laws.InHalf.{held_in_half}
+use Rattle.boundary.proofs.laws.Boundary.{writes}
+use Rattle.promises.proofs.laws.Carried.{live_kept}
 use Rattle.mill.proofs.mill_live_kept.Statement.{statement}
 use Rattle.mill.proofs.mill_live_kept.Tie as tie
 

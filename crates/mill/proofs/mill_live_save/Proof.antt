@@ -2,8 +2,8 @@
 use mathlib.Core.Path.{sym, ap, ◌∙◌, subst}
 use borrow.Author.Rules.{rules}
 use Rattle.reply.specs.Reply.{packed, InHalf}
-use Rattle.live.specs.laws.InHalf.{save_in_half}
-use Rattle.promises.specs.laws.Carried.{live_save}
+use Rattle.live.proofs.laws.InHalf.{save_in_half}
+use Rattle.promises.proofs.laws.Carried.{live_save}
 use Rattle.mill.proofs.mill_live_save.Statement.{statement}
 use Rattle.mill.proofs.mill_live_save.Tie as tie
 

@@ -4,12 +4,12 @@ use Rattle.refusal.specs.Outcome.{Outcome}
 use Rattle.sheet.specs.Finding.{Finding}
 use Rattle.reply.specs.Reply.{InHalf}
 use Rattle.boundary.specs.Boundary.{finding_told}
-use Rattle.boundary.specs.laws.Boundary.{orders_same}
-use Rattle.promises.specs.laws.InHalf.{order_in_half}
+use Rattle.boundary.proofs.laws.Boundary.{orders_same}
+use Rattle.promises.proofs.laws.InHalf.{order_in_half}
 use borrow.Author.Rules.{rules}
 use Rattle.promises.specs.Page as call
 use Rattle.promises.specs.inner.Made.{two}
-use Rattle.promises.specs.laws.Computed.{every_call}
+use Rattle.promises.proofs.laws.Computed.{every_call}
 use Rattle.mill.proofs.mill_order.Statement.{statement}
 use Rattle.mill.proofs.mill_order.Tie as tie
 

@@ -4,10 +4,10 @@ use lib.ListN.{length}
 use borrow.Author.Rules.{rules}
 use Rattle.question.specs.Question.{question_of}
 use Rattle.reply.specs.Reply.{InHalf}
-use Rattle.promises.specs.laws.InHalf.{question_in_half}
-use Rattle.boundary.specs.laws.Boundary.{writes}
+use Rattle.promises.proofs.laws.InHalf.{question_in_half}
+use Rattle.boundary.proofs.laws.Boundary.{writes}
 use Rattle.promises.specs.Page as call
-use Rattle.promises.specs.laws.Computed.{every_call}
+use Rattle.promises.proofs.laws.Computed.{every_call}
 use Rattle.mill.proofs.mill_question.Statement.{statement}
 use Rattle.mill.proofs.mill_question.Tie as tie
 

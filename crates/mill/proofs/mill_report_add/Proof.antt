@@ -1,6 +1,6 @@
 -- The add call of crate `report_state`, by the page.
 use borrow.Author.Rules.{rules}
-use Rattle.promises.specs.laws.Carried.{report_add}
+use Rattle.promises.proofs.laws.Carried.{report_add}
 use Rattle.mill.proofs.mill_report_add.Statement.{statement}
 use Rattle.mill.proofs.mill_report_add.Tie as tie
 

@@ -8,7 +8,7 @@ use mir.ValLaws.{to_z-of_z}
 use Rattle.report.specs.inner.Naming.{naming}
 use Rattle.report_state.specs.Call.{Starts}
 use borrow.Author.Rules.{rules}
-use Rattle.promises.specs.laws.Carried.{report_start}
+use Rattle.promises.proofs.laws.Carried.{report_start}
 use Rattle.mill.proofs.mill_report_start.Statement.{statement}
 use Rattle.mill.proofs.mill_report_start.Tie as tie
 

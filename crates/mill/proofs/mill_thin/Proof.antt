@@ -4,10 +4,10 @@ use lib.ListN.{length}
 use borrow.Author.Rules.{rules}
 use Rattle.thin.specs.Thin.{thin_of}
 use Rattle.reply.specs.Reply.{InHalf}
-use Rattle.promises.specs.laws.InHalf.{thin_in_half}
-use Rattle.boundary.specs.laws.Boundary.{writes}
+use Rattle.promises.proofs.laws.InHalf.{thin_in_half}
+use Rattle.boundary.proofs.laws.Boundary.{writes}
 use Rattle.promises.specs.Page as call
-use Rattle.promises.specs.laws.Computed.{every_call}
+use Rattle.promises.proofs.laws.Computed.{every_call}
 use Rattle.mill.proofs.mill_thin.Statement.{statement}
 use Rattle.mill.proofs.mill_thin.Tie as tie
 

@@ -11,17 +11,17 @@ use lib.IntN.{ℤ}
 use Rattle.number.specs.Axis.{whole}
 use Rattle.refusal.specs.Outcome.{judged}
 use Rattle.refusal.specs.declared.Refusal.TheVariants.{NoRecord, BadTarget}
-use Rattle.number.specs.laws.Boolean.{or_right}
+use Rattle.number.proofs.laws.Boolean.{or_right}
 use Rattle.recording.specs.Recording.{records, readings}
-use Rattle.recording.specs.laws.Record.{length-records}
+use Rattle.recording.proofs.laws.Record.{length-records}
 use Rattle.targets.specs.Target.{off_axis, Placed, bad_target}
-use Rattle.targets.specs.laws.Target.{placed-handed}
+use Rattle.targets.proofs.laws.Target.{placed-handed}
 use Rattle.targets.specs.declared.OnAxis.TheVariants.{Index, Off}
 use Rattle.pair.specs.declared.TopPair.{TopPair}
 use Rattle.pair.specs.declared.TopPair.TheVariants as answer
 use Rattle.pair.specs.Pair.{Given, first_pair, too_many_tops, accepted_lines, outcome_of}
 use Rattle.recording.specs.Recording.{no_record}
-use Rattle.pair.specs.laws.Pair.{answer-first, answer_pass}
+use Rattle.pair.proofs.laws.Pair.{answer-first, answer_pass}
 use Rattle.recording.specs.Reading.{curve_of}
 use Rattle.pair.proofs.in_accepted.Goals as goal
 

@@ -10,11 +10,11 @@ use mir.ValLaws.{to_z-of_z}
 use Rattle.refusal.specs.Outcome.{judged}
 use Rattle.recording.specs.Output.{check_outcome}
 use Rattle.recording.specs.Recording.{recording_lines, readings, Accepted}
-use Rattle.recording.specs.laws.Outcome.{result_none}
+use Rattle.recording.proofs.laws.Outcome.{result_none}
 use Rattle.recording.specs.declared.Checked.{Checked}
 use Rattle.recording.specs.declared.Checked.TheVariants as checked
 use Rattle.pair.specs.Pair.{first_pair, accepted_lines, outcome_of, pair_of}
-use Rattle.pair.specs.laws.Pair.{answer_pass, answer_refused}
+use Rattle.pair.proofs.laws.Pair.{answer_pass, answer_refused}
 use Rattle.recording.specs.Reading.{curve_of}
 use Rattle.pair.proofs.pair.Goals as goal
 

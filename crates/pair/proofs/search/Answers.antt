@@ -7,10 +7,10 @@ use mathlib.Core.List.{List}
 use Prim.Native.Nat.{ℕ, ◌+◌, ◌-◌, ◌≤◌, ◌<◌}
 use native.Mathlib.Omega.{arith}
 use lib.ListN.{get_or}
-use Rattle.number.specs.laws.Order.{less_or_not, less-more_equal}
+use Rattle.number.proofs.laws.Order.{less_or_not, less-more_equal}
 use Rattle.refusal.specs.Outcome.{result}
 use Rattle.pair.specs.inner.Search.{Rising, Spaced}
-use Rattle.pair.specs.laws.Search.{found_first, found_none, Low, low-more, low-next, none_later, none_before, behind_earlier}
+use Rattle.pair.proofs.laws.Search.{found_first, found_none, Low, low-more, low-next, none_later, none_before, behind_earlier}
 use Rattle.pair.proofs.search.Goals as goal
 use Rattle.pair.proofs.search.Goals.{else-earlier-test, then-earlier-test+then-loop-j-test+then-later-sought, else-loop-j-test, then-loop-j-test+else-later-sought+then-sought-later}
 

@@ -12,17 +12,17 @@ use Rattle.refusal.specs.Outcome.{result, judged, NoneMeets}
 use Rattle.refusal.specs.declared.Refusal.TheVariants.{TooManyTops}
 use Rattle.recording.specs.Condition.{pick}
 use Rattle.recording.specs.Reading.{top, curve_of, a_top}
-use Rattle.recording.specs.laws.Outcome.{judged_none}
+use Rattle.recording.proofs.laws.Outcome.{judged_none}
 use Rattle.recording.specs.Recording.{chunks, reading, readings, Accepted}
 use Rattle.tops.specs.Tops.{top_times, most_tops}
 use Rattle.tops.specs.inner.Scan.{Scanned}
-use Rattle.tops.specs.laws.Event.{event-times_ascend}
-use Rattle.tops.specs.laws.Pick.{Ascending}
+use Rattle.tops.proofs.laws.Event.{event-times_ascend}
+use Rattle.tops.proofs.laws.Pick.{Ascending}
 use Rattle.pair.specs.inner.Search.{Rising}
 use Rattle.pair.specs.declared.TopPair.{TopPair}
 use Rattle.pair.specs.declared.TopPair.TheVariants as answer
 use Rattle.pair.specs.Pair.{Given, pairs_of, first_apart, first_pair, too_many_tops, outcome_of}
-use Rattle.pair.specs.laws.Pair.{scanned_all, rising_taken, count-tops, none_for_low, whole_below, whole_above, answer-first}
+use Rattle.pair.proofs.laws.Pair.{scanned_all, rising_taken, count-tops, none_for_low, whole_below, whole_above, answer-first}
 use Rattle.pair.proofs.tops_apart.Goals as goal
 
 module _ (bytes : List ℕ) (n curve index : ℕ) (a : Accepted bytes) (e : n ≡ length bytes / 16) (old : List ℕ) (room : length old ≡ most_tops)

@@ -3,8 +3,8 @@ use mathlib.Core.Path.{◌≡◌, refl, sym, ◌∙◌}
 use Prim.Native.Nat.{ℕ, ◌<◌, ◌+◌, ◌-◌, ◌*◌}
 use native.Mathlib.Omega.{arith}
 use Rattle.grammar.specs.inner.Parse.{bars, ampersands}
-use Rattle.grammar.specs.laws.Word.{inside}
-use Rattle.parser.specs.laws.Rows.{ahead_of}
+use Rattle.grammar.proofs.laws.Word.{inside}
+use Rattle.parser.proofs.laws.Rows.{ahead_of}
 use Rattle.parser.proofs.ReaderLaws.{room, chain_some, chain_none, more_some, more_none, more_stop, not_some, not_none, not_else, argument_some, argument_other, argument_none, unary_some, binary_some, node-ends, opening_ends, open_unary, open_binary, prim_leaf, prim_round, prim_opened, prim_none}
 use Rattle.parser.proofs.+reader.Goals as goal
 

@@ -3,9 +3,9 @@ use mathlib.Core.Path.{sym, ◌∙◌}
 use lib.Dec.{leb}
 use borrow.Author.Tests.{leb-false}
 use Rattle.number.specs.Axis.{axis}
-use Rattle.number.specs.laws.Boolean.{none_left, none_right}
+use Rattle.number.proofs.laws.Boolean.{none_left, none_right}
 use Rattle.report.specs.inner.Running.{faulty}
-use Rattle.report.specs.laws.Running.{unsound_none, sound_added, sound_of, small_reached}
+use Rattle.report.proofs.laws.Running.{unsound_none, sound_added, sound_of, small_reached}
 use borrow.Author.Rules.{rules}
 use Rattle.report.proofs.add.Statement.{statement}
 use Rattle.report.proofs.add.Tie as tie

@@ -1,7 +1,7 @@
 -- `report::aimed` meets its contract: refused by 12, or by 10. Assumes nothing.
-use Rattle.targets.specs.laws.Target.{placed-handed}
+use Rattle.targets.proofs.laws.Target.{placed-handed}
 use Rattle.targets.specs.declared.OnAxis.TheVariants.{Index, Off}
-use Rattle.report.specs.laws.Naming.{target_off, target_short, target_on}
+use Rattle.report.proofs.laws.Naming.{target_off, target_short, target_on}
 use borrow.Author.Rules.{rules}
 use Rattle.report.proofs.aimed.Statement.{statement}
 use Rattle.report.proofs.aimed.Tie as tie

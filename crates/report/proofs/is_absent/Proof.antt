@@ -1,6 +1,6 @@
 -- `report::is_absent` meets its contract. Assumes nothing.
 use mathlib.Core.Path.{sym, ◌∙◌}
-use Rattle.number.specs.laws.Boolean.{or_left, or_pass}
+use Rattle.number.proofs.laws.Boolean.{or_left, or_pass}
 use Rattle.report.specs.inner.Running.{unread, unsound}
 use borrow.Author.Rules.{rules}
 use Rattle.report.proofs.is_absent.Statement.{statement}

@@ -2,7 +2,7 @@
 use borrow.Author.Rules.{rules}
 use native.Mathlib.Omega.{arith}
 use mathlib.Core.Path.{sym, ◌∙◌}
-use Rattle.report.specs.laws.Running.{fault_whole, fault_many, fault_parts, fault_far, fault_sum, fault_mean, differs_nan}
+use Rattle.report.proofs.laws.Running.{fault_whole, fault_many, fault_parts, fault_far, fault_sum, fault_mean, differs_nan}
 use Rattle.report.proofs.is_faulty.Statement.{statement}
 use Rattle.report.proofs.is_faulty.Tie as tie
 

@@ -1,5 +1,5 @@
 -- `report::is_unread` meets its contract, by what the reader answers. Assumes nothing.
-use Rattle.report.specs.laws.Naming.{unread_refused, unread-read}
+use Rattle.report.proofs.laws.Naming.{unread_refused, unread-read}
 use borrow.Author.Rules.{rules}
 use Rattle.report.proofs.is_unread.Statement.{statement}
 use Rattle.report.proofs.is_unread.Tie as tie

@@ -3,7 +3,7 @@ use mathlib.Core.Path.{sym, ◌∙◌}
 use lib.Dec.{leb}
 use borrow.Author.Tests.{le-leb, lt-leb}
 use Rattle.number.specs.Axis.{axis}
-use Rattle.number.specs.laws.Boolean.{or_left, or_pass}
+use Rattle.number.proofs.laws.Boolean.{or_left, or_pass}
 use Rattle.report.specs.inner.Running.{faulty}
 use borrow.Author.Rules.{rules}
 use Rattle.report.proofs.is_unsound.Statement.{statement}

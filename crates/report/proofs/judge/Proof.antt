@@ -1,5 +1,5 @@
 -- `report::judge` meets its contract. Assumes nothing.
-use Rattle.report.specs.laws.Running.{counted-last, counted_taken}
+use Rattle.report.proofs.laws.Running.{counted-last, counted_taken}
 use Rattle.report.proofs.judge.Statement.{statement}
 use Rattle.report.proofs.judge.Tie as tie
 

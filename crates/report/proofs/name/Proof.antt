@@ -7,11 +7,11 @@ use Rattle.report.specs.Report.{most_batches}
 use borrow.Author.Tests.{eq-eqb, lt-ltb}
 use mir.Syntax.{w64}
 use mir.ValLaws.{to_z-of_z}
-use Rattle.number.specs.laws.Boolean.{or_left, or_right}
+use Rattle.number.proofs.laws.Boolean.{or_left, or_right}
 use Rattle.refusal.specs.Outcome.{judged}
 use Rattle.meaning.specs.inner.Coded.{index}
 use Rattle.report.specs.inner.Naming.{target_lines}
-use Rattle.report.specs.laws.Naming.{count_bad, count_good, text_bad, text_good}
+use Rattle.report.proofs.laws.Naming.{count_bad, count_good, text_bad, text_good}
 use borrow.Author.Rules.{rules}
 use Rattle.report.proofs.name.Statement.{statement}
 use Rattle.report.proofs.name.Tie as tie

@@ -2,7 +2,7 @@
 use native.Mathlib.Omega.{arith}
 use mathlib.Core.Path.{refl, ap}
 use Prim.Native.Nat.{ℕ, ◌+◌}
-use Rattle.report.specs.laws.Running.{same_report}
+use Rattle.report.proofs.laws.Running.{same_report}
 use borrow.Author.Rules.{rules}
 use Rattle.report.proofs.with_distance.Statement.{statement}
 use Rattle.report.proofs.with_distance.Tie as tie

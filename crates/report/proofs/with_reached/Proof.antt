@@ -3,7 +3,7 @@ use mathlib.Core.Path.{sym, ap, subst, ◌∙◌}
 use Rattle.degree.specs.Degree.{away, nowhere, reached_of}
 use Rattle.degree.specs.declared.Reached.{Reached}
 use Rattle.report.specs.inner.Running.{Small, added_with}
-use Rattle.report.specs.laws.Running.{batch_added}
+use Rattle.report.proofs.laws.Running.{batch_added}
 use borrow.Author.Rules.{rules}
 use Rattle.report.proofs.with_reached.Statement.{statement}
 use Rattle.report.proofs.with_reached.Tie as tie

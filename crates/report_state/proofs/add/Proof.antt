@@ -2,8 +2,8 @@
 use mathlib.Core.Path.{ap, ◌∙◌}
 use Rattle.report.specs.inner.Running.{Addition}
 use Rattle.report_state.specs.State.{add_after}
-use Rattle.report_state.specs.laws.Add.{fine_of}
-use Rattle.report_state.specs.laws.Tell.{same_told}
+use Rattle.report_state.proofs.laws.Add.{fine_of}
+use Rattle.report_state.proofs.laws.Tell.{same_told}
 use borrow.Author.Rules.{rules}
 use Rattle.report_state.proofs.add.Statement.{statement}
 use Rattle.report_state.proofs.add.Tie as tie

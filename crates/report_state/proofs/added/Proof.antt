@@ -1,7 +1,7 @@
 -- `report_state::added` meets its contract. Assumes nothing.
 use native.Mathlib.Omega.{arith}
 use mathlib.Core.Path.{sym, ◌∙◌}
-use Rattle.report_state.specs.laws.Read.{held_of, stateless_none, none_in, some_in}
+use Rattle.report_state.proofs.laws.Read.{held_of, stateless_none, none_in, some_in}
 use borrow.Author.Rules.{rules}
 use Rattle.report_state.proofs.added.Statement.{statement}
 use Rattle.report_state.proofs.added.Tie as tie

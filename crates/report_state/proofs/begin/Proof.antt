@@ -2,7 +2,7 @@
 use native.Mathlib.Omega.{arith}
 use mathlib.Core.Path.{ap, ◌∙◌}
 use Rattle.report_state.specs.State.{figure_words}
-use Rattle.report_state.specs.laws.Start.{begun, begin_numbers}
+use Rattle.report_state.proofs.laws.Start.{begun, begin_numbers}
 use borrow.Author.Rules.{rules}
 use Rattle.report_state.proofs.begin.Statement.{statement}
 use Rattle.report_state.proofs.begin.Tie as tie

@@ -3,7 +3,7 @@ use native.Mathlib.Omega.{arith}
 use mathlib.Core.Path.{sym, ap, ◌∙◌}
 use mathlib.Core.Bool.{Bool, cond}
 use Rattle.report_state.specs.State.{closed_bytes}
-use Rattle.report_state.specs.laws.Read.{held_of, some_state}
+use Rattle.report_state.proofs.laws.Read.{held_of, some_state}
 use borrow.Author.Rules.{rules}
 use Rattle.report_state.proofs.end.Statement.{statement}
 use Rattle.report_state.proofs.end.Tie as tie

@@ -1,7 +1,7 @@
 -- `report_state::float_at` meets its contract. Assumes nothing.
 use mathlib.Core.Path.{ap}
 use lib.Ieee.{binary64, of_bits}
-use Rattle.report_state.specs.laws.Read.{number-bits}
+use Rattle.report_state.proofs.laws.Read.{number-bits}
 use borrow.Author.Rules.{rules}
 use Rattle.report_state.proofs.float_at.Statement.{statement}
 use Rattle.report_state.proofs.float_at.Tie as tie

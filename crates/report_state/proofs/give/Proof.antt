@@ -1,5 +1,5 @@
 -- `report_state::give` meets its contract. Assumes nothing.
-use Rattle.report_state.specs.laws.Tell.{give_none, give_mean}
+use Rattle.report_state.proofs.laws.Tell.{give_none, give_mean}
 use borrow.Author.Rules.{rules}
 use Rattle.report_state.proofs.give.Statement.{statement}
 use Rattle.report_state.proofs.give.Tie as tie

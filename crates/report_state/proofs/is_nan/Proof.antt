@@ -1,5 +1,5 @@
 -- `report_state::is_nan` meets its contract. Assumes nothing.
-use Rattle.report_state.specs.laws.Read.{nan_test}
+use Rattle.report_state.proofs.laws.Read.{nan_test}
 use Rattle.report_state.proofs.is_nan.Statement.{statement}
 use Rattle.report_state.proofs.is_nan.Tie as tie
 

@@ -1,7 +1,7 @@
 -- `report_state::is_none` meets its contract. Assumes nothing.
 use native.Mathlib.Omega.{arith}
 use mathlib.Core.Path.{sym, ◌∙◌}
-use Rattle.report_state.specs.laws.Read.{held_of, stateless_none, none_by}
+use Rattle.report_state.proofs.laws.Read.{held_of, stateless_none, none_by}
 use borrow.Author.Rules.{rules}
 use Rattle.report_state.proofs.is_none.Statement.{statement}
 use Rattle.report_state.proofs.is_none.Tie as tie

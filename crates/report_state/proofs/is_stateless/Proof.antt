@@ -2,7 +2,7 @@
 use mathlib.Core.Path.{sym, ap, ◌∙◌}
 use native.Mathlib.Omega.{arith}
 use lib.Ieee.{binary64, nan_bits}
-use Rattle.report_state.specs.laws.Read.{too_short, other_head, too-large, sum_nan, mean_nan}
+use Rattle.report_state.proofs.laws.Read.{too_short, other_head, too-large, sum_nan, mean_nan}
 use borrow.Author.Rules.{rules}
 use Rattle.report_state.proofs.is_stateless.Statement.{statement}
 use Rattle.report_state.proofs.is_stateless.Tie as tie

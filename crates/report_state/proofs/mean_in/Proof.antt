@@ -1,6 +1,6 @@
 -- `report_state::mean_in` meets its contract. Assumes nothing.
 use native.Mathlib.Omega.{arith}
-use Rattle.report_state.specs.laws.Read.{same_mean}
+use Rattle.report_state.proofs.laws.Read.{same_mean}
 use Rattle.report_state.proofs.mean_in.Statement.{statement}
 use Rattle.report_state.proofs.mean_in.Tie as tie
 

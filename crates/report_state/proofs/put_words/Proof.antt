@@ -4,8 +4,8 @@ use mathlib.Core.Path.{◌≡◌, refl, ◌∙◌}
 use native.Mathlib.Omega.{arith}
 use borrow.Author.Rules.{rules}
 use lib.ListN.{length, get_or}
-use Rattle.number.specs.laws.Words.{put-length}
-use Rattle.report_state.specs.laws.Words.{PutTo, put-turn, put-end}
+use Rattle.number.proofs.laws.Words.{put-length}
+use Rattle.report_state.proofs.laws.Words.{PutTo, put-turn, put-end}
 use Rattle.report_state.proofs.put_words.Statement.{statement}
 use Rattle.report_state.proofs.put_words.Tie as tie
 

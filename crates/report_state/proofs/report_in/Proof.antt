@@ -1,5 +1,5 @@
 -- `report_state::report_in` meets its contract. Assumes nothing.
-use Rattle.report_state.specs.laws.Read.{same_report}
+use Rattle.report_state.proofs.laws.Read.{same_report}
 use borrow.Author.Rules.{rules}
 use Rattle.report_state.proofs.report_in.Statement.{statement}
 use Rattle.report_state.proofs.report_in.Tie as tie

@@ -10,7 +10,7 @@ use Rattle.report.specs.declared.Named.{Named}
 use Rattle.report.specs.inner.Running.{named_of}
 use Rattle.report.specs.inner.Naming.{naming}
 use Rattle.report_state.specs.Call.{named_index}
-use Rattle.report_state.specs.laws.Start.{start-room, start-place, start-begun, start_refused}
+use Rattle.report_state.proofs.laws.Start.{start-room, start-place, start-begun, start_refused}
 use borrow.Author.Rules.{rules}
 use Rattle.report_state.proofs.start.Statement.{statement}
 use Rattle.report_state.proofs.start.Tie as tie

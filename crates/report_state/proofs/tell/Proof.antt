@@ -4,7 +4,7 @@ use Rattle.refusal.specs.declared.Refusal.TheVariants.{NoReport}
 use Rattle.report.specs.declared.Added.{Added}
 use Rattle.report.specs.inner.Running.{addition_of, answer_in}
 use Rattle.report_state.specs.inner.Kept.{Tellable}
-use Rattle.report_state.specs.laws.Tell.{refusal_told, taken_told, last-told}
+use Rattle.report_state.proofs.laws.Tell.{refusal_told, taken_told, last-told}
 use borrow.Author.Rules.{rules}
 use Rattle.report_state.proofs.tell.Statement.{statement}
 use Rattle.report_state.proofs.tell.Tie as tie

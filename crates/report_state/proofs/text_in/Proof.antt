@@ -1,5 +1,5 @@
 -- `report_state::text_in` meets its contract. Assumes nothing.
-use Rattle.report_state.specs.laws.Read.{text-part}
+use Rattle.report_state.proofs.laws.Read.{text-part}
 use borrow.Author.Rules.{rules}
 use Rattle.report_state.proofs.text_in.Statement.{statement}
 use Rattle.report_state.proofs.text_in.Tie as tie

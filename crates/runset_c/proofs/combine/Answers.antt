@@ -1,6 +1,6 @@
 -- Each number stands for one operation.
 use Rattle.runs.specs.Set.{member}
-use Rattle.runs.specs.laws.Set.{makes_ext}
+use Rattle.runs.proofs.laws.Set.{makes_ext}
 use Rattle.runset_c.specs.Bytes.{chosen}
 use Rattle.runset_c.proofs.Delivery.{chosen_or, chosen_and, chosen_not, chosen_else}
 use Rattle.std.proofs.Common.{rules}

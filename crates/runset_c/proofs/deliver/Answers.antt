@@ -1,6 +1,6 @@
 -- Over, short or written, by the number of runs.
 use Rattle.std.proofs.Common.{arith, rules}
-use Rattle.runs.specs.laws.Set.{valid_count}
+use Rattle.runs.proofs.laws.Set.{valid_count}
 use Rattle.runset_c.proofs.Delivery.{delivered_over, delivered_short, delivered_set}
 use Rattle.runset_c.proofs.deliver.Goals as goal
 

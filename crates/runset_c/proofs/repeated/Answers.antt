@@ -1,6 +1,6 @@
 -- The invariant: the sum so far is the reply to as many turns.
 use Rattle.std.proofs.Common.{◌≡◌, ◌-◌, ◌≤◌, false, length, refl, ap, ◌∙◌, mod-lt, arith, rules}
-use Rattle.number.specs.laws.Order.{positive}
+use Rattle.number.proofs.laws.Order.{positive}
 use Rattle.runs.specs.Set.{member, slot_words, shared_words}
 use Rattle.runset_c.specs.Bytes.{chosen, repeat_reply}
 use Rattle.runset_c.proofs.Repetition.{no_turn, over_reply, empty_reply, one_more}

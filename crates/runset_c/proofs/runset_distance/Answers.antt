@@ -1,7 +1,7 @@
 -- What `distance` says of the loaded set.
 use Rattle.std.proofs.Common.{sym, ◌∙◌, rules}
 use Rattle.runset_c.proofs.Delivery.{distance_refused, distance_off, distance_said}
-use Rattle.runs.specs.laws.Distance.{at_distance, nothing-distance}
+use Rattle.runs.proofs.laws.Distance.{at_distance, nothing-distance}
 use Rattle.runset_c.proofs.runset_distance.Goals as goal
 
 pub returns-then-load : goal.returns-then-load

@@ -1,6 +1,6 @@
 -- Refused bytes, or what the joining of the two sets counted.
 use Rattle.std.proofs.Common.{sym, refl, ◌∙◌, arith, rules}
-use Rattle.number.specs.laws.Boolean.{or_left, or_right}
+use Rattle.number.proofs.laws.Boolean.{or_left, or_right}
 use Rattle.runset_c.specs.Bytes.{unfit}
 use Rattle.runset_c.proofs.Delivery.{fine, stores_refused, stores_over, stores_said, stores_few}
 use Rattle.runset_c.proofs.runset_stores.Goals as goal

@@ -8,13 +8,13 @@ use lib.ListN.{length}
 use Rattle.number.specs.Words.{word}
 use Rattle.refusal.specs.Outcome.{result}
 use Rattle.recording.specs.Recording.{raw_at, readings, Accepted}
-use Rattle.recording.specs.laws.Record.{length-readings}
+use Rattle.recording.proofs.laws.Record.{length-readings}
 use Rattle.sheet.specs.Sheet.{sheet_of, most_lines, AcceptedSheet}
 use Rattle.sheet.specs.Finding.{all_met, broken_at}
 use Rattle.sheet.specs.inner.Found.{finding}
 use Rattle.sheet.specs.inner.Firsts.{Firsts, Earliest}
-use Rattle.sheet.specs.laws.Firsts.{time-at, shown_broken, shown_met}
-use Rattle.sheet.specs.laws.Sheet.{lines_few}
+use Rattle.sheet.proofs.laws.Firsts.{time-at, shown_broken, shown_met}
+use Rattle.sheet.proofs.laws.Sheet.{lines_few}
 use Rattle.sheet.proofs.find.Goals as goal
 
 module _ (bytes : List ℕ) (accepted : Accepted bytes) (n : ℕ) (count : n ≡ length bytes / 16) (sheet : List ℕ) (fine : AcceptedSheet sheet) (table : List ℕ) (firsts : Firsts (readings bytes) table)

@@ -6,9 +6,9 @@ use Prim.Native.Nat.{ℕ, suc, ◌-◌, ◌/◌, ◌≤◌, ◌<◌}
 use native.Mathlib.Omega.{arith}
 use lib.ListN.{length, get_or}
 use Rattle.recording.specs.Recording.{raw_at, readings}
-use Rattle.recording.specs.laws.Record.{length-readings}
+use Rattle.recording.proofs.laws.Record.{length-readings}
 use Rattle.sheet.specs.inner.Firsts.{FirstsFrom}
-use Rattle.sheet.specs.laws.Firsts.{pigment-at, pigment_few, firsts_start, firsts_turn, firsts_end}
+use Rattle.sheet.proofs.laws.Firsts.{pigment-at, pigment_few, firsts_start, firsts_turn, firsts_end}
 use Rattle.sheet.proofs.first_additions.Goals as goal
 
 pub loop-i-init : goal.loop-i-init

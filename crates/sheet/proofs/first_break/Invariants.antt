@@ -7,7 +7,7 @@ use Prim.Native.Nat.{ℕ, ◌+◌, ◌*◌, ◌-◌, ◌/◌, ◌≤◌, ◌<◌
 use native.Mathlib.Omega.{arith}
 use lib.ListN.{length, get_or}
 use Rattle.sheet.specs.inner.Firsts.{Earliest}
-use Rattle.sheet.specs.laws.Firsts.{earliest-start, earliest_here, earliest_past}
+use Rattle.sheet.proofs.laws.Firsts.{earliest-start, earliest_here, earliest_past}
 use Rattle.sheet.proofs.first_break.Given as goal
 
 abbrev pub invariant-loop-k : goal.invariant-loop-k

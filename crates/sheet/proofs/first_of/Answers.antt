@@ -4,7 +4,7 @@ use mathlib.Core.Path.{ap}
 use Prim.Native.Nat.{ℕ}
 use native.Mathlib.Omega.{arith}
 use lib.ListN.{get_or}
-use Rattle.sheet.specs.laws.Sheet.{pigments_in}
+use Rattle.sheet.proofs.laws.Sheet.{pigments_in}
 use Rattle.sheet.proofs.first_of.Goals as goal
 
 pub bounds-first-wide : goal.bounds-first-wide

@@ -9,8 +9,8 @@ use lib.ListN.{length}
 use Rattle.refusal.specs.Outcome.{result, judged}
 use Rattle.refusal.specs.declared.Refusal.TheVariants.{NoRecord, BadSheet}
 use Rattle.recording.specs.Recording.{records, readings, no_record}
-use Rattle.recording.specs.laws.Outcome.{judged-first, judged_pass, judged_none}
-use Rattle.recording.specs.laws.Record.{length-records}
+use Rattle.recording.proofs.laws.Outcome.{judged-first, judged_pass, judged_none}
+use Rattle.recording.proofs.laws.Record.{length-records}
 use Rattle.sheet.specs.declared.Ordered.{Ordered}
 use Rattle.sheet.specs.declared.Ordered.TheVariants as answer
 use Rattle.sheet.specs.Sheet.{sheet_of, bad_sheet}

@@ -6,8 +6,8 @@ use lib.ListN.{length}
 use Rattle.refusal.specs.Numbers.{number_of, place_of}
 use Rattle.recording.specs.Output.{check_outcome}
 use Rattle.recording.specs.Recording.{readings, recording_lines}
-use Rattle.recording.specs.laws.Outcome.{judged_pass, refusal_stands}
-use Rattle.recording.specs.laws.Acceptance.{check_accepts}
+use Rattle.recording.proofs.laws.Outcome.{judged_pass, refusal_stands}
+use Rattle.recording.proofs.laws.Acceptance.{check_accepts}
 use Rattle.sheet.specs.Sheet.{sheet_of}
 use Rattle.sheet.specs.inner.Found.{finding}
 use Rattle.sheet.specs.Call.{sheet_lines, order_of}

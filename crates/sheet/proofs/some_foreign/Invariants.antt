@@ -6,11 +6,11 @@ use mathlib.Core.List.{List}
 use Prim.Native.Nat.{ℕ, ◌-◌}
 use lib.ListN.{length, get_or, drop}
 use lib.Dec.{ltb, eqb}
-use Rattle.number.specs.laws.Boolean.{or_left, or_right, or_none}
+use Rattle.number.proofs.laws.Boolean.{or_left, or_right, or_none}
 use Rattle.recording.specs.Condition.{some_of}
 use Rattle.recording.specs.Recording.{most_pigments}
 use Rattle.sheet.specs.Sheet.{no_pigment}
-use Rattle.sheet.specs.laws.Sheet.{some_here, some_past, some_end}
+use Rattle.sheet.proofs.laws.Sheet.{some_here, some_past, some_end}
 use Rattle.sheet.proofs.some_foreign.Given as goal
 
 abbrev pub invariant-loop-i : goal.invariant-loop-i

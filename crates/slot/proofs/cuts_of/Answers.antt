@@ -4,7 +4,7 @@ use native.Mathlib.Omega.{arith}
 use lib.ListN.{take}
 use lib.Seq.{length-take-le}
 use Prim.Native.Nat.{ℕ}
-use Rattle.runs.specs.laws.Set.{cuts_there}
+use Rattle.runs.proofs.laws.Set.{cuts_there}
 use borrow.Author.Rules.{rules}
 use Rattle.slot.proofs.cuts_of.Goals as goal
 

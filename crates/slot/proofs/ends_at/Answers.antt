@@ -2,7 +2,7 @@
 use mathlib.Core.Bool.{false≢true}
 use native.Mathlib.Omega.{arith}
 use borrow.Author.Tests.{eqb-true, eq-eqb}
-use Rattle.number.specs.laws.Boolean.{clash}
+use Rattle.number.proofs.laws.Boolean.{clash}
 use borrow.Author.Rules.{rules}
 use Rattle.slot.proofs.ends_at.Goals as goal
 

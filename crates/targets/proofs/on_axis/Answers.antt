@@ -13,8 +13,8 @@ use mir.ValLaws.{to_z-of_z}
 use Rattle.number.specs.Axis.{axis, whole, origin}
 use Rattle.targets.specs.Target.{off_axis}
 use Rattle.number.specs.Axis.{lowest, highest}
-use Rattle.number.specs.laws.Boolean.{or_right}
-use Rattle.targets.specs.laws.Target.{sub_above, sub_below}
+use Rattle.number.proofs.laws.Boolean.{or_right}
+use Rattle.targets.proofs.laws.Target.{sub_above, sub_below}
 use Rattle.targets.proofs.on_axis.Goals as goal
 
 record At (z : ℤ) (k : ℕ) : Type 0 where

@@ -3,7 +3,7 @@ use native.Mathlib.Omega.{arith}
 use mathlib.Core.Path.{◌≡◌}
 use borrow.Author.Rules.{rules}
 use lib.ListN.{length}
-use Rattle.parser.specs.laws.Rows.{ahead_of}
+use Rattle.parser.proofs.laws.Rows.{ahead_of}
 use Rattle.text.proofs.ToldLaws.{told-length, told_none, told-read, length_bad, length_over, length_good, read-part, read-nothing}
 use Rattle.text.proofs.read.Goals as goal
 

@@ -12,7 +12,7 @@ use Rattle.text.specs.Told.{text_lines, nodes_of, outcome_of, Told}
 use Rattle.text.specs.declared.Answer.{Answer}
 use Rattle.text.specs.declared.Answer.TheVariants.{Nodes, Refused}
 use Rattle.reply.specs.Reply.{half, packed}
-use Rattle.reply.specs.laws.Place.{plain-place}
+use Rattle.reply.proofs.laws.Place.{plain-place}
 use Rattle.text_c.specs.Reads.{nodes_or_refusal}
 use Rattle.text_c.proofs.text_read.Goals as goal
 

@@ -1,5 +1,5 @@
 -- By the code of the field.
-use Rattle.assured.specs.laws.Row.{curve-code}
+use Rattle.assured.proofs.laws.Row.{curve-code}
 use Rattle.assured.proofs.leaf.is_curve.Statement.{statement}
 use Rattle.assured.proofs.leaf.is_curve.Tie as tie
 

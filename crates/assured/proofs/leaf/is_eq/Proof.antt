@@ -1,5 +1,5 @@
 -- By the code of the relation.
-use Rattle.assured.specs.laws.Row.{eq_code}
+use Rattle.assured.proofs.laws.Row.{eq_code}
 use Rattle.assured.proofs.leaf.is_eq.Statement.{statement}
 use Rattle.assured.proofs.leaf.is_eq.Tie as tie
 

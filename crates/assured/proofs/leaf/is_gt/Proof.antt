@@ -1,5 +1,5 @@
 -- By the code of the relation.
-use Rattle.assured.specs.laws.Row.{gt_code}
+use Rattle.assured.proofs.laws.Row.{gt_code}
 use Rattle.assured.proofs.leaf.is_gt.Statement.{statement}
 use Rattle.assured.proofs.leaf.is_gt.Tie as tie
 

@@ -1,7 +1,7 @@
 -- By the code of the relation.
 use mathlib.Core.Path.{◌∙◌}
 use borrow.Author.Rules.{rules}
-use Rattle.assured.specs.laws.Row.{side-code}
+use Rattle.assured.proofs.laws.Row.{side-code}
 use Rattle.assured.proofs.leaf.is_side.Statement.{statement}
 use Rattle.assured.proofs.leaf.is_side.Tie as tie
 

@@ -3,7 +3,7 @@ use mathlib.Core.Path.{sym, ap, ◌∙◌}
 use borrow.Author.Rules.{rules}
 use Rattle.marks.specs.Marks.{marks_of}
 use Rattle.assured.specs.inner.Traits.{atom_traits, listed_traits}
-use Rattle.assured.specs.laws.Row.{atom_row, timed_row, listed-row}
+use Rattle.assured.proofs.laws.Row.{atom_row, timed_row, listed-row}
 use Rattle.assured.proofs.leaf.leaf.Statement.{statement}
 use Rattle.assured.proofs.leaf.leaf.Tie as tie
 

@@ -1,7 +1,7 @@
 -- By the code of the relation.
 use mathlib.Core.Path.{◌∙◌}
 use borrow.Author.Rules.{rules}
-use Rattle.assured.specs.laws.Row.{later-code}
+use Rattle.assured.proofs.laws.Row.{later-code}
 use Rattle.assured.proofs.leaf.stays_later.Statement.{statement}
 use Rattle.assured.proofs.leaf.stays_later.Tie as tie
 

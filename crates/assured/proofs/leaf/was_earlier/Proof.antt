@@ -1,7 +1,7 @@
 -- By the code of the relation.
 use mathlib.Core.Path.{◌∙◌}
 use borrow.Author.Rules.{rules}
-use Rattle.assured.specs.laws.Row.{earlier_code}
+use Rattle.assured.proofs.laws.Row.{earlier_code}
 use Rattle.assured.proofs.leaf.was_earlier.Statement.{statement}
 use Rattle.assured.proofs.leaf.was_earlier.Tie as tie
 

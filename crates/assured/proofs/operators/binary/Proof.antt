@@ -2,7 +2,7 @@
 use mathlib.Core.Path.{◌∙◌}
 use borrow.Author.Rules.{rules}
 use Rattle.grammar.specs.inner.Kinds.{OR, AND}
-use Rattle.assured.specs.laws.Row.{chosen, passed}
+use Rattle.assured.proofs.laws.Row.{chosen, passed}
 use Rattle.assured.proofs.operators.binary.Statement.{statement}
 use Rattle.assured.proofs.operators.binary.Tie as tie
 

@@ -2,7 +2,7 @@
 use mathlib.Core.Path.{◌∙◌}
 use borrow.Author.Rules.{rules}
 use Rattle.grammar.specs.inner.Kinds.{NOT, NEXT, FINALLY}
-use Rattle.assured.specs.laws.Row.{chosen, passed}
+use Rattle.assured.proofs.laws.Row.{chosen, passed}
 use Rattle.assured.proofs.operators.unary.Statement.{statement}
 use Rattle.assured.proofs.operators.unary.Tie as tie
 

@@ -4,7 +4,7 @@ use mathlib.Core.Path.{ap₂, ◌∙◌}
 use native.Mathlib.Omega.{arith}
 use Rattle.recording.specs.Reading.{curve_of}
 use Rattle.band.specs.inner.Ends.{upto, two_sets}
-use Rattle.band.specs.laws.Today.{ampl_alone, ampl_today}
+use Rattle.band.proofs.laws.Today.{ampl_alone, ampl_today}
 use borrow.Author.Rules.{rules}
 use Rattle.band.proofs.ends.ampl.Statement.{statement}
 use Rattle.band.proofs.ends.ampl.Tie as tie

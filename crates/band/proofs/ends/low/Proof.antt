@@ -2,7 +2,7 @@
 use mathlib.Core.Path.{◌∙◌}
 use native.Mathlib.Omega.{arith}
 use Rattle.recording.specs.Reading.{curve_of}
-use Rattle.band.specs.laws.Today.{low_today}
+use Rattle.band.proofs.laws.Today.{low_today}
 use borrow.Author.Rules.{rules}
 use Rattle.band.proofs.ends.low.Statement.{statement}
 use Rattle.band.proofs.ends.low.Tie as tie

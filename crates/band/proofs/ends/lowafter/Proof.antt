@@ -2,7 +2,7 @@
 use mathlib.Core.Path.{◌∙◌}
 use native.Mathlib.Omega.{arith}
 use Rattle.recording.specs.Reading.{curve_of}
-use Rattle.band.specs.laws.Today.{lowafter_none, lowafter_today}
+use Rattle.band.proofs.laws.Today.{lowafter_none, lowafter_today}
 use borrow.Author.Rules.{rules}
 use Rattle.band.proofs.ends.lowafter.Statement.{statement}
 use Rattle.band.proofs.ends.lowafter.Tie as tie

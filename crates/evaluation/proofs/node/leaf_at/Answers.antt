@@ -7,14 +7,14 @@ use native.Mathlib.Omega.{arith}
 use lib.ListN.{length, take, drop, length-drop}
 use lib.Seq.{length-take-le}
 use Rattle.runs.specs.Set.{slot_words}
-use Rattle.runs.specs.laws.Set.{holds_makes}
+use Rattle.runs.proofs.laws.Set.{holds_makes}
 use Rattle.grammar.specs.declared.Row.{Row}
 use Rattle.grammar.specs.Size.{most_nodes}
 use Rattle.meaning.specs.inner.Truth.{val}
 use Rattle.meaning.specs.inner.Coded.{coded}
 use Rattle.leaves.specs.inner.Leaf.{leaf_of}
 use Rattle.evaluation.specs.inner.Slots.{Sized}
-use Rattle.evaluation.specs.laws.Slots.{across, across_is, made_in}
+use Rattle.evaluation.proofs.laws.Slots.{across, across_is, made_in}
 use borrow.Author.Rules.{rules}
 use Rattle.evaluation.proofs.node.leaf_at.Goals as goal
 

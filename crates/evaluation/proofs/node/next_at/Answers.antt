@@ -8,7 +8,7 @@ use lib.ListN.{length, take, drop}
 use lib.Seq.{length-take-le, take_at}
 use Rattle.runs.specs.Set.{member, Valid, slot_words}
 use Rattle.evaluation.specs.inner.Slots.{slot}
-use Rattle.evaluation.specs.laws.Slots.{puts_ext}
+use Rattle.evaluation.proofs.laws.Slots.{puts_ext}
 use borrow.Author.Rules.{rules}
 use Rattle.evaluation.proofs.node.next_at.Goals as goal
 

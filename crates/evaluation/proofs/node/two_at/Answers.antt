@@ -5,7 +5,7 @@ use lib.ListN.{length-drop}
 use lib.Seq.{length-take-le}
 use Rattle.runs.specs.Set.{member, Valid}
 use Rattle.evaluation.specs.inner.Step.{binary_of}
-use Rattle.evaluation.specs.laws.Slots.{across, across_is, made_in, puts_lists}
+use Rattle.evaluation.proofs.laws.Slots.{across, across_is, made_in, puts_lists}
 use borrow.Author.Rules.{rules}
 use Rattle.evaluation.proofs.node.two_at.Goals as goal
 

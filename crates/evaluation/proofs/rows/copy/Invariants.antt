@@ -6,7 +6,7 @@ use mathlib.Core.List.{List}
 use native.Mathlib.Omega.{arith}
 use lib.ListN.{length, get_or, set, length-set}
 use lib.Seq.{get_or-set_same, get_or-set_other}
-use Rattle.number.specs.laws.Order.{less_or_not}
+use Rattle.number.proofs.laws.Order.{less_or_not}
 use Rattle.grammar.specs.inner.Table.{row}
 use Rattle.parser.specs.inner.Rows.{Same}
 use borrow.Author.Rules.{rules}

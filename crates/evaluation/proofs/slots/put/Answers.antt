@@ -3,8 +3,8 @@ use mathlib.Core.Path.{◌∙◌}
 use native.Mathlib.Omega.{arith}
 use lib.ListN.{length-drop}
 use lib.Seq.{length-take-le}
-use Rattle.runs.specs.laws.Set.{holds_makes}
-use Rattle.evaluation.specs.laws.Slots.{across, across_is, made_in}
+use Rattle.runs.proofs.laws.Set.{holds_makes}
+use Rattle.evaluation.proofs.laws.Slots.{across, across_is, made_in}
 use borrow.Author.Rules.{rules}
 use Rattle.evaluation.proofs.slots.put.Goals as goal
 

@@ -6,9 +6,9 @@ use native.Mathlib.Omega.{arith}
 use Rattle.grammar.specs.inner.Kinds.{FINALLY, GLOBALLY}
 use Rattle.grammar.specs.inner.Table.{unary_from}
 use Rattle.runs.specs.Set.{member}
-use Rattle.runs.specs.laws.Set.{holds_makes, makes_ext}
+use Rattle.runs.proofs.laws.Set.{holds_makes, makes_ext}
 use Rattle.evaluation.specs.inner.Step.{unary_of}
-use Rattle.evaluation.specs.laws.Step.{child_at-last, last_of_four}
+use Rattle.evaluation.proofs.laws.Step.{child_at-last, last_of_four}
 use borrow.Author.Rules.{rules}
 use Rattle.evaluation.proofs.step.one.Goals as goal
 

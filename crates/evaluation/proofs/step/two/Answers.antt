@@ -6,9 +6,9 @@ use native.Mathlib.Omega.{arith}
 use Rattle.grammar.specs.inner.Kinds.{AND, UNTIL, WEAK-UNTIL}
 use Rattle.grammar.specs.inner.Table.{binary_from}
 use Rattle.runs.specs.Set.{member}
-use Rattle.runs.specs.laws.Set.{holds_makes, makes_ext}
+use Rattle.runs.proofs.laws.Set.{holds_makes, makes_ext}
 use Rattle.evaluation.specs.inner.Step.{binary_of}
-use Rattle.evaluation.specs.laws.Step.{last_of_four, until_or_weak}
+use Rattle.evaluation.proofs.laws.Step.{last_of_four, until_or_weak}
 use borrow.Author.Rules.{rules}
 use Rattle.evaluation.proofs.step.two.Goals as goal
 

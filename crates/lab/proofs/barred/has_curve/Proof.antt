@@ -3,7 +3,7 @@ use mathlib.Core.Path.{sym, ◌∙◌}
 use borrow.Author.Rules.{rules}
 use Rattle.grammar.specs.Classes.{within}
 use Rattle.grammar.specs.inner.Kinds.{FALL, RISE, HIGH, DIPS}
-use Rattle.lab.specs.laws.Barred.{here, past}
+use Rattle.lab.proofs.laws.Barred.{here, past}
 use Rattle.lab.proofs.barred.has_curve.Statement.{statement}
 use Rattle.lab.proofs.barred.has_curve.Tie as tie
 

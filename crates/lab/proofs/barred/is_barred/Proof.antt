@@ -5,7 +5,7 @@ use borrow.Author.Rules.{rules}
 use Rattle.grammar.specs.Classes.{within}
 use Rattle.grammar.specs.inner.Kinds.{LOWAFTER, CAPAFTER}
 use Rattle.lab.specs.inner.Barred.{row_names_b, row_barred}
-use Rattle.lab.specs.laws.Barred.{here, past, chosen, other}
+use Rattle.lab.proofs.laws.Barred.{here, past, chosen, other}
 use Rattle.lab.proofs.barred.is_barred.Statement.{statement}
 use Rattle.lab.proofs.barred.is_barred.Tie as tie
 

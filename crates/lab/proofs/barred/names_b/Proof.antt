@@ -6,7 +6,7 @@ use borrow.Author.Rules.{rules}
 use borrow.Author.Tests.{le-leb, lt-leb}
 use Rattle.grammar.specs.inner.Kinds.{COMPARE}
 use Rattle.lab.specs.inner.Barred.{names_both, row_names_b}
-use Rattle.lab.specs.laws.Barred.{here, past, chosen, other}
+use Rattle.lab.proofs.laws.Barred.{here, past, chosen, other}
 use Rattle.lab.proofs.barred.names_b.Statement.{statement}
 use Rattle.lab.proofs.barred.names_b.Tie as tie
 

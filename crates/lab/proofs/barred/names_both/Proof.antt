@@ -5,7 +5,7 @@ use borrow.Author.Rules.{rules}
 use borrow.Author.Tests.{eq-eqb, ne_eqb}
 use Rattle.grammar.specs.Classes.{within}
 use Rattle.grammar.specs.inner.Kinds.{A-TO-B, CROSS, CROSSUP}
-use Rattle.lab.specs.laws.Barred.{here, past}
+use Rattle.lab.proofs.laws.Barred.{here, past}
 use Rattle.lab.proofs.barred.names_both.Statement.{statement}
 use Rattle.lab.proofs.barred.names_both.Tie as tie
 

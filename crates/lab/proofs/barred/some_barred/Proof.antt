@@ -5,9 +5,9 @@ use Prim.Native.Nat.{ℕ, ◌-◌, ◌≤◌}
 use borrow.Author.Rules.{rules}
 use Rattle.grammar.specs.inner.Table.{some_row}
 use Rattle.marks.specs.Marks.{marks_of}
-use Rattle.text.specs.laws.Table.{some_here, some_next, some_end}
+use Rattle.text.proofs.laws.Table.{some_here, some_next, some_end}
 use Rattle.lab.specs.inner.Barred.{row_barred}
-use Rattle.lab.specs.laws.Barred.{barred_scan}
+use Rattle.lab.proofs.laws.Barred.{barred_scan}
 use Rattle.lab.proofs.barred.some_barred.Statement.{statement}
 use Rattle.lab.proofs.barred.some_barred.Tie as tie
 

@@ -2,8 +2,8 @@
 use Rattle.std.proofs.Common.{sym, ap, ◌∙◌}
 use Rattle.recording.specs.Recording.{raw_at, reading}
 use Rattle.meaning.specs.inner.Coded.{coded_adds}
-use Rattle.meaning.specs.laws.Listed.{adds-code}
-use Rattle.leaves.specs.laws.Coding.{coded-at, record_inside}
+use Rattle.meaning.proofs.laws.Listed.{adds-code}
+use Rattle.leaves.proofs.laws.Coding.{coded-at, record_inside}
 use Rattle.leaves.proofs.atoms.adding.Goals as goal
 
 pub is_added-requires : goal.is_added-requires

@@ -2,7 +2,7 @@
 use Rattle.std.proofs.Common.{ℕ, ap}
 use Rattle.grammar.specs.inner.Table.{relation_of}
 use Rattle.meaning.specs.inner.Truth.{relate}
-use Rattle.leaves.specs.laws.Span.{spans_ext}
+use Rattle.leaves.proofs.laws.Span.{spans_ext}
 use Rattle.leaves.proofs.atoms.against_v.Goals as goal
 
 pub field_at-requires : goal.field_at-requires

@@ -3,10 +3,10 @@ use Rattle.std.proofs.Common.{ℕ, ◌+◌, ltb, leb, sym, ap, arith, rules}
 use Rattle.grammar.specs.Syntax.{Relation}
 use Rattle.grammar.specs.inner.Table.{relation_of}
 use Rattle.meaning.specs.inner.Truth.{relate}
-use Rattle.leaves.specs.laws.Code.{relation_else}
+use Rattle.leaves.proofs.laws.Code.{relation_else}
 use Rattle.leaves.specs.declared.span.Span.{Span}
 use Rattle.leaves.specs.inner.Span.{Spans}
-use Rattle.leaves.specs.laws.Span.{spans_ext, spans_point, above_from}
+use Rattle.leaves.proofs.laws.Span.{spans_ext, spans_point, above_from}
 use Rattle.leaves.proofs.atoms.related.Goals as goal
 
 -- behind x

@@ -3,7 +3,7 @@ use Rattle.std.proofs.Common.{sym, ap, arith}
 use Rattle.grammar.specs.Syntax.{Relation}
 use Rattle.grammar.specs.inner.Table.{relation_of}
 use Rattle.meaning.specs.inner.Truth.{relate}
-use Rattle.leaves.specs.laws.Code.{relation_else}
+use Rattle.leaves.proofs.laws.Code.{relation_else}
 use Rattle.leaves.proofs.atoms.relates.Goals as goal
 
 pub returns-then-relation-eq0 : goal.returns-then-relation-eq0

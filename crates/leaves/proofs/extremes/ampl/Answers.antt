@@ -4,15 +4,15 @@ use lib.ListN.{length-map}
 use Rattle.recording.specs.Recording.{readings}
 use Rattle.meaning.specs.inner.Coded.{code}
 use Rattle.meaning.specs.inner.Coded.{coded}
-use Rattle.leaves.specs.laws.Span.{spans_ext}
+use Rattle.leaves.proofs.laws.Span.{spans_ext}
 use Rattle.number.specs.Axis.{origin}
 use Rattle.grammar.specs.Syntax as asks
 use Rattle.recording.specs.Recording.{Accepted}
 use Rattle.meaning.specs.inner.Truth.{truth}
 use Rattle.meaning.specs.inner.Coded.{Coded, blank, coded_value}
 use Rattle.leaves.specs.inner.Extreme.{Extreme}
-use Rattle.leaves.specs.laws.Coding.{at_index, ValueIndex, value_range}
-use Rattle.leaves.specs.laws.Extreme.{spread_order, spread_small, ampl_upto}
+use Rattle.leaves.proofs.laws.Coding.{at_index, ValueIndex, value_range}
+use Rattle.leaves.proofs.laws.Extreme.{spread_order, spread_small, ampl_upto}
 use Rattle.recording.specs.Reading.{curve_of}
 use Rattle.leaves.proofs.extremes.ampl.Goals as goal
 

@@ -1,7 +1,7 @@
 -- From the greatest on; all where there is no record.
 use Rattle.meaning.specs.inner.Coded.{coded}
-use Rattle.leaves.specs.laws.Span.{spans_ext}
-use Rattle.leaves.specs.laws.Extreme.{capafter_from}
+use Rattle.leaves.proofs.laws.Span.{spans_ext}
+use Rattle.leaves.proofs.laws.Extreme.{capafter_from}
 use Rattle.std.proofs.Common.{rules}
 use Rattle.recording.specs.Reading.{curve_of}
 use Rattle.leaves.proofs.extremes.capafter.Goals as goal

@@ -1,9 +1,9 @@
 -- After i records m goes as far as the first i go.
 use Rattle.std.proofs.Common.{◌-◌, ◌<◌, ◌≤◌, length, take, sym, subst, arith, rules}
 use Rattle.meaning.specs.inner.Coded.{coded}
-use Rattle.leaves.specs.laws.Coding.{length-coded}
+use Rattle.leaves.proofs.laws.Coding.{length-coded}
 use Rattle.leaves.specs.inner.Extreme.{Extreme}
-use Rattle.leaves.specs.laws.Extreme.{extreme_start, extreme_turn, extreme_end}
+use Rattle.leaves.proofs.laws.Extreme.{extreme_start, extreme_turn, extreme_end}
 use Rattle.recording.specs.Reading.{curve_of}
 use Rattle.leaves.proofs.extremes.extreme.Given as goal
 

@@ -3,8 +3,8 @@ use Rattle.std.proofs.Common.{arith, rules}
 use lib.ListN.{length-map}
 use Rattle.recording.specs.Recording.{readings}
 use Rattle.meaning.specs.inner.Coded.{code}
-use Rattle.leaves.specs.laws.Span.{spans_ext}
-use Rattle.leaves.specs.laws.Extreme.{low-from}
+use Rattle.leaves.proofs.laws.Span.{spans_ext}
+use Rattle.leaves.proofs.laws.Extreme.{low-from}
 use Rattle.recording.specs.Reading.{curve_of}
 use Rattle.leaves.proofs.extremes.low.Goals as goal
 

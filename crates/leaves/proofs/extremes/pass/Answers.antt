@@ -4,7 +4,7 @@ use Rattle.number.specs.Axis.{axis}
 use Rattle.meaning.specs.inner.Truth.{coded_at}
 use Rattle.meaning.specs.inner.Coded.{coded}
 use Rattle.leaves.specs.inner.Extreme.{farther}
-use Rattle.leaves.specs.laws.Extreme.{pass_over, pass_by}
+use Rattle.leaves.proofs.laws.Extreme.{pass_over, pass_by}
 use Rattle.recording.specs.Reading.{curve_of}
 use Rattle.leaves.proofs.extremes.pass.Goals as goal
 

@@ -4,7 +4,7 @@ use Rattle.grammar.specs.Syntax.{Field}
 use Rattle.grammar.specs.inner.Table.{field_of}
 use Rattle.meaning.specs.inner.Truth.{coded_at, coded_field}
 use Rattle.meaning.specs.inner.Coded.{coded}
-use Rattle.leaves.specs.laws.Code.{field_else}
+use Rattle.leaves.proofs.laws.Code.{field_else}
 use Rattle.leaves.proofs.fields.field_at.Goals as goal
 
 pub value_at-requires : goal.value_at-requires

@@ -1,6 +1,6 @@
 -- The byte read is the slope.
 use Rattle.std.proofs.Common.{◌∙◌, arith, rules}
-use Rattle.leaves.specs.laws.Coding.{record_inside, slope-field}
+use Rattle.leaves.proofs.laws.Coding.{record_inside, slope-field}
 use Rattle.leaves.proofs.fields.slope_at.Goals as goal
 
 pub byte_in-requires : goal.byte_in-requires

@@ -1,7 +1,7 @@
 -- The time of an accepted record, and the origin.
 use Rattle.std.proofs.Common.{ℕ, ◌+◌, ap, ◌∙◌, arith}
 use Rattle.number.specs.Axis.{origin}
-use Rattle.leaves.specs.laws.Coding.{record_inside, time-field, time_most}
+use Rattle.leaves.proofs.laws.Coding.{record_inside, time-field, time_most}
 use Rattle.leaves.proofs.fields.time_at.Goals as goal
 
 pub word_in-requires : goal.word_in-requires

@@ -1,7 +1,7 @@
 -- The bits of an accepted value and the origin, wrapped, are its index.
 use Rattle.std.proofs.Common.{ℕ, ◌+◌, ◌%◌, ap, ◌∙◌, arith, rules}
 use Rattle.number.specs.Axis.{origin}
-use Rattle.leaves.specs.laws.Coding.{record_inside, value-field, value_range}
+use Rattle.leaves.proofs.laws.Coding.{record_inside, value-field, value_range}
 use Rattle.leaves.proofs.fields.value_at.Goals as goal
 
 pub word_in-requires : goal.word_in-requires

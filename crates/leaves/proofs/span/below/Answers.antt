@@ -1,6 +1,6 @@
 -- Below 0 there is nothing.
 use Rattle.std.proofs.Common.{ltb, sym, ap, arith, rules}
-use Rattle.leaves.specs.laws.Span.{spans_ext, spans_low, spans_below}
+use Rattle.leaves.proofs.laws.Span.{spans_ext, spans_low, spans_below}
 use Rattle.leaves.proofs.span.below.Goals as goal
 
 pub returns-then-x-eq0 : goal.returns-then-x-eq0

@@ -1,5 +1,5 @@
 -- The span is the ray itself.
-use Rattle.leaves.specs.laws.Span.{spans_from}
+use Rattle.leaves.proofs.laws.Span.{spans_from}
 use Rattle.leaves.proofs.span.from.Goals as goal
 
 pub returns : goal.returns

@@ -4,7 +4,7 @@ use Rattle.recording.specs.Recording.{readings}
 use Rattle.tops.specs.Tops as raw
 use Rattle.meaning.specs.inner.Coded.{coded_additions}
 use Rattle.meaning.specs.inner.Coded.{coded}
-use Rattle.leaves.specs.laws.Indices.{scan_long, scan_there, scan_early, scan_indexed, addition_indices, addition-times}
+use Rattle.leaves.proofs.laws.Indices.{scan_long, scan_there, scan_early, scan_indexed, addition_indices, addition-times}
 use Rattle.leaves.proofs.times.addition_indices.Goals as goal
 
 pub addition_times-n-requires : goal.addition_times-n-requires

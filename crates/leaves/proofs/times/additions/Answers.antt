@@ -1,8 +1,8 @@
 -- The times of the additions themselves.
 use Rattle.std.proofs.Common.{sym, subst, length-take-le, rules}
-use Rattle.runs.specs.laws.Set.{makes_of}
+use Rattle.runs.proofs.laws.Set.{makes_of}
 use Rattle.differences.specs.inner.Times.{Times, time_set}
-use Rattle.leaves.specs.laws.Indices.{addition-times, additions_room}
+use Rattle.leaves.proofs.laws.Indices.{addition-times, additions_room}
 use Rattle.meaning.specs.inner.Truth.{truth}
 use Rattle.leaves.proofs.times.additions.Goals as goal
 

@@ -5,7 +5,7 @@ use Rattle.tops.specs.Tops as raw
 use Rattle.tops.specs.inner.Events.{event_of}
 use Rattle.meaning.specs.inner.Coded.{coded_times}
 use Rattle.meaning.specs.inner.Coded.{coded}
-use Rattle.leaves.specs.laws.Indices.{scan_long, scan_there, scan_early, scan_indexed, event_indices, event-times}
+use Rattle.leaves.proofs.laws.Indices.{scan_long, scan_there, scan_early, scan_indexed, event_indices, event-times}
 use Rattle.leaves.proofs.times.event_indices.Goals as goal
 
 pub event_times-n-requires : goal.event_times-n-requires

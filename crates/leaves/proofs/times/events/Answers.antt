@@ -2,10 +2,10 @@
 use Rattle.std.proofs.Common.{ℕ, Bool, sym, subst, length-take-le, rules}
 use mathlib.Core.Path.{fun_ext}
 use Rattle.meaning.specs.inner.Coded.{coded}
-use Rattle.runs.specs.laws.Set.{makes_of}
+use Rattle.runs.proofs.laws.Set.{makes_of}
 use Rattle.differences.specs.inner.Times.{Times, time_set}
-use Rattle.leaves.specs.laws.Indices.{event-times, events_few}
-use Rattle.leaves.specs.laws.Leaf.{times_are}
+use Rattle.leaves.proofs.laws.Indices.{event-times, events_few}
+use Rattle.leaves.proofs.laws.Leaf.{times_are}
 use Rattle.tops.specs.inner.Events.{event_of}
 use Rattle.leaves.proofs.times.events.Goals as goal
 

@@ -1,14 +1,14 @@
 -- The differences of each top of B with each top of A.
 use Rattle.std.proofs.Common.{ℕ, ◌||◌, List, sym, subst, length-take-le, rules}
-use Rattle.number.specs.laws.Boolean.{or_left, or_right, or_none}
+use Rattle.number.proofs.laws.Boolean.{or_left, or_right, or_none}
 use Rattle.recording.specs.Reading.{A, B, a_top}
 use Rattle.grammar.specs.Syntax as asks
 use Rattle.meaning.specs.inner.Coded.{coded, coded_times}
 use Rattle.meaning.specs.inner.Truth.{truth, many_tops}
-use Rattle.runs.specs.laws.Set.{makes_of}
+use Rattle.runs.proofs.laws.Set.{makes_of}
 use Rattle.differences.specs.inner.Times.{Times, lags_of}
-use Rattle.leaves.specs.laws.Indices.{event-times}
-use Rattle.leaves.specs.laws.Differing.{differs-made, too_many, few_enough}
+use Rattle.leaves.proofs.laws.Indices.{event-times}
+use Rattle.leaves.proofs.laws.Differing.{differs-made, too_many, few_enough}
 use Rattle.leaves.proofs.times.lag.Goals as goal
 
 pub returns-then-m-gt-MOST_TOPS : goal.returns-then-m-gt-MOST_TOPS

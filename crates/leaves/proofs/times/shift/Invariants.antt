@@ -1,6 +1,6 @@
 -- The first k are shifted, the others are as before.
 use Rattle.std.proofs.Common.{◌-◌, ◌≤◌, arith, rules}
-use Rattle.leaves.specs.laws.Indices.{Shifting, shifting_start, shifting_turn}
+use Rattle.leaves.proofs.laws.Indices.{Shifting, shifting_start, shifting_turn}
 use Rattle.leaves.proofs.times.shift.Given as goal
 
 abbrev pub invariant-loop-k : goal.invariant-loop-k

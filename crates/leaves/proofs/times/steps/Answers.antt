@@ -4,10 +4,10 @@ use Rattle.recording.specs.Reading.{a_top, curve_of}
 use Rattle.grammar.specs.Syntax as asks
 use Rattle.meaning.specs.inner.Coded.{coded, coded_times}
 use Rattle.meaning.specs.inner.Truth.{truth, many_tops}
-use Rattle.runs.specs.laws.Set.{makes_of}
+use Rattle.runs.proofs.laws.Set.{makes_of}
 use Rattle.differences.specs.inner.Times.{Times, steps_of}
-use Rattle.leaves.specs.laws.Indices.{event-times}
-use Rattle.leaves.specs.laws.Differing.{differs-made, too_many, few_enough}
+use Rattle.leaves.proofs.laws.Indices.{event-times}
+use Rattle.leaves.proofs.laws.Differing.{differs-made, too_many, few_enough}
 use Rattle.leaves.proofs.times.steps.Goals as goal
 
 pub returns-then-n-gt-MOST_TOPS : goal.returns-then-n-gt-MOST_TOPS

@@ -7,7 +7,7 @@ use Rattle.tops.specs.Tops.{most_tops}
 use Rattle.tops.specs.inner.Scan.{Scanned}
 use Rattle.meaning.specs.inner.Coded.{coded, coded_times}
 use Rattle.leaves.specs.inner.Indices.{Early, Shifted, Indexed}
-use Rattle.leaves.specs.laws.Indices.{scan_count, scan_there, scan_early, scan_indexed, event_indices, event-times}
+use Rattle.leaves.proofs.laws.Indices.{scan_count, scan_there, scan_early, scan_indexed, event_indices, event-times}
 use Rattle.leaves.proofs.times.top_indices.Goals as goal
 
 module _ (rec : List ℕ) (a : Accepted rec) (curve : ℕ) (old new : List ℕ) (long : length old ≡ most_tops) (count : ℕ)

@@ -2,7 +2,7 @@
 use mathlib.Core.Path.{sym, ◌∙◌}
 use native.Mathlib.Omega.{arith}
 use borrow.Author.Rules.{rules}
-use Rattle.grammar.specs.laws.Word.{inside}
+use Rattle.grammar.proofs.laws.Word.{inside}
 use Rattle.lexer.proofs.NumberLaws.{unsigned_low, minus_some, minus_zero, minus_none, plain_some, plain_none}
 use Rattle.lexer.proofs.numbers.number.Goals as goal
 

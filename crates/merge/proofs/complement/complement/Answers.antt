@@ -2,7 +2,7 @@
 use native.Mathlib.Omega.{arith}
 use mathlib.Core.Path.{sym, ◌∙◌}
 use lib.ListN.{length-set}
-use Rattle.merge.specs.laws.Complement.{mid-length, complement_over, put-length, put_holds}
+use Rattle.merge.proofs.laws.Complement.{mid-length, complement_over, put-length, put_holds}
 use borrow.Author.Rules.{rules}
 use Rattle.merge.proofs.complement.complement.Goals as goal
 

@@ -1,5 +1,5 @@
 -- The first cut and the last.
-use Rattle.merge.specs.laws.Complement.{ended_none, ended_some}
+use Rattle.merge.proofs.laws.Complement.{ended_none, ended_some}
 use borrow.Author.Rules.{rules}
 use Rattle.merge.proofs.complement.ends_of.Goals as goal
 

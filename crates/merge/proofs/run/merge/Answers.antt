@@ -1,5 +1,5 @@
 -- One run at once, or the walk along both lists.
-use Rattle.merge.specs.laws.OneRun.{merged_is}
+use Rattle.merge.proofs.laws.OneRun.{merged_is}
 use borrow.Author.Rules.{rules}
 use Rattle.merge.proofs.run.merge.Goals as goal
 

@@ -1,5 +1,5 @@
 -- Lists of two cuts are one run each.
-use Rattle.merge.specs.laws.OneRun.{not_known, of_cuts, two_ascend}
+use Rattle.merge.proofs.laws.OneRun.{not_known, of_cuts, two_ascend}
 use borrow.Author.Rules.{rules}
 use Rattle.merge.proofs.run.of_two.Goals as goal
 

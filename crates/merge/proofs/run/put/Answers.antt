@@ -1,5 +1,5 @@
 -- Two cuts, or none.
-use Rattle.merge.specs.laws.OneRun.{none_put, run-put}
+use Rattle.merge.proofs.laws.OneRun.{none_put, run-put}
 use borrow.Author.Rules.{rules}
 use Rattle.merge.proofs.run.put.Goals as goal
 

@@ -1,6 +1,6 @@
 -- From the greater of the lows to the lesser of the ends.
 use Prim.Native.Nat.{min, max}
-use Rattle.merge.specs.laws.OneRun.{known, shared-run}
+use Rattle.merge.proofs.laws.OneRun.{known, shared-run}
 use borrow.Author.Rules.{rules}
 use Rattle.merge.proofs.run.shared.Goals as goal
 

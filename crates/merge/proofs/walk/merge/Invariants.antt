@@ -3,7 +3,7 @@ use Prim.Native.Nat.{◌+◌, ◌-◌}
 use native.Mathlib.Omega.{arith}
 use lib.ListN.{length, length-set}
 use borrow.Author.Rules.{rules}
-use Rattle.runs.specs.laws.Place.{two_left}
+use Rattle.runs.proofs.laws.Place.{two_left}
 use Rattle.merge.proofs.Progress.{Walking, walking_start, walked_left, walked_right, pass_left, pass_right, write_left, write_right, no_room}
 use Rattle.merge.proofs.walk.merge.Given as goal
 

@@ -1,9 +1,9 @@
 -- The call tells its outcome, and the page is that of the outcome.
 use Prim.Native.Nat.{ℕ}
 use Rattle.page.specs.Page.{page}
-use Rattle.page.specs.laws.Page.{set-fits}
+use Rattle.page.proofs.laws.Page.{set-fits}
 use Rattle.page.specs.Printed.{set_room, printed}
-use Rattle.page.specs.laws.Printed.{told_refusal, told-set, told-within, puts_prints, prints_within}
+use Rattle.page.proofs.laws.Printed.{told_refusal, told-set, told-within, puts_prints, prints_within}
 use Rattle.question.specs.Question.{question_of}
 use borrow.Author.Rules.{rules}
 use lib.ListN.{take}

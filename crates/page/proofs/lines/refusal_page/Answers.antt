@@ -1,9 +1,9 @@
 -- The parts in turn.
 use Prim.Native.Nat.{ℕ}
-use Rattle.page.specs.laws.Decimal.{decimal-fits}
+use Rattle.page.proofs.laws.Decimal.{decimal-fits}
 use Rattle.page.specs.Page.{page}
-use Rattle.page.specs.laws.Page.{refusal_length}
-use Rattle.page.specs.laws.Puts.{puts_five, puts_same}
+use Rattle.page.proofs.laws.Page.{refusal_length}
+use Rattle.page.proofs.laws.Puts.{puts_five, puts_same}
 use Rattle.refusal.specs.Outcome.{refused}
 use borrow.Author.Rules.{rules}
 use mathlib.Core.Path.{ap₂}

@@ -2,9 +2,9 @@
 use Prim.Native.Nat.{ℕ, ◌-◌, ◌≤◌}
 use Rattle.number.specs.Words.{signed}
 use Rattle.page.specs.Page.{run_line, run_lines}
-use Rattle.page.specs.laws.Page.{runs_none, runs_next, run-within}
+use Rattle.page.proofs.laws.Page.{runs_none, runs_next, run-within}
 use Rattle.page.specs.inner.Puts.{Puts}
-use Rattle.page.specs.laws.Puts.{puts_same}
+use Rattle.page.proofs.laws.Puts.{puts_same}
 use borrow.Author.Rules.{rules}
 use lib.ListN.{length}
 use mathlib.Core.Path.{◌≡◌, ◌∙◌, ap, ap₂}
@@ -21,13 +21,12 @@ run-end-requires c =
     omega (arith, c.requires.1, c.loop-i.invariant.1, c.loop-i.invariant.2.behind, line, run-within c.args.n c.loop-i.i c.args.set.now c.loop-i-test.true)
 
 pub loop-i-preserved : goal.loop-i-preserved
-loop-i-preserved c =
-    (
-      search rules,
-      c.run-end.auto.out ∙ c.loop-i.invariant.1,
-      runs_next c.args.set.now c.args.out.now c.loop-i.out _ c.args.at c.loop-i.end _ c.loop-i.i _ _ c.word_at-low.ensures c.word_at-high.ensures
-          (omega (arith, c.requires.1, run-within c.args.n c.loop-i.i c.args.set.now c.loop-i-test.true)) c.loop-i.invariant.2 c.run-end.ensures,
-    )
+loop-i-preserved c = (
+  search rules,
+  c.run-end.auto.out ∙ c.loop-i.invariant.1,
+  runs_next c.args.set.now c.args.out.now c.loop-i.out _ c.args.at c.loop-i.end _ c.loop-i.i _ _ c.word_at-low.ensures c.word_at-high.ensures
+      (omega (arith, c.requires.1, run-within c.args.n c.loop-i.i c.args.set.now c.loop-i-test.true)) c.loop-i.invariant.2 c.run-end.ensures,
+)
 
 pub returns : goal.returns
 returns c =

@@ -2,9 +2,9 @@
 use Prim.Native.Nat.{ℕ, ◌-◌, ◌≤◌}
 use Rattle.number.specs.Words.{signed}
 use Rattle.page.specs.Page.{run_line, run_lines}
-use Rattle.page.specs.laws.Page.{runs_none, runs_next, run-within}
+use Rattle.page.proofs.laws.Page.{runs_none, runs_next, run-within}
 use Rattle.page.specs.inner.Puts.{Puts}
-use Rattle.page.specs.laws.Puts.{puts_same}
+use Rattle.page.proofs.laws.Puts.{puts_same}
 use borrow.Author.Rules.{rules}
 use lib.ListN.{length}
 use mathlib.Core.Path.{◌≡◌, ◌∙◌, ap, ap₂}

@@ -1,7 +1,7 @@
 -- The parts in turn.
 use Rattle.page.specs.Page.{page}
-use Rattle.page.specs.laws.Page.{set-length}
-use Rattle.page.specs.laws.Puts.{puts_four}
+use Rattle.page.proofs.laws.Page.{set-length}
+use Rattle.page.proofs.laws.Puts.{puts_four}
 use borrow.Author.Rules.{rules}
 use native.Mathlib.Omega.{arith}
 use Rattle.page.proofs.lines.set_page.Goals as goal

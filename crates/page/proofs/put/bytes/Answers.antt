@@ -1,6 +1,6 @@
 -- The invariant: the first i bytes are put.
 use Prim.Native.Nat.{ℕ, ◌+◌, ◌-◌, ◌≤◌}
-use Rattle.page.specs.laws.Puts.{puts_all}
+use Rattle.page.proofs.laws.Puts.{puts_all}
 use borrow.Author.Rules.{rules}
 use lib.ListN.{length, set, get_or}
 use lib.Seq.{paste, paste-zero, paste-suc}
@@ -14,14 +14,13 @@ pub loop-i-init : goal.loop-i-init
 loop-i-init c = (search rules, search rules, paste-zero c.args.out.now c.args.at c.args.bytes.now)
 
 pub loop-i-preserved : goal.loop-i-preserved
-loop-i-preserved c =
-    (
-      search rules,
-      search rules,
-      ap (λ (o : List ℕ). set o (c.args.at + c.loop-i.i) (get_or c.args.bytes.now c.loop-i.i 0)) c.loop-i.invariant.2
-          ∙ paste-suc c.args.out.now c.args.at c.args.bytes.now c.loop-i.i 0 (omega (arith, c.requires)) c.loop-i-test.true
-          ∙ ap (λ (k : ℕ). paste c.args.out.now c.args.at c.args.bytes.now k) (sym (add-one c.loop-i.i)),
-    )
+loop-i-preserved c = (
+  search rules,
+  search rules,
+  ap (λ (o : List ℕ). set o (c.args.at + c.loop-i.i) (get_or c.args.bytes.now c.loop-i.i 0)) c.loop-i.invariant.2
+      ∙ paste-suc c.args.out.now c.args.at c.args.bytes.now c.loop-i.i 0 (omega (arith, c.requires)) c.loop-i-test.true
+      ∙ ap (λ (k : ℕ). paste c.args.out.now c.args.at c.args.bytes.now k) (sym (add-one c.loop-i.i)),
+)
 
 pub returns : goal.returns
 returns c =

@@ -1,6 +1,6 @@
 -- The invariant: the first i bytes are put.
 use Prim.Native.Nat.{ℕ, ◌+◌, ◌-◌, ◌≤◌}
-use Rattle.page.specs.laws.Puts.{puts_all}
+use Rattle.page.proofs.laws.Puts.{puts_all}
 use borrow.Author.Rules.{rules}
 use lib.ListN.{length, set, get_or}
 use lib.Seq.{paste, paste-zero, paste-suc}

@@ -5,8 +5,8 @@ use Rattle.runs.specs.Set.{Makes}
 use Rattle.meaning.specs.inner.Coded.{coded}
 use Rattle.meaning.specs.inner.Truth.{val}
 use Rattle.leaves.specs.inner.Leaf.{leaf_of}
-use Rattle.question.specs.laws.Limit.{leaf_none}
-use Rattle.question.specs.laws.Answered.{leaf_asked}
+use Rattle.question.proofs.laws.Limit.{leaf_none}
+use Rattle.question.proofs.laws.Answered.{leaf_asked}
 use borrow.Author.Rules.{rules}
 use Rattle.question.proofs.answered.alone.Goals as goal
 

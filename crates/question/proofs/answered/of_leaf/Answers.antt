@@ -3,7 +3,7 @@ use Prim.Native.Nat.{◌<◌}
 use mathlib.Core.Path.{sym, subst}
 use Rattle.grammar.specs.declared.Row.{Row}
 use Rattle.grammar.specs.inner.Kinds.{NOT}
-use Rattle.question.specs.laws.Answered.{gives_alone}
+use Rattle.question.proofs.laws.Answered.{gives_alone}
 use borrow.Author.Rules.{rules}
 use Rattle.question.proofs.answered.of_leaf.Goals as goal
 

@@ -1,7 +1,7 @@
 -- 9 by the search for tops, 8 and the set by the evaluation.
 use mathlib.Core.Path.{sym, ◌∙◌}
 use Rattle.evaluation.specs.inner.Evaluation.{text_of}
-use Rattle.question.specs.laws.Answered.{gives_nine, gives_eight, gives_set, asking}
+use Rattle.question.proofs.laws.Answered.{gives_nine, gives_eight, gives_set, asking}
 use borrow.Author.Rules.{rules}
 use Rattle.question.proofs.answered.of_tree.Goals as goal
 

@@ -1,6 +1,6 @@
 -- Refused by 9 or 8, or the set is written.
 use Rattle.evaluation.specs.inner.Evaluation.{text_of}
-use Rattle.question.specs.laws.Call.{answer_refused, answer_fine}
+use Rattle.question.proofs.laws.Call.{answer_refused, answer_fine}
 use borrow.Author.Rules.{rules}
 use Rattle.question.proofs.call.answer_leaf.Goals as goal
 

@@ -1,6 +1,6 @@
 -- Refused by 1 to 7, or answered.
 use native.Mathlib.Omega.{arith}
-use Rattle.question.specs.laws.Call.{question_refused, prepared_ready, question_answered}
+use Rattle.question.proofs.laws.Call.{question_refused, prepared_ready, question_answered}
 use borrow.Author.Rules.{rules}
 use Rattle.question.proofs.call.question.Goals as goal
 

@@ -3,8 +3,8 @@ use mathlib.Core.Path.{ap}
 use Prim.Native.Nat.{ℕ, ◌*◌}
 use native.Mathlib.Omega.{arith}
 use Rattle.runs.specs.Set.{member}
-use Rattle.runs.specs.laws.Set.{valid_count}
-use Rattle.question.specs.laws.Call.{write_short, write_whole}
+use Rattle.runs.proofs.laws.Set.{valid_count}
+use Rattle.question.proofs.laws.Call.{write_short, write_whole}
 use borrow.Author.Rules.{rules}
 use Rattle.question.proofs.call.write_set.Goals as goal
 

@@ -3,7 +3,7 @@ use mathlib.Core.Path.{refl}
 use Prim.Native.Nat.{ℕ, ◌<◌}
 use native.Mathlib.Omega.{arith}
 use borrow.Author.Rules.{rules}
-use Rattle.question.specs.laws.Limit as laws
+use Rattle.question.proofs.laws.Limit as laws
 use Rattle.question.proofs.limits.+asks.Goals as goal
 
 pub row_at-row-requires : goal.row_at-row-requires

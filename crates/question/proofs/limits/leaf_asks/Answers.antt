@@ -5,7 +5,7 @@ use native.Mathlib.Omega.{arith}
 use Rattle.recording.specs.Reading.{Curve, B}
 use Rattle.meaning.specs.inner.Coded.{coded}
 use Rattle.meaning.specs.inner.Truth.{many_tops}
-use Rattle.question.specs.laws.Limit.{leaf_none, leaf_one, leaf_both}
+use Rattle.question.proofs.laws.Limit.{leaf_none, leaf_one, leaf_both}
 use borrow.Author.Rules.{rules}
 use Rattle.question.proofs.limits.leaf_asks.Goals as goal
 

@@ -3,7 +3,7 @@ use mathlib.Core.Path.{ap, sym, ◌∙◌}
 use native.Mathlib.Omega.{arith}
 use lib.Dec.{ltb}
 use Rattle.recording.specs.Reading.{curve_of}
-use Rattle.question.specs.laws.Limit.{tops-count}
+use Rattle.question.proofs.laws.Limit.{tops-count}
 use Rattle.question.proofs.limits.many_tops.Goals as goal
 
 pub top_count-requires : goal.top_count-requires

@@ -1,5 +1,5 @@
 -- Each answer is the first refusal that meets, or the table of the text.
-use Rattle.question.specs.laws.Prepare.{prepare_empty, prepare_refused, prepare_unread, prepare_read}
+use Rattle.question.proofs.laws.Prepare.{prepare_empty, prepare_refused, prepare_unread, prepare_read}
 use borrow.Author.Rules.{rules}
 use Rattle.question.proofs.prepare.prepare.Goals as goal
 

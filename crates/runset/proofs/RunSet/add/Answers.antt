@@ -1,6 +1,6 @@
 -- The last run goes on, or two cuts more, or there is no room for them.
 use native.Mathlib.Omega.{arith}
-use Rattle.runs.specs.laws.Added.{joins, full, room, added}
+use Rattle.runs.proofs.laws.Added.{joins, full, room, added}
 use borrow.Author.Rules.{rules}
 use Rattle.runset.proofs.RunSet.add.Goals as goal
 

@@ -6,7 +6,7 @@ use mathlib.Core.List.{List}
 use Prim.Native.Nat.{ℕ}
 use lib.ListN.{length}
 use Rattle.runs.specs.Set.{member, shared_words, Canonical}
-use Rattle.runs.specs.laws.Set.{valid_short, makes_lists}
+use Rattle.runs.proofs.laws.Set.{valid_short, makes_lists}
 use borrow.Author.Rules.{rules}
 use Rattle.runset.proofs.RunSet.and.Goals as goal
 

@@ -7,7 +7,7 @@ use lib.ListN.{length, take, drop, set, length-set}
 use lib.Seq.{take-append_seam, take-set-le, get_or-set_same}
 use Rattle.runs.specs.Runs.{most_runs}
 use Rattle.runs.specs.Set.{slot_words, cuts_of, member, Valid, Holds}
-use Rattle.runs.specs.laws.Set.{held, cuts-length}
+use Rattle.runs.proofs.laws.Set.{held, cuts-length}
 use borrow.Author.Rules.{rules}
 use Rattle.runset.proofs.RunSet.copy.Goals as goal
 

@@ -7,8 +7,8 @@ use lib.ListN.{drop, get_or}
 use Rattle.runs.specs.Runs.{most_runs}
 use Rattle.runs.specs.Set.{cuts_of, member}
 use Rattle.slot.specs.inner.Gap.{gap_to, nearer_of}
-use Rattle.runs.specs.laws.Set.{cuts_there, valid_cuts}
-use Rattle.slot.specs.laws.Nearness.{Reaches, two_ascend, next_reach, first_reach, nearest_at, nearest-nothing}
+use Rattle.runs.proofs.laws.Set.{cuts_there, valid_cuts}
+use Rattle.slot.proofs.laws.Nearness.{Reaches, two_ascend, next_reach, first_reach, nearest_at, nearest-nothing}
 use borrow.Author.Rules.{rules}
 use Rattle.runset.proofs.RunSet.distance.Goals as goal
 

@@ -3,7 +3,7 @@ use lib.ListN.{length-set}
 use lib.Seq.{get_or-set_same}
 use mathlib.Core.Path.{◌∙◌}
 use native.Mathlib.Omega.{arith}
-use Rattle.runs.specs.laws.Set.{nothing-held}
+use Rattle.runs.proofs.laws.Set.{nothing-held}
 use borrow.Author.Rules.{rules}
 use Rattle.runset.proofs.RunSet.empty.Goals as goal
 

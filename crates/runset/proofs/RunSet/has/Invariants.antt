@@ -8,8 +8,8 @@ use lib.Dec.{leb}
 use lib.ListN.{length, take, drop, get_or}
 use Rattle.runs.specs.Runs.{most_runs}
 use Rattle.runs.specs.Set.{xor, cuts_of, inside, member}
-use Rattle.runs.specs.laws.Cuts.{xor_false, xor_assoc, none, front, all_passed}
-use Rattle.runs.specs.laws.Set.{cuts_there}
+use Rattle.runs.proofs.laws.Cuts.{xor_false, xor_assoc, none, front, all_passed}
+use Rattle.runs.proofs.laws.Set.{cuts_there}
 use borrow.Author.Rules.{rules}
 use Rattle.runset.proofs.RunSet.has.Given as goal
 

@@ -1,6 +1,6 @@
 -- The second cut of the run lies one above its highest number.
 use native.Mathlib.Omega.{arith}
-use Rattle.runs.specs.laws.Set.{valid_cuts}
+use Rattle.runs.proofs.laws.Set.{valid_cuts}
 use Rattle.runset.proofs.Reading.{run}
 use Rattle.runset.proofs.RunSet.high.Goals as goal
 

@@ -5,8 +5,8 @@ use mathlib.Core.List.{List}
 use Prim.Native.Nat.{ℕ}
 use lib.ListN.{length}
 use Rattle.runs.specs.Set.{member, shared_words, Canonical}
-use Rattle.runs.specs.laws.Set.{valid_short}
-use Rattle.join.specs.laws.Join.{joins_lists}
+use Rattle.runs.proofs.laws.Set.{valid_short}
+use Rattle.join.proofs.laws.Join.{joins_lists}
 use borrow.Author.Rules.{rules}
 use Rattle.runset.proofs.RunSet.join.Goals as goal
 

@@ -1,6 +1,6 @@
 -- The first cut of the run.
 use native.Mathlib.Omega.{arith}
-use Rattle.runs.specs.laws.Set.{valid_cuts}
+use Rattle.runs.proofs.laws.Set.{valid_cuts}
 use Rattle.runset.proofs.Reading.{run}
 use Rattle.runset.proofs.RunSet.low.Goals as goal
 

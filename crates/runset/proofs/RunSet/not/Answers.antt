@@ -5,7 +5,7 @@ use mathlib.Core.List.{List}
 use Prim.Native.Nat.{ℕ, ◌≤◌}
 use lib.ListN.{length}
 use Rattle.runs.specs.Set.{inside, member, shared_words, Canonical}
-use Rattle.runs.specs.laws.Set.{valid_short, makes_of}
+use Rattle.runs.proofs.laws.Set.{valid_short, makes_of}
 use borrow.Author.Rules.{rules}
 use Rattle.runset.proofs.RunSet.not.Goals as goal
 

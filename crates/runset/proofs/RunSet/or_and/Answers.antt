@@ -7,8 +7,8 @@ use Prim.Native.Nat.{ℕ, ◌+◌, ◌≤◌}
 use lib.ListN.{length, length-take}
 use lib.Seq.{length-take-le}
 use Rattle.runs.specs.Set.{cuts_of, inside, member, shared_words, Canonical, Valid}
-use Rattle.runs.specs.laws.Set.{cuts-length, valid_short, makes_ext, makes_lists}
-use Rattle.merge.specs.laws.Made.{shared_there, shared-short, shared_canonical, shared-members}
+use Rattle.runs.proofs.laws.Set.{cuts-length, valid_short, makes_ext, makes_lists}
+use Rattle.merge.proofs.laws.Made.{shared_there, shared-short, shared_canonical, shared-members}
 use borrow.Author.Rules.{rules}
 use Rattle.runset.proofs.RunSet.or_and.Goals as goal
 

@@ -1,6 +1,6 @@
 -- Two cuts are one run; where high < low no number lies between.
 use mathlib.Core.Path.{sym}
-use Rattle.runs.specs.laws.Set.{holds_ext, nothing-between, run-held}
+use Rattle.runs.proofs.laws.Set.{holds_ext, nothing-between, run-held}
 use borrow.Author.Rules.{rules}
 use Rattle.runset.proofs.RunSet.span.Goals as goal
 

@@ -1,5 +1,5 @@
 -- All numbers of the axis.
-use Rattle.runs.specs.laws.Set.{everything_between, holds_ext}
+use Rattle.runs.proofs.laws.Set.{everything_between, holds_ext}
 use borrow.Author.Rules.{rules}
 use Rattle.runset.proofs.RunSet.whole.Goals as goal
 

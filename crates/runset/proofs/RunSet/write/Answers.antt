@@ -6,7 +6,7 @@ use native.Mathlib.Omega.{arith}
 use lib.ListN.{length, drop}
 use Rattle.runs.specs.Runs.{run_count}
 use Rattle.runs.specs.Set.{member}
-use Rattle.slot.specs.laws.Bytes.{put-length}
+use Rattle.slot.proofs.laws.Bytes.{put-length}
 use Rattle.runset.proofs.Reading.{run, front, next-run, all_runs}
 use borrow.Author.Rules.{rules}
 use Rattle.runset.proofs.RunSet.write.Goals as goal

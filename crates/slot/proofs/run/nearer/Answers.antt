@@ -1,5 +1,5 @@
 -- Where there is a distance already, the lesser of the two.
-use Rattle.slot.specs.laws.Nearness.{nearer_true}
+use Rattle.slot.proofs.laws.Nearness.{nearer_true}
 use borrow.Author.Rules.{rules}
 use Rattle.slot.proofs.run.nearer.Goals as goal
 

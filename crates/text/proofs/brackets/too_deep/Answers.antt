@@ -4,7 +4,7 @@ use native.Mathlib.Omega.{arith}
 use borrow.Author.Rules.{rules}
 use lib.Dec.{eqb}
 use lib.ListN.{length, get_or}
-use Rattle.number.specs.laws.Order.{one_at_most}
+use Rattle.number.proofs.laws.Order.{one_at_most}
 use Rattle.text.proofs.BracketLaws.{Counted, none_counted, deep, not_deep, never_deep}
 use Rattle.text.proofs.brackets.too_deep.Goals as goal
 
