@@ -16,10 +16,15 @@ MOST = 1300  # lines of code, without those of the assured texts
 ASSURED = "assured"
 
 HEAD = re.compile(r"^ {0,2}(?:abbrev pub|unfoldable pub|pub record|pub data|pub)\s+(?!mod\b|use\b)([^\s:({]+)")
-USED = re.compile(r"^(?:pub )?use Rattle\.(\w+)\.specs\.([\w.]+?)\.\{(.*)\}$")
-ALIAS = re.compile(r"^use Rattle\.(\w+)\.specs\.([\w.]+?) as (\S+)$")
+USED = re.compile(r"^(?:pub )?use Rattle\.(\w+)\.(specs|proofs)\.([\w.+-]+?)\.\{(.*)\}$")
+ALIAS = re.compile(r"^use Rattle\.(\w+)\.(specs|proofs)\.([\w.+-]+?) as (\S+)$")
 USES = re.compile(r"(?m)^(?:pub )?use [^\n{]*\{[^}]*\}")  # may go over several lines
 TOKEN = re.compile(r"[^\s(){}.,;:λ→∷⟨⟩]+")
+
+
+def key(crate: str, where: str, name: str) -> str:
+    """The name of a file: `crate:Name` below specs/, `crate:proofs.Name` below proofs/."""
+    return f"{crate}:{name}" if where == "specs" else f"{crate}:proofs.{name}"
 
 
 class Module:
@@ -49,11 +54,11 @@ class Module:
 
     def brings(self, line: str) -> bool:
         if found := USED.match(line):
-            for item in found.group(3).split(","):
+            for item in found.group(4).split(","):
                 name, _, other = item.strip().partition(" as ")
-                self.brought[other or name] = (f"{found.group(1)}:{found.group(2)}", name)
+                self.brought[other or name] = (key(*found.groups()[:3]), name)
         elif found := ALIAS.match(line):
-            self.aliases[found.group(3)] = f"{found.group(1)}:{found.group(2)}"
+            self.aliases[found.group(4)] = key(*found.groups()[:3])
         else:
             return False
         return True
@@ -62,11 +67,11 @@ class Module:
 def modules() -> dict[str, Module]:
     found = {}
     for crate in sorted((REPOSITORY / "crates").iterdir()):
-        specs = crate / "specs"
-        for path in sorted(specs.rglob("*.antt")):
-            name = ".".join(path.relative_to(specs).with_suffix("").parts)
-            if name not in ("Lib", "laws", "inner"):
-                found[f"{crate.name}:{name}"] = Module(path)
+        for where in ("specs", "proofs"):
+            for path in sorted((crate / where).rglob("*.antt")):
+                name = ".".join(path.relative_to(crate / where).with_suffix("").parts)
+                if name not in ("Lib", "laws", "inner"):
+                    found[key(crate.name, where, name)] = Module(path)
     return found
 
 
@@ -128,7 +133,7 @@ def counted(known: dict[str, Module], seen: set[tuple[str, str]]) -> dict[str, i
 
 def table(known: dict[str, Module], roots: list[tuple[str, str]]) -> str:
     lines = counted(known, reached(known, roots))
-    leaning = sorted(module for module in lines if ":inner." in module or ":laws." in module)
+    leaning = sorted(module for module in lines if ":inner." in module or ":proofs." in module)
     if leaning:
         fail(f"the pages lean on {', '.join(leaning)}")
     own = sum(counted(known, reached(known, roots, ASSURED)).values())
