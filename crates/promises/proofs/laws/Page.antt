@@ -142,48 +142,52 @@ same_entry : (r : List Reading) (x x' y y' z z' u u' : ℤ) → x ≡ x' → y �
     → eight r x y z u ≡ eight r x' y' z' u'
 same_entry r x x' y y' z z' u u' a b c d = λ i. eight r (a i) (b i) (c i) (d i)
 
-pub one_answer : {c : Call} {g : List ℕ} {a a' : Effect} → IsAnswer g c a → IsAnswer g c a' → a ≡ a'
-one_answer {g = g} (the_set {text = text} {t = t} rs r s) (the_set {t = t'} rs' r' s') = ap (λ (x : List Interval). writing (runs_bytes x)) (one_set text g t t' rs rs' r r' s s')
-one_answer (met v e r m) (met v' e' r' m') = refl
-one_answer {g = g} (met {text = text} {target = target} {t = t} v e r m) (short {t = t'} v' d' e' r' k' m') =
+-- by recursion on the first: the bytes stand before the call, since the call changes on the way
+same_effect : {g : List ℕ} {c : Call} {a a' : Effect} → IsAnswer g c a → IsAnswer g c a' → a ≡ a'
+same_effect {g = g} (the_set {text = text} {t = t} rs r s) (the_set {t = t'} rs' r' s') = ap (λ (x : List Interval). writing (runs_bytes x)) (one_set text g t t' rs rs' r r' s s')
+same_effect (met v e r m) (met v' e' r' m') = refl
+same_effect {g = g} (met {text = text} {target = target} {t = t} v e r m) (short {t = t'} v' d' e' r' k' m') =
     absurd (near_none (readings g) t' v' d' e'.0 (member_too text g target t t' v v' e e' r r' m) m' k')
-one_answer {g = g} (met {text = text} {target = target} {t = t} v e r m) (no-value {t = t'} r' m') = absurd (m' v e.0 (member_too text g target t t' v v e e r r' m))
-one_answer {g = g} (short {text = text} {target = target} {t = t} v d e r k m) (met {t = t'} v' e' r' m') =
+same_effect {g = g} (met {text = text} {target = target} {t = t} v e r m) (no-value {t = t'} r' m') = absurd (m' v e.0 (member_too text g target t t' v v e e r r' m))
+same_effect {g = g} (short {text = text} {target = target} {t = t} v d e r k m) (met {t = t'} v' e' r' m') =
     absurd (near_none (readings g) t v d e.0 (member_too text g target t' t v' v e' e r' r m') m k)
-one_answer {g = g} (short {text = text} {target = target} {t = t} v d e r k m) (short {t = t'} v' d' e' r' k' m') =
+same_effect {g = g} (short {text = text} {target = target} {t = t} v d e r k m) (short {t = t'} v' d' e' r' k' m') =
     ap (λ (d : ℕ). effect 1 (put (to_bits binary64 (distance_of d)) ∷ put (to_bits binary64 (degree_of d)) ∷ [])) (one-distance (readings g) t' v' d d' (distance_too text g target t t' v v' e e' r r' m) m')
-one_answer {g = g} (short {text = text} {target = target} {t = t} v d e r k m) (no-value {t = t'} r' m') =
+same_effect {g = g} (short {text = text} {target = target} {t = t} v d e r k m) (no-value {t = t'} r' m') =
     absurd (m' m.nearest m.on-axis (subst (λ (x : Text). Member (readings g) x m.nearest) (same_text text t t' r r') m.member))
-one_answer {g = g} (no-value {text = text} {target = target} {t = t} r m) (met {t = t'} v' e' r' m') = absurd (m v' e'.0 (member_too text g target t' t v' v' e' e' r' r m'))
-one_answer {g = g} (no-value {text = text} {t = t} r m) (short {t = t'} v' d' e' r' k' m') =
+same_effect {g = g} (no-value {text = text} {target = target} {t = t} r m) (met {t = t'} v' e' r' m') = absurd (m v' e'.0 (member_too text g target t' t v' v' e' e' r' r m'))
+same_effect {g = g} (no-value {text = text} {t = t} r m) (short {t = t'} v' d' e' r' k' m') =
     absurd (m m'.nearest m'.on-axis (subst (λ (x : Text). Member (readings g) x m'.nearest) (same_text text t' t r' r) m'.member))
-one_answer (no-value r m) (no-value r' m') = refl
-one_answer {g = g} (first-pair {curve = c} {target = target} i j f m) (first-pair i' j' f' m') =
+same_effect (no-value r m) (no-value r' m') = refl
+same_effect {g = g} (first-pair {curve = c} {target = target} i j f m) (first-pair i' j' f' m') =
     let e = one_pair (readings g) (curve_of c) target i j i' j' f m f' m' in
     ap₂ (λ (t u : ℕ). effect 1 (put t ∷ put u ∷ [])) e.0 e.1
-one_answer (first-pair i j f m) (no_pair n) = absurd (n i j f)
-one_answer (no_pair n) (first-pair i' j' f' m') = absurd (n i' j' f')
-one_answer (no_pair n) (no_pair n') = refl
-one_answer the_kept the_kept = refl
-one_answer {g = g} (two-sets {text = text} {e = e} q c p r m n a b) (two-sets q' c' p' r' m' n' a' b') =
+same_effect (first-pair i j f m) (no_pair n) = absurd (n i j f)
+same_effect (no_pair n) (first-pair i' j' f' m') = absurd (n i' j' f')
+same_effect (no_pair n) (no_pair n') = refl
+same_effect the_kept the_kept = refl
+same_effect {g = g} (two-sets {text = text} {e = e} q c p r m n a b) (two-sets q' c' p' r' m' n' a' b') =
     let h : q' ≡ q = same_listed q' q (same_text text (listed q') (listed q) r' r) in
     ap₂ of_runs (one_runs m (subst (λ (x : Listed). MaximalRuns (Certain x e (readings g)) c') h m')) (one_runs n (subst (λ (x : Listed). MaximalRuns (Possible x e (readings g)) p') h n'))
-one_answer (all-met n) (all-met n') = refl
-one_answer (all-met n) (broken t k i b) = absurd (n i k b.breaks)
-one_answer (broken t k i b) (all-met n) = absurd (n i k b.breaks)
-one_answer {g = g} (broken {sheet = sheet} t k i b) (broken t' k' i' b') = ap of_finding (true_one (readings g) (sheet_of sheet) (broken_at t k) (broken_at t' k') (i, b) (i', b'))
-one_answer {g = g} (the_entry u d m n) (the_entry u' d' m' n') =
+same_effect (all-met n) (all-met n') = refl
+same_effect (all-met n) (broken t k i b) = absurd (n i k b.breaks)
+same_effect (broken t k i b) (all-met n) = absurd (n i k b.breaks)
+same_effect {g = g} (broken {sheet = sheet} t k i b) (broken t' k' i' b') = ap of_finding (true_one (readings g) (sheet_of sheet) (broken_at t k) (broken_at t' k') (i, b) (i', b'))
+same_effect {g = g} (the_entry u d m n) (the_entry u' d' m' n') =
     same_entry (readings g) (u A) (u' A) (d A) (d' A) (u B) (u' B) (d B) (d' B) (one_greatest A (readings g) (u A) (u' A) (m A) (m' A)) (one-least A (readings g) (d A) (d' A) (n A) (n' A))
     (one_greatest B (readings g) (u B) (u' B) (m B) (m' B)) (one-least B (readings g) (d B) (d' B) (n B) (n' B))
-one_answer (the_found ns e) (the_found ns' e') = ap (λ (l : List ℕ). writing (words_bytes l)) (one_list e e')
-one_answer (lab-question h) (lab-question h') = one_answer h h'
-one_answer (lab-degree h) (lab-degree h') = one_answer h h'
-one_answer (lab-pair h) (lab-pair h') = one_answer h h'
-one_answer (is-assured r a) (is-assured r' a') = refl
-one_answer {g = g} (is-assured {marks = marks} {t = t} r a) (not_assured {t = t'} r' n) = absurd (n (subst (Assured (marks_of marks)) (same_text g t t' r r') a))
-one_answer {g = g} (not_assured {marks = marks} {t = t} r n) (is-assured {t = t'} r' a) = absurd (n (subst (Assured (marks_of marks)) (same_text g t' t r' r) a))
-one_answer (not_assured r n) (not_assured r' n') = refl
-one_answer the_version the_version = refl
+same_effect (the_found ns e) (the_found ns' e') = ap (λ (l : List ℕ). writing (words_bytes l)) (one_list e e')
+same_effect (lab-question h) (lab-question h') = same_effect h h'
+same_effect (lab-degree h) (lab-degree h') = same_effect h h'
+same_effect (lab-pair h) (lab-pair h') = same_effect h h'
+same_effect (is-assured r a) (is-assured r' a') = refl
+same_effect {g = g} (is-assured {marks = marks} {t = t} r a) (not_assured {t = t'} r' n) = absurd (n (subst (Assured (marks_of marks)) (same_text g t t' r r') a))
+same_effect {g = g} (not_assured {marks = marks} {t = t} r n) (is-assured {t = t'} r' a) = absurd (n (subst (Assured (marks_of marks)) (same_text g t' t r' r) a))
+same_effect (not_assured r n) (not_assured r' n') = refl
+same_effect the_version the_version = refl
+
+pub one_answer : {c : Call} {g : List ℕ} {a a' : Effect} → IsAnswer g c a → IsAnswer g c a' → a ≡ a'
+one_answer a b = same_effect a b
 
 pub one-outcome : {c : Call} {g : List ℕ} {room : ℕ} {o o' : Outcome Effect} → Right c g room o → Right c g room o' → o ≡ o'
 one-outcome (answers n a) (answers n' a') = ap result (one_answer a a')

@@ -295,7 +295,7 @@ none_front (u ∷ us) ws n = (n.0, none_front us ws n.1)
 
 nothing_accepted : (ks : List ℕ) → Accepted (kept_bytes ks [])
 unfolding kept_bytes first_bad least
-nothing_accepted ks = (refl, (refl, (refl, tt)))
+nothing_accepted marks = (refl, (refl, (refl, tt)))
 
 nothing_good : Good 0 (records [])
 nothing_good = tt
@@ -372,7 +372,7 @@ answers_beyond marks {join = join} {text = text} t l {room} r =
 -- its entry
 entry-told : (ks full held : List ℕ) → StandIn ks full held → (room : ℕ) → AsTable (drop 3 (refusals entry full room)) (entry_of held room)
 unfolding entry_of
-entry-told ks full held s room =
+entry-told marks full held s room =
     subst (AsTable (drop 3 (refusals entry full room))) (sym (judged_pass (recording_lines held) (entry_lines held room) (reckoned (readings held)) s.accepted))
     (judged-told (agrees 4 refl (then (so_eq (length (records held)) 0) s.empty) ⊳ agrees 10 refl (subst (λ (n : ℕ). So (ltb room n) ↔ (room < entry_bytes)) (sym (length-reckoned (readings held))) (so_lt room entry_bytes)) ⊳ done) (reckoned (readings held)))
 
