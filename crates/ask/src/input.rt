@@ -1,7 +1,8 @@
 // The two inputs, read to their ends.
-ghost use Rattle.std.specs.Prelude.{◌≡◌, ◌≤◌, length};
+ghost use Rattle.std.specs.Prelude.{◌≡◌, ◌≤◌, length, IsSome};
 ghost use Rattle.io.specs.Counts.{IsPrefixLen};
 ghost use Rattle.page.specs.Intake.{spare};
+ghost use Rattle.ask.specs.declared.input.State.TheVariants.{Failed};
 ghost use Rattle.ask.specs.Reading.{is_more, is_ended, Taken, Turn, Turns, Recorded};
 
 use std::fs;
@@ -82,6 +83,7 @@ fn read_on<R: Read>(
     requires { (spare ≤ length store.old) × IsPrefixLen n store.old }
     ensures turn { Turn store.old n store.new result }
     ensures prefix_len { IsPrefixLen result.kept store.new }
+    ensures told { result.state ≡ Failed → IsSome failure.new }
 {
     let mut buffer = io::buffer();
     let got = match reader.read(&mut buffer) {
@@ -100,6 +102,7 @@ pub fn read_all<R: Read>(reader: &mut R, failure: &mut Option<Error>, store: &mu
     requires { spare ≤ length store.old }
     ensures turns { Turns store.old store.new result }
     ensures prefix_len { IsPrefixLen result.kept store.new }
+    ensures told { result.state ≡ Failed → IsSome failure.new }
 {
     let mut kept: usize = 0;
     let mut turns = u64::MAX;
@@ -122,6 +125,7 @@ pub fn read_recording<R: Files>(files: &R, failure: &mut Option<Error>, store: &
     requires { spare ≤ length store.old }
     ensures recorded { Recorded store.old store.new result }
     ensures prefix_len { IsPrefixLen result.kept store.new }
+    ensures told { result.state ≡ Failed → IsSome failure.new }
 {
     match fs::open(files, "run.rec") {
         Ok(mut file) => read_all(&mut file, failure, store),

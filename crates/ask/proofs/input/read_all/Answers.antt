@@ -25,7 +25,7 @@ loop-turns-init g c = (refl, search rules, no_turn)
 
 pub returns-then-not-goes_on : goal.returns-then-not-goes_on
 returns-then-not-goes_on g c =
-    record { turns = then c.loop-turns.invariant.2 refl c.read_on-next.ensures.turn; prefix_len = c.read_on-next.ensures.prefix_len }
+    record { turns = then c.loop-turns.invariant.2 refl c.read_on-next.ensures.turn; told = c.read_on-next.ensures.told; prefix_len = c.read_on-next.ensures.prefix_len }
 
 pub loop-turns-preserved : goal.loop-turns-preserved
 loop-turns-preserved g c = (
