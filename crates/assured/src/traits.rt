@@ -2,7 +2,7 @@
 ghost use Rattle.std.specs.Prelude.{◌≡◌};
 ghost use Rattle.assured.specs.inner.Traits.{atom_traits, listed_traits, connected, temporal_traits, assured_by};
 
-#[derive(Drop)]
+#[derive(Clone, Copy)]
 pub struct Traits {
     pub temporal: bool,
     pub marked: bool,

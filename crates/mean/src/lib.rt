@@ -5,7 +5,7 @@ ghost use Rattle.std.specs.Prelude.{◌≡◌};
 ghost use Rattle.binary64.specs.Degree.{degree_of};
 ghost use Rattle.mean.specs.inner.Running.{start, next};
 
-#[derive(Drop)]
+#[derive(Clone, Copy)]
 pub struct Mean {
     pub sum: f64,
     pub mean: f64,

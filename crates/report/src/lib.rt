@@ -26,7 +26,7 @@ pub const REPORT_BYTES: usize = 320;
 const LONGEST: u64 = 4_000_000_000;
 
 // The counts, and beside them the running sum of degrees and the last mean.
-#[derive(Drop)]
+#[derive(Clone, Copy)]
 pub struct Report {
     // The recordings that were named, and those taken.
     pub count: u32,
