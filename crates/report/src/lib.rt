@@ -48,7 +48,7 @@ pub enum Named {
 }
 
 // The answer to a recording.
-#[derive(Drop)]
+#[derive(Clone, Copy)]
 pub enum Added {
     // No report is under way.
     Nothing,
