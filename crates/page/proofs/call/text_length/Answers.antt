@@ -1,7 +1,6 @@
 -- By the last byte.
 use Prim.Native.Nat.{◌-◌}
 use Rattle.page.proofs.laws.Typed.{nothing_typed, line_typed, plain_typed}
-use borrow.Author.Rules.{rules}
 use lib.ListN.{length}
 use lib.Seq.{length-take-le}
 use mathlib.Core.Path.{sym, refl}

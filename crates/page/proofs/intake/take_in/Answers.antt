@@ -1,7 +1,6 @@
 -- Past the limit only the length is kept.
 use Prim.Native.Nat.{◌-◌}
 use Rattle.page.proofs.laws.Intake.{intake_over, stands_within, puts_behind}
-use borrow.Author.Rules.{rules}
 use lib.ListN.{length}
 use lib.Seq.{length-take-le}
 use mathlib.Core.Path.{refl, sym}

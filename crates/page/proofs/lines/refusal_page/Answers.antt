@@ -5,7 +5,6 @@ use Rattle.page.specs.Page.{page}
 use Rattle.page.proofs.laws.Page.{refusal_length}
 use Rattle.page.proofs.laws.Puts.{puts_five, puts_same}
 use Rattle.refusal.specs.Outcome.{refused}
-use borrow.Author.Rules.{rules}
 use mathlib.Core.Path.{ap₂}
 use native.Mathlib.Omega.{arith}
 use Rattle.page.proofs.lines.refusal_page.Goals as goal

@@ -3,7 +3,6 @@ use Rattle.number.specs.Words.{signed}
 use Rattle.page.specs.Page.{run_line}
 use Rattle.page.proofs.laws.Page.{run_line-length}
 use Rattle.page.proofs.laws.Puts.{puts_four}
-use borrow.Author.Rules.{rules}
 use native.Mathlib.Omega.{arith}
 use Rattle.page.proofs.lines.run.Goals as goal
 

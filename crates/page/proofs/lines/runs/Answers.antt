@@ -1,9 +1,8 @@
 -- The invariant: the lines of the first i runs are put.
-use Prim.Native.Nat.{ℕ, ◌-◌, ◌≤◌}
+use Prim.Native.Nat.{ℕ}
 use Rattle.number.specs.Words.{signed}
 use Rattle.page.specs.Page.{run_line, run_lines}
 use Rattle.page.proofs.laws.Page.{runs_none, runs_next, run-within}
-use Rattle.page.specs.inner.Puts.{Puts}
 use Rattle.page.proofs.laws.Puts.{puts_same}
 use borrow.Author.Rules.{rules}
 use lib.ListN.{length}

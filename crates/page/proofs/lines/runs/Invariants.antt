@@ -1,14 +1,9 @@
 -- The invariant: the lines of the first i runs are put.
-use Prim.Native.Nat.{ℕ, ◌-◌, ◌≤◌}
-use Rattle.number.specs.Words.{signed}
-use Rattle.page.specs.Page.{run_line, run_lines}
-use Rattle.page.proofs.laws.Page.{runs_none, runs_next, run-within}
+use Prim.Native.Nat.{◌-◌, ◌≤◌}
+use Rattle.page.specs.Page.{run_lines}
 use Rattle.page.specs.inner.Puts.{Puts}
-use Rattle.page.proofs.laws.Puts.{puts_same}
-use borrow.Author.Rules.{rules}
 use lib.ListN.{length}
-use mathlib.Core.Path.{◌≡◌, ◌∙◌, ap, ap₂}
-use native.Mathlib.Omega.{arith}
+use mathlib.Core.Path.{◌≡◌}
 use Rattle.page.proofs.lines.runs.Given as goal
 
 abbrev pub invariant-loop-i : goal.invariant-loop-i

@@ -2,7 +2,6 @@
 use Rattle.page.specs.Page.{page}
 use Rattle.page.proofs.laws.Page.{set-length}
 use Rattle.page.proofs.laws.Puts.{puts_four}
-use borrow.Author.Rules.{rules}
 use native.Mathlib.Omega.{arith}
 use Rattle.page.proofs.lines.set_page.Goals as goal
 

@@ -3,7 +3,6 @@ use Prim.Native.Nat.{◌-◌}
 use Rattle.page.specs.Decimal.{in_decimal}
 use Rattle.page.proofs.laws.Decimal.{middle, signed_below, signed_above}
 use Rattle.page.proofs.laws.Puts.{puts_same, puts_then}
-use borrow.Author.Rules.{rules}
 use lib.ListN.{length}
 use mathlib.Core.List.{[], ◌∷◌}
 use mathlib.Core.Path.{ap, sym}

@@ -1,7 +1,6 @@
 -- The digits are those that `io::decimal` gives, the fewest.
 use Rattle.page.proofs.laws.Decimal.{decimal_is}
 use Rattle.page.proofs.laws.Puts.{puts_same}
-use borrow.Author.Rules.{rules}
 use lib.ListN.{length}
 use mathlib.Core.Path.{ap, ◌∙◌}
 use native.Mathlib.Omega.{arith}

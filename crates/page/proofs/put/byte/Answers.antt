@@ -1,6 +1,5 @@
 -- One byte is stored.
 use Rattle.page.proofs.laws.Puts.{puts_byte}
-use borrow.Author.Rules.{rules}
 use Rattle.page.proofs.put.byte.Goals as goal
 
 pub returns : goal.returns

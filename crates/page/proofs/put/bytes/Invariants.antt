@@ -1,13 +1,8 @@
 -- The invariant: the first i bytes are put.
-use Prim.Native.Nat.{ℕ, ◌+◌, ◌-◌, ◌≤◌}
-use Rattle.page.proofs.laws.Puts.{puts_all}
-use borrow.Author.Rules.{rules}
-use lib.ListN.{length, set, get_or}
-use lib.Seq.{paste, paste-zero, paste-suc}
-use mathlib.Core.List.{List}
-use mathlib.Core.Path.{◌≡◌, ap, ◌∙◌, sym}
-use native.Mathlib.Numerals.{add-one}
-use native.Mathlib.Omega.{arith}
+use Prim.Native.Nat.{◌-◌, ◌≤◌}
+use lib.ListN.{length}
+use lib.Seq.{paste}
+use mathlib.Core.Path.{◌≡◌}
 use Rattle.page.proofs.put.bytes.Given as goal
 
 abbrev pub invariant-loop-i : goal.invariant-loop-i
