@@ -1,8 +1,8 @@
 // Prints the answer to the question on standard input about the recording in `run.rec`.
 //
-// Where reading fails nothing is printed; where reading or writing fails a line goes to standard error. The language
-// gives a program no exit status of its own: an answer is known by its first word, `runs` or `refused`, and is whole if
-// it ends with a newline and has as many lines as it says.
+// Where reading fails nothing is printed; where reading or writing fails a line goes to standard error. The program sets
+// no exit status: an answer is known by its first word, `runs` or `refused`, and is whole if it ends with a newline and
+// has as many lines as it says.
 #![tactic(auto)]
 
 mod input;
