@@ -1,4 +1,4 @@
--- THE ASSURED TEXTS: every selection with the kept readings answers them as the recording does (laws/Same: `lasts-same`). Texts with F, G, X, U and W among them,
+-- THE ASSURED TEXTS: every selection with the kept readings answers them as the recording does (laws/Same: `lasts_same`). Texts with F, G, X, U and W among them,
 -- as far as the rule of kept readings carries them. Not every text that is answered alike is one.
 use Rattle.std.specs.Prelude.{ℕ, ◌≡◌, Bool, true, false, ◌&&◌, ◌||◌, not, ◌⊎◌, List}
 use Rattle.grammar.specs.Size.{temporal}

@@ -14,6 +14,6 @@ assured_lines text marks = text_lines text ++ marks_line marks ∷ []
 abbrev pub told : Bool → ℕ
 told b = cond b 1 0
 
--- THE CALL: its refusals; else 1 for an assured text, and 0 for every other. Computed; that `isAssured` is true exactly of `Assured` texts is `assured-test` (laws/Test)
+-- THE CALL: its refusals; else 1 for an assured text, and 0 for every other. Computed; that `is_assured` is true exactly of `Assured` texts is `assured_test` (laws/Test)
 unfoldable pub assured_of : (text marks : List ℕ) → Outcome ℕ
 assured_of text marks = judged (assured_lines text marks) (told (is_assured (marks_of marks) (read text)))

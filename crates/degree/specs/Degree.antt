@@ -52,7 +52,7 @@ degree_lines bytes text g = asking_lines bytes text ++ (target_line g ∷ set_li
 unfoldable pub nearness_of : List ℕ → List ℕ → ℤ → Outcome Value
 nearness_of bytes text g = judged (degree_lines bytes text g) (value_of (answer bytes text) (index g))
 
--- the same with the whole distance, before it is graded: `nearnessOf` is this, valued (laws/Reach, `nearness-valued`)
+-- the same with the whole distance, before it is graded: `nearness_of` is this, valued (laws/Reach, `nearness_valued`)
 unfoldable pub reach_of : List ℕ → List ℕ → ℤ → Outcome Reach
 reach_of bytes text g = judged (degree_lines bytes text g) (reach_in (answer bytes text) (index g))
 

@@ -27,7 +27,7 @@ abbrev pub among : ℕ → List ℕ → Bool
 among b [] = false
 among b (x ∷ w) = eqb x b || among b w
 
--- THE CLASSES BY THEIR CHARACTERS, the same of each byte: laws/Class, `classes-listed`
+-- THE CLASSES BY THEIR CHARACTERS, the same of each byte: laws/Class, `classes_listed`
 unfoldable pub listed_class : ℕ → Class
 listed_class b =
     cond (among b (bytes "0123456789")) Digit

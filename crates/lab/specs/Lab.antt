@@ -22,7 +22,7 @@ pub record LaboratoryText (marks : List ℕ) (p : Text) : Type 0 where
   pub plain : Plain marks p
   pub no_B : ¬ Names p (curve B)
 
--- REFUSAL 14 of a text that was read: it is no laboratory text. Computed; that it meets exactly there is `fourteen-text` (laws/Laboratory)
+-- REFUSAL 14 of a text that was read: it is no laboratory text. Computed; that it meets exactly there is `fourteen_text` (laws/Laboratory)
 abbrev pub text_line : List ℕ → Text → Line
 text_line marks p = line 14 (not_for_laboratory (marks_of marks) p)
 

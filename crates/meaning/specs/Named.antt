@@ -68,7 +68,7 @@ pub data Agreeing (N : Channel → Type 0) : List Reading → List Reading → T
   agree_none : Agreeing N [] []
   agree_more : {x y : Reading} {r s : List Reading} → Agree N x y → Agreeing N r s → Agreeing N (x ∷ r) (y ∷ s)
 
--- THE SAME MEANING of both recordings: at every record, with every number, and in 8 and 9. A text has it of recordings that agree in what it names: `agreeing-same` (laws/Named)
+-- THE SAME MEANING of both recordings: at every record, with every number, and in 8 and 9. A text has it of recordings that agree in what it names: `agreeing_same` (laws/Named)
 pub record SameMeaning (r s : List Reading) (p : Text) : Type 0 where
   pub truth : (z : ℤ) (i : ℕ) → Holds r z p i ↔ Holds s z p i
   pub eight : Overfull r p ↔ Overfull s p

@@ -2,7 +2,7 @@
 use Rattle.std.specs.Prelude.{ℕ, ◌+◌, ◌*◌, ◌/◌, ◌%◌, ◌≤◌, ◌≡◌, cond, List, ◌++◌, ltb, length, take, drop}
 use Rattle.grammar.specs.Size.{most_bytes}
 
--- A limit is given in blocks of 16 bytes, the size of a record. That of a recording is `mostRecords`.
+-- A limit is given in blocks of 16 bytes, the size of a record. That of a recording is `most_records`.
 
 -- the limit of a text: 272 bytes, so that the longest text lies within it with its newline
 abbrev pub text_blocks : ℕ

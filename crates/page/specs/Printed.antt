@@ -5,7 +5,7 @@ use Rattle.question.specs.Question.{question_of}
 use Rattle.page.specs.Page.{page}
 use Rattle.page.specs.Typed.{without_newline}
 
--- the output that the question call is given: a set that is answered fits, so 10 is never printed (laws/Ten, `never-ten`)
+-- the output that the question call is given: a set that is answered fits, so 10 is never printed (laws/Ten, `never_ten`)
 abbrev pub set_room : ℕ
 set_room = 8 * most_runs
 

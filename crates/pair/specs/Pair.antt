@@ -59,7 +59,7 @@ first_apart g (p ∷ ps) = cond (eq_z (sub_ℕ p.later p.earlier) g) (times p.ea
 unfoldable pub first_pair : List Reading → Curve → ℤ → Given
 first_pair r c g = first_apart g (pairs_of (top_times c r))
 
--- ---- what that says of the records: `first-fitting` (laws/Pair)
+-- ---- what that says of the records: `first_fitting` (laws/Pair)
 
 -- t and u are the times of two tops that fit
 pub record OfTops (r : List Reading) (c : Curve) (g : ℤ) (t u : ℕ) : Type 0 where

@@ -1,6 +1,6 @@
 -- DEMAND 3, its last sentence, and document 02, Paper 10: what is right of kept readings is right of the recording, and nothing else (Page
--- `nothing-else`): "the same set, the one that 2 fixes, in the same bytes, or the same refusal, the one that the table of 01 fixes, from kept as
--- from full, given outputs of one length". That it holds is `kept-as-full` (laws/KeptAsFull).
+-- `nothing_else`): "the same set, the one that 2 fixes, in the same bytes, or the same refusal, the one that the table of 01 fixes, from kept as
+-- from full, given outputs of one length". That it holds is `kept_as_full` (laws/KeptAsFull).
 use Rattle.std.specs.Prelude.{ℕ, ◌*◌, ◌≤◌, ◌≡◌, ◌↔◌, length}
 use mathlib.Core.List.{List, [], Memᴰ}
 use Rattle.refusal.specs.Outcome.{Outcome, result}

@@ -1,5 +1,5 @@
 -- Document 02, Papers 11 and 12: A LIVE RUN, call by call, beside its history: "plain lists of readings, the run's and each set moment's". That all of
--- it holds of the live calls is `live-runs` (laws/LiveRuns).
+-- it holds of the live calls is `live_runs` (laws/LiveRuns).
 use Rattle.std.specs.Prelude.{ℕ, ◌*◌, ◌≤◌, ◌≡◌, length}
 use mathlib.Core.List.{List, [], ◌∷◌, ◌++◌, map, Memᴰ}
 use Rattle.refusal.specs.Outcome.{Outcome, result, refused}

@@ -3,7 +3,7 @@
 -- reports: Reports; live runs: LiveRuns). Of a call nothing else need be believed. That the page holds is `page` (laws/Page).
 --
 -- DEMAND 1. "The answer to a call is either the result or one numbered refusal, for every recording, text, list of marks and target that can be
--- handed in": `an-outcome`, `nothing-else`. "A refusal writes nothing into the caller's memory": `Returns`. "and it always comes", "Nothing is read
+-- handed in": `an_outcome`, `nothing_else`. "A refusal writes nothing into the caller's memory": `Returns`. "and it always comes", "Nothing is read
 -- beyond the bytes given, and callers needn't test anything first": the language's. A function is proved only if it ends and each of its reads
 -- lies inside what it was handed; no call of crate `mill` has a `requires`.
 use Rattle.std.specs.Prelude.{ℕ, ◌+◌, ◌-◌, ◌*◌, ◌≤◌, ◌<◌, ◌≡◌, List, [], ◌∷◌, ◌++◌, map, ℤ, pos, length}

@@ -1,5 +1,5 @@
 -- Document 02, Paper 7: "A buyer's laboratory shall question the same kept readings without learning the master's curve." That it holds is
--- `secrecy` (laws/Secrecy); that it is not empty, and that each part of it is needed, `two-recordings` (laws/TwoMasters).
+-- `secrecy` (laws/Secrecy); that it is not empty, and that each part of it is needed, `two_recordings` (laws/TwoMasters).
 use Rattle.std.specs.Prelude.{ℕ, ◌≡◌, List, ℤ}
 use Rattle.refusal.specs.Outcome.{Outcome, refused}
 use Rattle.recording.specs.Reading.{A}

@@ -1,5 +1,5 @@
 -- Document 02, Paper 6, in its words: which additions break which lines of an order sheet, and when what the check finds is true.
--- What the code finds (inner/Found) is true, and nothing else is: laws/Finding `finding-true`, `true-one`.
+-- What the code finds (inner/Found) is true, and nothing else is: laws/Finding `finding_true`, `true_one`.
 use Rattle.std.specs.Prelude.{ℕ, ◌≤◌, ◌<◌, ◌≡◌, true, ◌⊎◌, List, length, get_or}
 use Rattle.recording.specs.Reading.{Reading, adds, nothing}
 use Rattle.sheet.specs.Sheet.{Precedence}

@@ -13,7 +13,7 @@ use Rattle.parser.specs.inner.Rows.{Laid}
 abbrev pub bad_length : List ℕ → Bool
 bad_length s = eqb (length s) 0 || ltb most_bytes (length s)
 
--- 6: the text has no reading. `reading` is the reading by the printed rules: Unique, `reading-is` and `reading-none`
+-- 6: the text has no reading. `reading` is the reading by the printed rules: Unique, `reading_is` and `reading_none`
 abbrev pub no_reading : Parsed → Bool
 no_reading (one t) = false
 no_reading none = true

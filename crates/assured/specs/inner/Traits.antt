@@ -1,4 +1,4 @@
--- What code holds of a node to judge a text, found from what it holds of its children: each notion of Assured as a Bool. That these are those of Assured is `traits-are` (laws/Traits).
+-- What code holds of a node to judge a text, found from what it holds of its children: each notion of Assured as a Bool. That these are those of Assured is `traits_are` (laws/Traits).
 use Rattle.std.specs.Prelude.{ℕ, Bool, true, false, cond, ◌&&◌, ◌||◌, not, List, eqb, leb}
 use Rattle.grammar.specs.Classes.{within}
 use Rattle.grammar.specs.Size.{after_time}

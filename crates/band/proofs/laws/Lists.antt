@@ -1,4 +1,4 @@
--- The ends, over lists of numbers: a run of `bandsOf` holds exactly the numbers with which a test passes of every list within e, and of at least one.
+-- The ends, over lists of numbers: a run of `bands_of` holds exactly the numbers with which a test passes of every list within e, and of at least one.
 use Rattle.std.specs.Prelude.{ℕ, ◌+◌, ◌-◌, ◌*◌, ◌≤◌, ◌<◌, max, min, ◌≡◌, refl, Bool, ◌↔◌, List, [], ◌∷◌, map, leb}
 use Rattle.std.proofs.Common.{arith, sym, ap, ◌∙◌, ⊎_elim, leb-true, le-leb}
 use Rattle.std.proofs.Math.Path.{fun_ext}

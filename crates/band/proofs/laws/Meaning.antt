@@ -1,4 +1,4 @@
--- THE ENDS ARE THE MEANING: a number of the axis lies in a run of `bandsOf` exactly where it is certain, or possible.
+-- THE ENDS ARE THE MEANING: a number of the axis lies in a run of `bands_of` exactly where it is certain, or possible.
 use Rattle.std.specs.Prelude.{ℕ, ◌+◌, ◌≤◌, ◌≡◌, refl, Bool, true, false, ◌&&◌, ◌||◌, not, ◌↔◌, List, [], ◌∷◌, map, ltb}
 use Rattle.std.proofs.Common.{sym, ap, ap₂, ◌∙◌, subst}
 use Rattle.std.proofs.Math.Bool.{So}

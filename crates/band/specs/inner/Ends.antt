@@ -1,5 +1,5 @@
 -- Document 02, Paper 9: the ends of the two sets, as they are computed. Numbers of the axis stand by their indices. That a run holds exactly the numbers
--- that are certain, or possible, is `bands-mean` (laws/Meaning).
+-- that are certain, or possible, is `bands_mean` (laws/Meaning).
 use Rattle.std.specs.Prelude.{ℕ, ◌+◌, ◌-◌, ◌*◌, max, min, Bool, true, List, [], ◌∷◌}
 use Rattle.number.specs.Axis.{origin, axis}
 use Rattle.recording.specs.Condition.{when}

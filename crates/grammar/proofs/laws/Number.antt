@@ -66,7 +66,7 @@ module _ (s : List ℕ) where
       let c : drop i s ≡ d ∷ drop (i + 1) s = rw (add-one i) (drop-cons s i 0 l ∙ rw st.0) in
       ap digit_run c ∙ run_cons d (drop (i + 1) s) a.0 ∙ ap (λ x. d ∷ x) r
 
-  -- what `unsignedAt` finds
+  -- what `unsigned_at` finds
   pub data Unsigned (i : ℕ) : ℕ → ℕ → Type 0 where
     naught : byte s i ≡ 48 → Unsigned i 0 (i + 1)
     counted : (d : ℕ) (w : List ℕ) → Positive origin d w → Stands s i (d ∷ w) → Unsigned i (decimal (d ∷ w)) (i + length (d ∷ w))

@@ -1,4 +1,4 @@
--- Refusal 14 of a text, as the code finds it: one of its nodes is barred. That no other text is a laboratory text is `fourteen-text` (laws/Laboratory).
+-- Refusal 14 of a text, as the code finds it: one of its nodes is barred. That no other text is a laboratory text is `fourteen_text` (laws/Laboratory).
 use Rattle.std.specs.Prelude.{ℕ, Bool, true, false, cond, not, ◌&&◌, ◌||◌, List, eqb, leb, ltb}
 use Rattle.recording.specs.Condition.{some_of}
 use Rattle.recording.specs.Reading.{A, B}

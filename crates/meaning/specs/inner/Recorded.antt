@@ -1,4 +1,4 @@
--- Document 01, "The recording": what the readings of an accepted recording are (laws/Recorded: `accepted-recorded`).
+-- Document 01, "The recording": what the readings of an accepted recording are (laws/Recorded: `accepted_recorded`).
 use Rattle.std.specs.Prelude.{ℕ, suc, ◌≤◌, ◌<◌, List, length}
 use Rattle.std.proofs.Math.Bool.{So}
 use Rattle.recording.specs.Reading.{Reading, Curve, value}

@@ -1,5 +1,5 @@
 -- The meaning as a Bool, which contracts of code cite: `val r n p i` where p holds of the coded recording r at record i with the number of index n put in.
--- That it is the meaning is the law `val-holds` (laws/Truth), and that the refusals are those of Overfull are `eight-overfull` and `nine-tops` (laws/Overfull).
+-- That it is the meaning is the law `val_holds` (laws/Truth), and that the refusals are those of Overfull are `eight_overfull` and `nine_tops` (laws/Overfull).
 use Rattle.std.specs.Prelude.{ℕ, zero, suc, ◌+◌, ◌-◌, min, Bool, true, false, cond, not, ◌&&◌, ◌||◌, List, [], ◌∷◌, leb, ltb, eqb, length, get_or}
 use Rattle.number.specs.Axis.{origin}
 use Rattle.runs.specs.Runs.{run_count, most_runs}

@@ -69,7 +69,7 @@ module _ (marks full held : List ℕ) (known : Recorded (readings full)) (a : Ac
           (assured_same (marks_of marks) (readings full) s.mask s.includes known (subst InRange e (accepted_recorded held a).in-range) (some_readings full full-some)
           (subst (λ (q : List Reading). 0 < length q) e (some_readings held some)) t (few_nodes text n t r) (h n t r))
 
--- ---- OF AN ACCEPTED RECORDING: as `stand-question` and so on of a plain text
+-- ---- OF AN ACCEPTED RECORDING: as `stand_question` and so on of a plain text
 
 module _ (marks full held : List ℕ) (a : Accepted full) (s : Selection (marks_of marks) full held) (text : List ℕ) (h : AssuredText marks text) where
   accepted_held : Accepted held

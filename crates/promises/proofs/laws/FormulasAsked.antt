@@ -1,4 +1,4 @@
--- Asked alone, each question that has a formula and its formula have the same outcome: from the readings (`formula-holds`) to the calls.
+-- Asked alone, each question that has a formula and its formula have the same outcome: from the readings (`formula_holds`) to the calls.
 use Prim.Native.Nat.{ℕ, ◌<◌}
 use Rattle.std.proofs.Common.{arith, sym, ap, ◌∙◌, subst, ⊎_elim}
 use Rattle.std.specs.Prelude.{◌≡◌, refl, Bool, false, ℤ, length}

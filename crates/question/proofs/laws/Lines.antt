@@ -1,4 +1,4 @@
--- The reading of a text is the one that the call takes, and the lines 6 to 9 of the table meet where 01 says (`lines-mean`).
+-- The reading of a text is the one that the call takes, and the lines 6 to 9 of the table meet where 01 says (`lines_mean`).
 use Rattle.std.specs.Prelude.{ℕ, ◌<◌, ◌≡◌, refl, Bool, true, false, ◌||◌, ◌⊎◌, ◌↔◌, List, ltb}
 use Rattle.std.proofs.Common.{arith, sym, ap, subst, true≢false, inl, inr, ⊎_elim, ltb-true, lt-ltb}
 use Rattle.std.proofs.Math.Bool.{So}
