@@ -1,0 +1,36 @@
+-- The answer of `degree::degree`, told: its place fits in the low half, and its floats are numbers.
+use Prim.Native.Nat.{ℕ}
+use mathlib.Core.Path.{◌≡◌, sym, subst}
+use mathlib.Core.List.{List}
+use lib.IntN.{ℤ}
+use mir.Syntax.{w64}
+use mir.ValLaws.{to_z-of_z}
+use Rattle.refusal.specs.Outcome.{Outcome}
+use Rattle.degree.specs.Degree.{Value, nearness_of, outcome_of}
+use Rattle.degree.specs.declared.Nearness.{Nearness}
+use Rattle.reply.specs.Reply.{InHalf}
+use Rattle.boundary.specs.Boundary.{value_told}
+use Rattle.boundary.specs.inner.Fits.{NumbersIn}
+use Rattle.boundary.proofs.laws.Boundary.{degrees_same}
+use Rattle.promises.proofs.laws.InHalf.{degree_in_half, degree_numbers}
+use borrow.Author.Rules.{rules}
+use Rattle.promises.specs.Page as call
+use Rattle.promises.specs.inner.Made.{two}
+use Rattle.promises.proofs.laws.Computed.{every_call}
+use Rattle.mill.proofs.mill_degree.Goals as goal
+
+-- the promise, of the target itself
+asked : (bytes text : List ℕ) (g h : ℤ) (n : Nearness) → h ≡ g → outcome_of n ≡ nearness_of bytes text h → outcome_of n ≡ nearness_of bytes text g
+asked bytes text g h n e a = subst (λ (z : ℤ). outcome_of n ≡ nearness_of bytes text z) e a
+
+pub tell_degree-requires : goal.tell_degree-requires
+tell_degree-requires c =
+    let e = asked c.args.rec.now c.args.text.now c.args.target _ c.degree-near.result (to_z-of_z w64 c.args.target c.ranges.target) c.degree-near.ensures in (
+      subst (λ (o : Outcome Value). InHalf (value_told o)) (sym e) (degree_in_half c.args.rec.now c.args.text.now c.args.target),
+      subst NumbersIn (sym e) (degree_numbers c.args.rec.now c.args.text.now c.args.target),
+    )
+
+pub returns : goal.returns
+returns c =
+    every_call (call.degree c.args.text.now c.args.target) c.args.rec.now _ _ _
+    (two (degrees_same (asked c.args.rec.now c.args.text.now c.args.target _ c.degree-near.result (to_z-of_z w64 c.args.target c.ranges.target) c.degree-near.ensures) c.tell_degree.ensures))
