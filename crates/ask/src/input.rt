@@ -1,9 +1,9 @@
 // The two inputs, read to their ends.
-ghost use Rattle.std.specs.Prelude.{◌≡◌, ◌≤◌, length, IsSome};
+ghost use Rattle.std.specs.Prelude.{◌≡◌, ◌≤◌, length, pos, IsSome};
 ghost use Rattle.io.specs.Counts.{IsPrefixLen};
-ghost use Rattle.page.specs.Intake.{spare};
+ghost use Rattle.page.specs.Intake.{TakesIn, spare};
 ghost use Rattle.ask.specs.declared.input.State.TheVariants.{Failed};
-ghost use Rattle.ask.specs.Reading.{is_more, is_ended, Taken, Turn, Turns, Recorded};
+ghost use Rattle.ask.specs.Reading.{state_of, is_more, is_ended, Turn, Turns, Recorded};
 
 use std::fs;
 use std::io::{Error, ErrorKind, Read};
@@ -28,47 +28,31 @@ pub struct Input {
 pub fn is_whole(input: Input) -> bool
     ensures { result ≡ is_ended input.state }
 {
-    let state = input.state;
-    match state {
-        State::Ended => true,
-        State::More => false,
-        State::Failed => false,
-    }
+    matches!(input.state, State::Ended)
 }
 
 // Whether there may be more of it.
 fn goes_on(input: Input) -> bool
     ensures { result ≡ is_more input.state }
 {
-    let state = input.state;
-    match state {
-        State::More => true,
-        State::Ended => false,
-        State::Failed => false,
-    }
+    matches!(input.state, State::More)
 }
 
-// Takes in what a read handed over, `got` bytes of the buffer, behind the n bytes that are kept.
-fn take_read(store: &mut [u8], n: usize, buffer: &[u8], got: isize) -> Input
+// Takes in the piece that a read handed over, behind the n bytes that are kept. An empty piece is the end.
+fn take_read(store: &mut [u8], n: usize, piece: &[u8]) -> Input
     requires { (spare ≤ length store.old) × IsPrefixLen n store.old }
-    ensures taken { Taken store.old n buffer.now got store.new result }
+    ensures told { result.state ≡ state_of (pos (length piece.now)) }
+    ensures takes { TakesIn store.old n piece.now store.new result.kept }
     ensures prefix_len { IsPrefixLen result.kept store.new }
 {
-    if got < 0 {
-        return Input {
-            kept: n,
-            state: State::Failed,
-        };
-    }
-    if got == 0 {
+    if piece.is_empty() {
         return Input {
             kept: n,
             state: State::Ended,
         };
     }
-    let size = io::count(got, buffer);
     Input {
-        kept: page::intake::take_in(store, n, &buffer[..size]),
+        kept: page::intake::take_in(store, n, piece),
         state: State::More,
     }
 }
@@ -86,18 +70,20 @@ fn read_on<R: Read>(
     ensures told { result.state ≡ Failed → IsSome failure.new }
 {
     let mut buffer = io::buffer();
-    let got = match reader.read(&mut buffer) {
-        Ok(size) => size as isize,
+    match reader.read(&mut buffer) {
+        Ok(size) => take_read(store, n, &buffer[..size]),
         Err(error) => {
             *failure = Some(error);
-            -1
+            Input {
+                kept: n,
+                state: State::Failed,
+            }
         }
-    };
-    take_read(store, n, &buffer, got)
+    }
 }
 
-// Reads to the end. A proved loop has to end, and nothing says that an input does: so the turns are counted down,
-// from a number that no run uses up. An input that goes on after that is not whole.
+// Reads to the end. A proved loop has to end, and nothing says that an input does: so the turns are counted,
+// up to a number that no run comes to. An input that goes on after that is not whole.
 pub fn read_all<R: Read>(reader: &mut R, failure: &mut Option<Error>, store: &mut [u8]) -> Input
     requires { spare ≤ length store.old }
     ensures turns { Turns store.old store.new result }
@@ -105,14 +91,12 @@ pub fn read_all<R: Read>(reader: &mut R, failure: &mut Option<Error>, store: &mu
     ensures told { result.state ≡ Failed → IsSome failure.new }
 {
     let mut kept: usize = 0;
-    let mut turns = u64::MAX;
-    while turns > 0 {
+    for _ in 0..u64::MAX {
         let next = read_on(reader, failure, store, kept);
         kept = next.kept;
         if !goes_on(next) {
             return next;
         }
-        turns -= 1;
     }
     Input {
         kept,

@@ -1,5 +1,5 @@
 // The traits of a leaf, from its row. Codes of a field: 0 A, 1 B, 2 T; of a relation: 0 `>=`, 1 `<=`, 2 `>`, 3 `<`, 4 `=`.
-ghost use Rattle.std.specs.Prelude.{◌≡◌, true, false, ◌||◌, ◌<◌, eqb};
+ghost use Rattle.std.specs.Prelude.{◌≡◌, true, false, ◌<◌};
 ghost use Rattle.grammar.specs.inner.Table.{field_of, relation_of, unary_from};
 ghost use Rattle.leaves.specs.inner.Leaf.{leaf_of};
 ghost use Rattle.marks.specs.Marks.{marks_of};
@@ -18,32 +18,25 @@ fn is_curve(field: u32) -> bool
     field < 2
 }
 
-// Whether a code is one of two.
-fn is_one_of(code: u32, a: u32, b: u32) -> bool
-    ensures { result ≡ (eqb code a || eqb code b) }
-{
-    (code == a) | (code == b)
-}
-
 // Whether `A>B` and `A<=B` compare by this.
 fn is_side(relation: u32) -> bool
     ensures { result ≡ of_side (relation_of relation) }
 {
-    is_one_of(relation, 1, 2)
+    matches!(relation, 1 | 2)
 }
 
 // Whether a time that has the relation to a number has it at later readings too.
 fn stays_later(relation: u32) -> bool
     ensures { result ≡ of_time (relation_of relation) true }
 {
-    is_one_of(relation, 0, 2)
+    matches!(relation, 0 | 2)
 }
 
 // Whether it had it at earlier ones.
 fn was_earlier(relation: u32) -> bool
     ensures { result ≡ of_time (relation_of relation) false }
 {
-    is_one_of(relation, 1, 3)
+    matches!(relation, 1 | 3)
 }
 
 fn is_eq(relation: u32) -> bool

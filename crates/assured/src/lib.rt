@@ -16,15 +16,7 @@ mod traits;
 
 use grammar::kinds;
 use refusal::Refusal;
-use text::Answer;
 use traits::Traits;
-
-// Whether the text is assured, or the refusal.
-#[derive(Drop)]
-pub enum Verdict {
-    Told(bool),
-    Refused(Refusal),
-}
 
 // The traits of node n.
 fn traits_at(table: &[u32], count: usize, marks: &[u8], n: usize) -> Traits
@@ -36,50 +28,47 @@ fn traits_at(table: &[u32], count: usize, marks: &[u8], n: usize) -> Traits
     if kind < kinds::NOT {
         return leaf::leaf(row, marks);
     }
-    let first = traits_at(table, count, marks, evaluation::slots::size(row.first));
+    let first = traits_at(table, count, marks, row.first as usize);
     if kind < kinds::OR {
         return operators::unary(kind, first);
     }
-    let second = traits_at(table, count, marks, evaluation::slots::size(row.second));
+    let second = traits_at(table, count, marks, row.second as usize);
     operators::binary(kind, first, second)
 }
 
 // The verdict on a text of n nodes that was read.
-fn judge(table: &[u32], n: usize, marks: &[u8]) -> Verdict
+fn judge(table: &[u32], n: usize, marks: &[u8]) -> Result<bool, Refusal>
     requires { Falling table.now n × (4 * n ≤ length table.now) × (0 < n) }
     ensures { Judges table.now n marks.now result }
 {
     if marks::are_bad(marks) {
-        return Verdict::Refused(Refusal::BadMarks);
+        return Err(Refusal::BadMarks);
     }
     let root = traits_at(table, n, marks, n - 1);
-    Verdict::Told(traits::assured(root))
+    Ok(traits::assured(root))
 }
 
 // THE CALL: whether kept readings answer the text as the recording did, under these marks.
-pub fn assured(text: &[u8], marks: &[u8]) -> Verdict
+pub fn assured(text: &[u8], marks: &[u8]) -> Result<bool, Refusal>
     ensures { verdict_of result ≡ assured_of text.now marks.now }
 {
     let mut table = [0u32; text::TABLE_SIZE];
-    let answer = text::read(text, &mut table);
-    match answer {
-        Answer::Refused(x) => Verdict::Refused(x),
-        Answer::Nodes(n) => judge(&table, n, marks),
-    }
+    let n = text::read(text, &mut table)?;
+    judge(&table, n, marks)
 }
 
 // The number that stands for the verdict: 1, 0, or the refusal.
-pub fn tell(verdict: Verdict) -> u64
+pub fn tell(verdict: Result<bool, Refusal>) -> u64
     requires { InHalf (verdict_of verdict) }
     ensures { result ≡ packed (verdict_of verdict) }
 {
     match verdict {
-        Verdict::Told(yes) => {
+        Ok(yes) => {
             if yes {
                 return 1;
             }
             0
         }
-        Verdict::Refused(x) => reply::refused(x),
+        Err(x) => reply::refused(x),
     }
 }

@@ -49,15 +49,10 @@ fn not(p: Traits) -> Traits
         even: (!p.temporal | (p.drifts_false & p.drifts_true | (p.fixed_false | p.fixed_true)))
             & p.even,
         nameless: p.nameless,
-        slope: false,
         not_slope: p.slope,
-        bound: false,
-        after: false,
         not_after: p.after,
-        atomic: false,
-        somewhere: false,
-        throughout: false,
         firstly: p.firstly,
+        ..Traits::NONE
     }
 }
 

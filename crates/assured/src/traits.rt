@@ -24,52 +24,11 @@ pub struct Traits {
     pub firstly: bool,
 }
 
-// An atom, by its kind.
-#[derive(Drop)]
-pub struct Kind {
-    pub pigment: bool,
-    pub side: bool,
-    pub up: bool,
-    pub down: bool,
-    pub slope: bool,
-    pub bound: bool,
-    pub after: bool,
-    pub named: bool,
-}
-
-// The traits of an atom.
-pub fn of_atom(kind: Kind) -> Traits
-    ensures { result ≡ atom_traits kind }
-{
-    Traits {
+impl Traits {
+    // None of them.
+    pub const NONE: Self = Traits {
         temporal: false,
-        marked: true,
-        fixed_true: false,
-        fixed_false: kind.pigment,
-        drifts_true: kind.side | (kind.pigment | kind.up),
-        drifts_false: kind.side | kind.down,
-        steady: true,
-        even: true,
-        nameless: !kind.named,
-        slope: kind.slope,
-        not_slope: false,
-        bound: kind.bound,
-        after: kind.after,
-        not_after: false,
-        atomic: true,
-        somewhere: kind.bound,
-        throughout: kind.bound,
-        firstly: true,
-    }
-}
-
-// The traits of a listed question.
-pub fn of_listed(marked: bool) -> Traits
-    ensures { result ≡ listed_traits marked }
-{
-    Traits {
-        temporal: false,
-        marked,
+        marked: false,
         fixed_true: false,
         fixed_false: false,
         drifts_true: false,
@@ -86,6 +45,52 @@ pub fn of_listed(marked: bool) -> Traits
         somewhere: false,
         throughout: false,
         firstly: false,
+    };
+}
+
+// An atom, by its kind.
+#[derive(Clone, Copy)]
+pub struct Kind {
+    pub pigment: bool,
+    pub side: bool,
+    pub up: bool,
+    pub down: bool,
+    pub slope: bool,
+    pub bound: bool,
+    pub after: bool,
+    pub named: bool,
+}
+
+// The traits of an atom.
+pub fn of_atom(kind: Kind) -> Traits
+    ensures { result ≡ atom_traits kind }
+{
+    Traits {
+        marked: true,
+        fixed_false: kind.pigment,
+        drifts_true: kind.side | (kind.pigment | kind.up),
+        drifts_false: kind.side | kind.down,
+        steady: true,
+        even: true,
+        nameless: !kind.named,
+        slope: kind.slope,
+        bound: kind.bound,
+        after: kind.after,
+        atomic: true,
+        somewhere: kind.bound,
+        throughout: kind.bound,
+        firstly: true,
+        ..Traits::NONE
+    }
+}
+
+// The traits of a listed question.
+pub fn of_listed(marked: bool) -> Traits
+    ensures { result ≡ listed_traits marked }
+{
+    Traits {
+        marked,
+        ..Traits::NONE
     }
 }
 
@@ -113,15 +118,10 @@ pub fn connect(
         steady: p.steady & q.steady,
         even: (!temporal | (rising & sinking | (on | off))) & (p.even & q.even),
         nameless: p.nameless & q.nameless,
-        slope: false,
-        not_slope: false,
-        bound: false,
-        after: false,
-        not_after: false,
-        atomic: false,
         somewhere,
         throughout,
         firstly: p.firstly & q.firstly,
+        ..Traits::NONE
     }
 }
 
@@ -140,22 +140,14 @@ pub fn of_temporal(
     Traits {
         temporal: true,
         marked,
-        fixed_true: false,
-        fixed_false: false,
         drifts_true: drifts,
         drifts_false: drifts,
         steady,
         even,
         nameless,
-        slope: false,
-        not_slope: false,
-        bound: false,
-        after: false,
-        not_after: false,
-        atomic: false,
         somewhere,
-        throughout: false,
         firstly: firstly | steady & nameless,
+        ..Traits::NONE
     }
 }
 

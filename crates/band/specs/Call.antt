@@ -1,5 +1,6 @@
 -- Document 02, Paper 9: the band call, from bytes to its outcome.
-use Rattle.std.specs.Prelude.{ℕ, Bool, true, false, not, List, [], ◌∷◌, ◌++◌, ltb, ℤ, pos, negsuc}
+use Rattle.refusal.specs.declared.Refusal.{Refusal}
+use Rattle.std.specs.Prelude.{ℕ, Bool, true, false, not, List, [], ◌∷◌, ◌++◌, ltb, ℤ, pos, negsuc, Result, Ok, Err, Option, Some, None}
 use Rattle.refusal.specs.Outcome.{Outcome, result, refused, Line, line, judged}
 use Rattle.refusal.specs.Numbers.{number_of, place_of}
 use Rattle.grammar.specs.Syntax.{Listed, high, low, lowafter, capafter, peaks, dips, cross, crossup, dose, ampl, gaps, steps, lag, Text, atom, listed, or, and, neg, finally, globally, next, until, weak_until}
@@ -9,11 +10,8 @@ use Rattle.question.specs.Question.{read, asking_lines}
 use Rattle.band.specs.Band.{widest}
 use Rattle.band.specs.Means.{Part, empty, run, Bands}
 use Rattle.band.specs.inner.Ends.{bands_of}
-use Rattle.band.specs.declared.Part.{Part as CodePart}
-use Rattle.band.specs.declared.Part.TheVariants as part
+use Rattle.band.specs.declared.Run.{Run}
 use Rattle.band.specs.declared.Bands.{Bands as CodeBands}
-use Rattle.band.specs.declared.InBand.{InBand}
-use Rattle.band.specs.declared.InBand.TheVariants as answer
 
 -- REFUSAL 16: e is not 0 to 1,000,000
 abbrev pub bad_band : ℤ → Bool
@@ -70,14 +68,15 @@ unfoldable pub band_of : List ℕ → List ℕ → ℤ → Outcome Bands
 band_of bytes text e =
     judged (asking_lines bytes text ++ (width_line e ∷ extreme_line (read text) ∷ [])) (bands_of (the_question (read text)) (width_of e) (coded bytes))
 
--- the number, the place and the values of each answer
-abbrev pub part_of : CodePart → Part
-part_of part.Empty = empty
-part_of (part.Run l h) = run l h
+-- the set that an answer of the code stands for
+abbrev pub part_of : Option Run → Part
+part_of None = empty
+part_of (Some r) = run r.low r.high
 
 abbrev pub sets_of : CodeBands → Bands
 sets_of b = record { certain = part_of b.certain; possible = part_of b.possible }
 
-abbrev pub outcome_of : InBand → Outcome Bands
-outcome_of (answer.Sets b) = result (sets_of b)
-outcome_of (answer.Refused x) = refused (number_of x) (place_of x)
+-- the two sets, or the refusal's number and place
+abbrev pub outcome_of : Result CodeBands Refusal → Outcome Bands
+outcome_of (Ok b) = result (sets_of b)
+outcome_of (Err x) = refused (number_of x) (place_of x)

@@ -8,7 +8,7 @@ ghost use Rattle.band.specs.Band.{widest};
 ghost use Rattle.band.specs.inner.Ends as ends;
 ghost use Rattle.band.specs.Call.{sets_of};
 
-use crate::{Bands, Part};
+use crate::{Bands, Run};
 use leaves::extremes;
 use number::ORIGIN;
 use runset::RunSet;
@@ -18,8 +18,14 @@ fn upto(certain: u32, possible: u32) -> Bands
     ensures { sets_of result ≡ ends.two_sets (ends.upto certain) (ends.upto possible) }
 {
     Bands {
-        certain: Part::Run(0, certain),
-        possible: Part::Run(0, possible),
+        certain: Some(Run {
+            low: 0,
+            high: certain,
+        }),
+        possible: Some(Run {
+            low: 0,
+            high: possible,
+        }),
     }
 }
 
@@ -28,8 +34,14 @@ fn from(certain: u32, possible: u32) -> Bands
     ensures { sets_of result ≡ ends.two_sets (ends.from certain) (ends.from possible) }
 {
     Bands {
-        certain: Part::Run(certain, RunSet::HIGH),
-        possible: Part::Run(possible, RunSet::HIGH),
+        certain: Some(Run {
+            low: certain,
+            high: RunSet::HIGH,
+        }),
+        possible: Some(Run {
+            low: possible,
+            high: RunSet::HIGH,
+        }),
     }
 }
 
@@ -57,8 +69,8 @@ pub fn lowafter(rec: &[u8], curve: usize, after: u32, e: u32) -> Bands
     let today = extremes::lowafter(rec, curve, after);
     if today.high < today.low {
         return Bands {
-            certain: Part::Empty,
-            possible: Part::Empty,
+            certain: None,
+            possible: None,
         };
     }
     from(today.low + e, today.low - e)

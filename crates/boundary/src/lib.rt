@@ -12,49 +12,55 @@ ghost use Rattle.reply.specs.Reply.{InHalf};
 ghost use Rattle.boundary.specs.Boundary.{Degrees, value_told, Pairs, pair_told, InBands, band_told, filled, low_after, high_after, Orders, finding_told};
 ghost use Rattle.boundary.specs.inner.Fits.{NumbersIn, EndsIn};
 
+use band::{Bands, Run};
+use degree::Nearness;
+use pair::TopPair;
+use refusal::Refusal;
+use sheet::Breach;
+
 // 0 where the target is met, 1 where it is missed and its distance and degree are written, 2 where there is no value, or the refusal.
-pub fn tell_degree(near: degree::Nearness, distance: &mut u64, degree: &mut u64) -> u64
+pub fn tell_degree(near: Result<Nearness, Refusal>, distance: &mut u64, degree: &mut u64) -> u64
     requires { InHalf (value_told (valueIn near)) × NumbersIn (valueIn near) }
     ensures { Degrees (valueIn near) distance.old degree.old result distance.new degree.new }
 {
     match near {
-        degree::Nearness::Met => 0,
-        degree::Nearness::Short(d, k) => {
+        Ok(Nearness::Met) => 0,
+        Ok(Nearness::Short(d, k)) => {
             *distance = binary64::bits(d);
             *degree = binary64::bits(k);
             1
         }
-        degree::Nearness::NoValue => 2,
-        degree::Nearness::Refused(x) => reply::refused(x),
+        Ok(Nearness::NoValue) => 2,
+        Err(x) => reply::refused(x),
     }
 }
 
 // 1 where the times of a pair are written, 0 where there is none, or the refusal.
-pub fn tell_pair(found: pair::TopPair, earlier: &mut u32, later: &mut u32) -> u64
+pub fn tell_pair(found: Result<Option<TopPair>, Refusal>, earlier: &mut u32, later: &mut u32) -> u64
     requires { InHalf (pair_told (pairIn found)) }
     ensures { Pairs (pairIn found) earlier.old later.old result earlier.new later.new }
 {
     match found {
-        pair::TopPair::Times(t, u) => {
-            *earlier = t;
-            *later = u;
+        Ok(Some(tops)) => {
+            *earlier = tops.earlier;
+            *later = tops.later;
             1
         }
-        pair::TopPair::Nothing => 0,
-        pair::TopPair::Refused(x) => reply::refused(x),
+        Ok(None) => 0, // no pair fits
+        Err(x) => reply::refused(x),
     }
 }
 
 // Writes the ends of a set that is not empty, each by its 32 bits. Returns 1 where it is not empty, else 0.
-fn put_ends(part: band::Part, low: &mut u32, high: &mut u32) -> u64
+fn put_ends(part: Option<Run>, low: &mut u32, high: &mut u32) -> u64
     requires { EndsOnAxis (part_of part) }
     ensures { (result ≡ filled (part_of part)) × (low.new ≡ low_after (part_of part) low.old) × (high.new ≡ high_after (part_of part) high.old) }
 {
     match part {
-        band::Part::Empty => 0,
-        band::Part::Run(l, h) => {
-            *low = number::bits_at(l);
-            *high = number::bits_at(h);
+        None => 0,
+        Some(run) => {
+            *low = number::bits_at(run.low);
+            *high = number::bits_at(run.high);
             1
         }
     }
@@ -62,7 +68,7 @@ fn put_ends(part: band::Part, low: &mut u32, high: &mut u32) -> u64
 
 // A bit for each of the two sets that is not empty, whose ends are then written, or the refusal.
 pub fn tell_bands(
-    answer: band::InBand,
+    answer: Result<Bands, Refusal>,
     certain_low: &mut u32,
     certain_high: &mut u32,
     possible_low: &mut u32,
@@ -72,29 +78,29 @@ pub fn tell_bands(
     ensures { InBands (bandsIn answer) certain_low.old certain_high.old possible_low.old possible_high.old result certain_low.new certain_high.new possible_low.new possible_high.new }
 {
     match answer {
-        band::InBand::Sets(b) => {
+        Ok(b) => {
             let certain = b.certain;
             let possible = b.possible;
             let first = put_ends(certain, certain_low, certain_high);
             let second = put_ends(possible, possible_low, possible_high);
             first + 2 * second
         }
-        band::InBand::Refused(x) => reply::refused(x),
+        Err(x) => reply::refused(x),
     }
 }
 
 // 0 where every line of the sheet is met, 1 where one is broken and the time and the line are written, or the refusal.
-pub fn tell_order(found: sheet::Ordered, time: &mut u32, line: &mut u32) -> u64
+pub fn tell_order(found: Result<Option<Breach>, Refusal>, time: &mut u32, line: &mut u32) -> u64
     requires { InHalf (finding_told (findingIn found)) }
     ensures { Orders (findingIn found) time.old line.old result time.new line.new }
 {
     match found {
-        sheet::Ordered::Met => 0,
-        sheet::Ordered::Broken(t, k) => {
-            *time = t;
-            *line = k;
+        Ok(None) => 0, // every line is met
+        Ok(Some(breach)) => {
+            *time = breach.time;
+            *line = breach.line;
             1
         }
-        sheet::Ordered::Refused(x) => reply::refused(x),
+        Err(x) => reply::refused(x),
     }
 }

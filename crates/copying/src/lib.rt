@@ -10,10 +10,9 @@ pub fn copy_bytes(s: &[u8], from: usize, n: usize, out: &mut [u8], to: usize)
     requires { (from + n ≤ length s.now) × (to + n ≤ length out.old) }
     ensures { out.new ≡ put to (part from n s.now) out.old }
 {
-    let mut i: usize = 0;
-    while i < n {
+    // `copy_from_slice` calls memmove; the archive needs memcpy and memset alone.
+    for i in 0..n {
         out[to + i] = s[from + i];
-        i += 1;
     }
 }
 
@@ -22,10 +21,8 @@ pub fn copy_blocks(s: &[u8], from: usize, n: usize, out: &mut [u8], to: usize)
     requires { (from + 16 * n ≤ length s.now) × (to + 16 * n ≤ length out.old) }
     ensures { out.new ≡ put to (part from (16 * n) s.now) out.old }
 {
-    let mut i: usize = 0;
-    while i < n {
+    for i in 0..n {
         recording::put16(out, to + 16 * i, recording::take16(s, from + 16 * i));
-        i += 1;
     }
 }
 
@@ -34,11 +31,7 @@ pub fn copy_within(s: &mut [u8], from: usize, n: usize, to: usize)
     requires { (from + 16 * n ≤ length s.old) × (to + 16 * n ≤ length s.old) × Apart from to (16 * n) }
     ensures { s.new ≡ put to (part from (16 * n) s.old) s.old }
 {
-    let mut i: usize = 0;
-    while i < n {
-        recording::put16(s, to + 16 * i, recording::take16(s, from + 16 * i));
-        i += 1;
-    }
+    s.copy_within(from..from + 16 * n, to);
 }
 
 // Writes four numbers, of four bytes each, from `at` on.

@@ -1,5 +1,6 @@
 -- Document 01, "Degree and pair": the degree call, from bytes to its outcome.
-use Rattle.std.specs.Prelude.{ℕ, Bool, cond, List, ◌∷◌, ◌++◌, eqb, ltb, ℤ, Float}
+use Rattle.refusal.specs.declared.Refusal.{Refusal}
+use Rattle.std.specs.Prelude.{ℕ, Bool, cond, List, ◌∷◌, ◌++◌, eqb, ltb, ℤ, Float, Result, Ok, Err, Option, Some, None}
 use Rattle.number.specs.Axis.{axis}
 use Rattle.refusal.specs.Outcome.{Outcome, result, refused, Line, line, judged}
 use Rattle.refusal.specs.Numbers.{number_of, place_of}
@@ -8,8 +9,6 @@ use Rattle.meaning.specs.inner.Coded.{index}
 use Rattle.question.specs.Question.{read, answer, asking_lines, set_lines}
 use Rattle.binary64.specs.Degree.{distance_of, degree_of}
 use Rattle.targets.specs.Target.{off_axis}
-use Rattle.degree.specs.declared.Reached.{Reached}
-use Rattle.degree.specs.declared.Reached.TheVariants as reached
 use Rattle.degree.specs.declared.Nearness.{Nearness}
 use Rattle.degree.specs.declared.Nearness.TheVariants as nearness
 
@@ -56,14 +55,23 @@ nearness_of bytes text g = judged (degree_lines bytes text g) (value_of (answer 
 unfoldable pub reach_of : List ℕ → List ℕ → ℤ → Outcome Reach
 reach_of bytes text g = judged (degree_lines bytes text g) (reach_in (answer bytes text) (index g))
 
--- the number, the place and the values of each answer
-abbrev pub outcome_of : Nearness → Outcome Value
-outcome_of nearness.Met = result met
-outcome_of (nearness.Short x k) = result (short x k)
-outcome_of nearness.NoValue = result no_value
-outcome_of (nearness.Refused x) = refused (number_of x) (place_of x)
+-- the value that an answer of the code stands for
+abbrev pub value_in : Nearness → Value
+value_in nearness.Met = met
+value_in (nearness.Short x k) = short x k
+value_in nearness.NoValue = no_value
 
-abbrev pub reached_of : Reached → Outcome Reach
-reached_of (reached.Away d) = result (away d)
-reached_of reached.Nowhere = result nowhere
-reached_of (reached.Refused x) = refused (number_of x) (place_of x)
+-- the value, or the refusal's number and place
+abbrev pub outcome_of : Result Nearness Refusal → Outcome Value
+outcome_of (Ok n) = result (value_in n)
+outcome_of (Err x) = refused (number_of x) (place_of x)
+
+-- the distance of the nearest member, if there is one
+abbrev pub reach_to : Option ℕ → Reach
+reach_to (Some d) = away d
+reach_to None = nowhere
+
+-- the distance, or the refusal's number and place
+abbrev pub reached_of : Result (Option ℕ) Refusal → Outcome Reach
+reached_of (Ok r) = result (reach_to r)
+reached_of (Err x) = refused (number_of x) (place_of x)

@@ -10,6 +10,9 @@ use borrow.Author.Tests.{le-leb, lt-leb, lt-ltb, le-ltb, ltb-true}
 use Rattle.number.specs.Axis.{axis}
 use Rattle.number.proofs.laws.Boolean.{and_left}
 use Rattle.runs.specs.Runs.{run_count, most_runs}
+use Rattle.std.specs.Prelude.{Result, Ok}
+use Rattle.std.specs.Result.{is_err}
+use Rattle.runs.specs.declared.TooManyRuns.{TooManyRuns}
 use Rattle.runs.specs.Set.{member, Holds, Makes}
 use Rattle.runs.proofs.laws.Runs.{run_count_ext, fewer_below}
 use Rattle.runs.proofs.laws.Set.{holds_ext, holds_makes}
@@ -37,16 +40,16 @@ gathered_none f x words h none w =
     by v (no a) = ap (λ (b : Bool). b && f v) (le-ltb v x (omega arith))
 
 -- g is the part of f below e
-module _ (f : ℕ → Bool) (e : ℕ) (end : e ≤ axis) (g : ℕ → Bool) (part : (v : ℕ) → v < axis → g v ≡ (ltb v e && f v)) (after : List ℕ) (over : Bool) (m : Makes g after over) where
-  pub gathered_more : over ≡ false → Gathered f e after
+module _ (f : ℕ → Bool) (e : ℕ) (end : e ≤ axis) (g : ℕ → Bool) (part : (v : ℕ) → v < axis → g v ≡ (ltb v e && f v)) {A : Type 0} (after : List ℕ) (r : Result A TooManyRuns) (m : Makes g after r) where
+  pub gathered_more : is_err r ≡ false → Gathered f e after
   gathered_more o = record { end = end; held = holds_ext g (λ v. ltb v e && f v) after part (m.holds o) }
 
   -- it has no more runs than f
-  pub gathered_many : over ≡ true → Makes f after true
+  pub gathered_many : is_err r ≡ true → Makes f after r
   gathered_many o =
       record {
-        flag = sym (lt-ltb most_runs (run_count f) (omega (arith, many, run_count_ext g (λ v. ltb v e && f v) part, fewer_below f e)));
-        holds = λ z. absurd (true≢false z);
+        flag = o ∙ sym (lt-ltb most_runs (run_count f) (omega (arith, many, run_count_ext g (λ v. ltb v e && f v) part, fewer_below f e)));
+        holds = λ z. absurd (true≢false (sym o ∙ z));
       }
     where
       many : most_runs < run_count g
@@ -54,7 +57,7 @@ module _ (f : ℕ → Bool) (e : ℕ) (end : e ≤ axis) (g : ℕ → Bool) (par
 
 module _ (f : ℕ → Bool) (x : ℕ) (words : List ℕ) (g : Gathered f x words) where
   -- nothing comes from x on
-  pub gathered_end : ((w : ℕ) → x ≤ w → w < axis → f w ≡ false) → Makes f words false
+  pub gathered_end : ((w : ℕ) → x ≤ w → w < axis → f w ≡ false) → {A : Type 0} {a : A} → Makes f words (Ok a)
   gathered_end gap = holds_makes f words (holds_ext (λ v. ltb v x && f v) f words (λ v k. by v k (dec_lt v x)) g.held)
     where
       by : (v : ℕ) → v < axis → Dec (v < x) → (ltb v x && f v) ≡ f v
@@ -94,9 +97,9 @@ module _ (f : ℕ → Bool) (x : ℕ) (words : List ℕ) (g : Gathered f x words
             rw (le-ltb v x (omega arith), le-leb d v (omega arith), le-leb v high (omega arith), lt-ltb v e c) (sym (full v (omega arith) c))
         by (no a) (no b) (no c) = rw (le-ltb v x (omega arith), le-leb d v (omega arith), lt-leb v high (omega arith), le-ltb v e (omega arith))
 
-    module _ (after : List ℕ) (over : Bool) (m : Makes (λ v. member words v || (leb d v && leb v high)) after over) where
-      pub gathered_run : over ≡ false → Gathered f e after
-      gathered_run = gathered_more f e end _ run_more after over m
+    module _ {A : Type 0} (after : List ℕ) (r : Result A TooManyRuns) (m : Makes (λ v. member words v || (leb d v && leb v high)) after r) where
+      pub gathered_run : is_err r ≡ false → Gathered f e after
+      gathered_run = gathered_more f e end _ run_more after r m
 
-      pub gathered_over : over ≡ true → Makes f after true
-      gathered_over = gathered_many f e end _ run_more after over m
+      pub gathered_over : is_err r ≡ true → Makes f after r
+      gathered_over = gathered_many f e end _ run_more after r m

@@ -13,7 +13,7 @@ use Rattle.number.proofs.laws.Boolean.{or_none, or_left, or_right}
 use Rattle.meaning.specs.inner.Truth.{apart}
 use Rattle.recording.specs.Condition.{some_of}
 use Rattle.differences.specs.inner.Times.{Times, lags_of, steps_of}
-use Rattle.differences.specs.inner.Sweep.{window_size, row_of, chosen, Under, Parts, Seen, Found}
+use Rattle.differences.specs.inner.Sweep.{window_size, row_of, Under, Parts, Seen, Found}
 use Rattle.differences.proofs.GatherLaws.{or_false}
 use Rattle.differences.proofs.TimeLaws.{times_up}
 
@@ -149,12 +149,3 @@ single-times l t i h = subst Times (sym (single l i h)) (times-one (get_or l i 0
         most : (i : ℕ) → i < length (t ∷ []) → get_or (t ∷ []) i 0 ≤ origin + origin
         most zero h = b
         most (suc i) h = absurd (omega arith)
-
--- ---- either
-
-module _ (near : Bool) (a b : List ℕ) (x end next : ℕ) (v w : List Bool) where
-  pub chosen-steps : near ≡ true → Found (steps_of a) x end next × Seen (steps_of a) x v w → Found (chosen near a b) x end next × Seen (chosen near a b) x v w
-  chosen-steps e = subst (λ (near : Bool). Found (steps_of a) x end next × Seen (steps_of a) x v w → Found (chosen near a b) x end next × Seen (chosen near a b) x v w) (sym e) (λ h. h)
-
-  pub chosen_lags : near ≡ false → Found (lags_of a b) x end next × Seen (lags_of a b) x v w → Found (chosen near a b) x end next × Seen (chosen near a b) x v w
-  chosen_lags e = subst (λ (near : Bool). Found (lags_of a b) x end next × Seen (lags_of a b) x v w → Found (chosen near a b) x end next × Seen (chosen near a b) x v w) (sym e) (λ h. h)

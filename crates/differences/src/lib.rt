@@ -2,12 +2,13 @@
 // A time, like every number here, is carried as its index on the axis. Differences are added in ascending order, so that a run too many is known when it comes.
 #![tactic(auto)]
 
-ghost use Rattle.std.specs.Prelude.{◌≡◌, true, false, ◌&&◌, ◌||◌, ℕ, ◌+◌, ◌-◌, ◌<◌, ◌≤◌, leb, length};
+ghost use Rattle.std.specs.Prelude.{◌≡◌, Bool, true, IfSome, ◌&&◌, ◌||◌, ℕ, ◌+◌, ◌-◌, ◌<◌, ◌≤◌, leb, length};
 ghost use Rattle.number.specs.Axis.{origin, axis};
 ghost use Rattle.differences.specs.inner.Times.{Times, lags_of, gaps_of, steps_of, time_set};
-ghost use Rattle.differences.specs.inner.Sweep.{window_size, Time, row_of, chosen, from, shown, Least, Under, Parts, Behind, Beyond, Seen, Found, Extends, Begins};
+ghost use Rattle.differences.specs.inner.Sweep.{window_size, Time, row_of, from, shown, Least, Under, Parts, Behind, Beyond, Seen, Found, Extends, Begins};
 ghost use Rattle.runs.specs.Set.{slot_words, member, Valid, Makes};
 
+use runs::TooManyRuns;
 use runset::RunSet;
 
 // How many numbers one sweep over the times sees.
@@ -34,13 +35,6 @@ struct SweptRow {
     next: u32,
 }
 
-// Whether there are too many runs, and where the next turn starts.
-#[derive(Drop)]
-struct Added {
-    over: bool,
-    next: u32,
-}
-
 // The index of t - s.
 fn difference(s: u32, t: u32) -> u32
     requires { Time s × Time t }
@@ -62,14 +56,12 @@ fn first(s: u32, b: &[u32], start: usize, x: u32) -> usize
     requires { Time s × Times b.now × (start ≤ length b.now) × Under b.now s x start }
     ensures { Parts b.now s x result }
 {
-    let mut j = start;
-    while j < b.len() {
+    for j in start..b.len() {
         if x <= difference(s, b[j]) {
             return j;
         }
-        j += 1;
     }
-    j
+    b.len()
 }
 
 // Sees the times of b minus s, from the first that is not under x up to the last in the window. Gives the place behind that.
@@ -77,16 +69,14 @@ fn see(s: u32, b: &[u32], start: usize, x: u32, w: &mut Window) -> usize
     requires { Time s × Times b.now × Parts b.now s x start × (length w.old ≡ window_size) }
     ensures { Parts b.now s (x + window_size) result × Seen (row_of s b.now) x w.old w.new }
 {
-    let mut j = start;
-    while j < b.len() {
+    for j in start..b.len() {
         let t = place(difference(s, b[j]), x);
         if WINDOW <= t {
             return j;
         }
         w[t] = true;
-        j += 1;
     }
-    j
+    b.len()
 }
 
 // The number behind the last of those that are seen, or x.
@@ -125,93 +115,6 @@ fn sweep_row(s: u32, b: &[u32], start: usize, x: u32, w: &mut Window) -> SweptRo
     }
 }
 
-// One sweep over the times of a, each with those of b. No row starts at an earlier place of b than the row before.
-fn sweep(a: &[u32], b: &[u32], x: u32, w: &mut Window) -> Swept
-    requires { Times a.now × Times b.now × (x < axis) × (length w.old ≡ window_size) }
-    ensures { Found (lags_of a.now b.now) x result.end result.next × Seen (lags_of a.now b.now) x w.old w.new }
-{
-    let mut i: usize = 0;
-    let mut start: usize = 0;
-    let mut end = x;
-    let mut next = number::AXIS;
-    while i < a.len() {
-        let r = sweep_row(a[i], b, start, x, w);
-        start = r.start;
-        end = number::greater(end, r.end);
-        next = number::lesser(next, r.next);
-        i += 1;
-    }
-    Swept { end, next }
-}
-
-// One sweep over the neighbours.
-fn sweep_steps(t: &[u32], x: u32, w: &mut Window) -> Swept
-    requires { Times t.now × (x < axis) × (length w.old ≡ window_size) }
-    ensures { Found (steps_of t.now) x result.end result.next × Seen (steps_of t.now) x w.old w.new }
-{
-    let mut i: usize = 1;
-    let mut end = x;
-    let mut next = number::AXIS;
-    while i < t.len() {
-        let r = sweep_row(t[i - 1], &t[i..i + 1], 0, x, w);
-        end = number::greater(end, r.end);
-        next = number::lesser(next, r.next);
-        i += 1;
-    }
-    Swept { end, next }
-}
-
-// Of the neighbours of a alone where `near` is set, else of all of b with all of a.
-fn sweep_of(near: bool, a: &[u32], b: &[u32], x: u32, w: &mut Window) -> Swept
-    requires { Times a.now × Times b.now × (x < axis) × (length w.old ≡ window_size) }
-    ensures { Found (chosen near a.now b.now) x result.end result.next × Seen (chosen near a.now b.now) x w.old w.new }
-{
-    if near {
-        return sweep_steps(a, x, w);
-    }
-    sweep(a, b, x, w)
-}
-
-// The number d more, where it is seen. This and the functions below say whether there are too many runs.
-fn add_seen(seen: bool, d: u32, set: &mut [u32]) -> bool
-    requires { Valid set.old × ((v : ℕ) → v < axis → member set.old v ≡ true → v < d) × (d < axis) }
-    ensures { Makes (λ v. member set.old v || (seen && (leb d v && leb v d))) set.new result }
-{
-    if seen {
-        return RunSet::add(set, d, d);
-    }
-    false
-}
-
-// The seen numbers from x up to before `end` more.
-fn add_all(w: &Window, x: u32, end: u32, set: &mut [u32]) -> bool
-    requires { Valid set.old × ((v : ℕ) → v < axis → member set.old v ≡ true → v < x) × (x ≤ end) × (end ≤ x + window_size) × (end ≤ axis) }
-    ensures { Makes (λ v. member set.old v || shown w.now x end v) set.new result }
-{
-    let mut d = x;
-    while d < end {
-        let t = place(d, x);
-        if add_seen(w[t], d, set) {
-            return true;
-        }
-        d += 1;
-    }
-    false
-}
-
-// The differences from x up to before `next` more: one sweep.
-fn add_window(near: bool, a: &[u32], b: &[u32], x: u32, set: &mut [u32]) -> Added
-    requires { Times a.now × Times b.now × (x < axis) × Valid set.old × ((v : ℕ) → v < axis → member set.old v ≡ true → v < x) }
-    ensures { Extends (chosen near a.now b.now) x result.next set.old set.new result.over }
-{
-    let mut w = [false; WINDOW];
-    let s = sweep_of(near, a, b, x, &mut w);
-    Added {
-        over: add_all(&w, x, s.end, set),
-        next: s.next,
-    }
-}
-
 // The least difference from x on of a time of b and one of a, or AXIS where there is none: one walk along both arrays.
 fn least(a: &[u32], b: &[u32], x: u32) -> u32
     requires { Times a.now × Times b.now × (x ≤ axis) }
@@ -220,6 +123,7 @@ fn least(a: &[u32], b: &[u32], x: u32) -> u32
     let mut best = number::AXIS;
     let mut i: usize = 0;
     let mut j: usize = 0;
+    // Each turn moves one of two places on.
     while i < a.len() {
         if b.len() <= j {
             return best;
@@ -228,96 +132,219 @@ fn least(a: &[u32], b: &[u32], x: u32) -> u32
         if d < x {
             j += 1;
         } else {
-            best = number::lesser(best, d);
+            best = best.min(d);
             i += 1;
         }
     }
     best
 }
 
-// The same, but x alone where one walk shows that the next difference lies far off. Of all pairs, x is a difference.
-fn add_from(near: bool, a: &[u32], b: &[u32], x: u32, set: &mut [u32]) -> Added
-    requires { Times a.now × Times b.now × (x < axis) × Valid set.old × ((v : ℕ) → v < axis → member set.old v ≡ true → v < x) × (near ≡ false → chosen near a.now b.now x ≡ true) }
-    ensures { Extends (chosen near a.now b.now) x result.next set.old set.new result.over }
-{
-    if near {
-        return add_window(near, a, b, x, set);
-    }
-    let next = least(a, b, x + 1);
-    if next <= x + REACH {
-        return add_window(near, a, b, x, set);
-    }
-    Added {
-        over: RunSet::add(set, x, x),
-        next,
-    }
+// Pairs of times whose differences are gathered turn by turn.
+trait Pairs {
+    // The times ascend.
+    ghost rising: { Self → Type 0 };
+
+    // n is the index of a difference.
+    ghost of: { Self → ℕ → Bool };
+
+    // A turn may start at x.
+    ghost starts: { Self → ℕ → Type 0 };
+
+    // Where the first turn starts: no difference lies from `low` up to before it.
+    fn begin(&self, low: u32) -> u32
+        requires { rising self.now × (low ≤ axis) }
+        ensures { Begins (of self.now) low result × (result < axis → starts self.now result) };
+
+    // One sweep from x on.
+    fn sweep(&self, x: u32, w: &mut Window) -> Swept
+        requires { rising self.now × (x < axis) × (length w.old ≡ window_size) }
+        ensures { Found (of self.now) x result.end result.next × Seen (of self.now) x w.old w.new };
+
+    // The next difference after the difference x, where one walk shows that it lies far off.
+    fn far(&self, x: u32) -> Option<u32>
+        requires { rising self.now × (x < axis) × starts self.now x }
+        ensures { IfSome result (λ next. (of self.now x ≡ true) × Least (of self.now) (x + 1) next) };
+
+    // A turn may start at each difference.
+    ghost each_starts: { (pairs : Self) (x : ℕ) → of pairs x ≡ true → starts pairs x };
 }
 
-// Where the first turn starts: of all pairs at the least difference from `low` on, of neighbours at `low`.
-fn begin(near: bool, a: &[u32], b: &[u32], low: u32) -> u32
-    requires { Times a.now × Times b.now × (low ≤ axis) }
-    ensures { Begins near (chosen near a.now b.now) low result }
-{
-    if near {
-        return low;
+// Every time of b minus every time of a.
+#[derive(Drop)]
+struct AllPairs<'a> {
+    a: &'a [u32],
+    b: &'a [u32],
+}
+
+// A turn starts at a difference.
+impl Pairs for AllPairs<'_> {
+    ghost rising = { λ pairs. Times pairs.a.now × Times pairs.b.now };
+
+    ghost of = { λ pairs. lags_of pairs.a.now pairs.b.now };
+
+    ghost starts = { λ pairs x. lags_of pairs.a.now pairs.b.now x ≡ true };
+
+    fn begin(&self, low: u32) -> u32 {
+        least(self.a, self.b, low)
     }
-    least(a, b, low)
+
+    // Over the times of a, each with those of b. No row starts at an earlier place of b than the row before.
+    fn sweep(&self, x: u32, w: &mut Window) -> Swept {
+        let a = self.a;
+        let b = self.b;
+        let mut start: usize = 0;
+        let mut end = x;
+        let mut next = number::AXIS;
+        for i in 0..a.len() {
+            let r = sweep_row(a[i], b, start, x, w);
+            start = r.start;
+            end = end.max(r.end);
+            next = next.min(r.next);
+        }
+        Swept { end, next }
+    }
+
+    fn far(&self, x: u32) -> Option<u32> {
+        let next = least(self.a, self.b, x + 1);
+        if next <= x + REACH {
+            return None;
+        }
+        Some(next)
+    }
+
+    ghost each_starts = { λ pairs x e. e };
+}
+
+// Every time minus the time before it.
+#[derive(Drop)]
+struct Neighbours<'a> {
+    t: &'a [u32],
+}
+
+// A turn starts anywhere, and none is short.
+impl Pairs for Neighbours<'_> {
+    ghost rising = { λ pairs. Times pairs.t.now };
+
+    ghost of = { λ pairs. steps_of pairs.t.now };
+
+    ghost starts = { λ pairs x. Unit {0} };
+
+    fn begin(&self, low: u32) -> u32 {
+        low
+    }
+
+    fn sweep(&self, x: u32, w: &mut Window) -> Swept {
+        let t = self.t;
+        let mut end = x;
+        let mut next = number::AXIS;
+        for i in 1..t.len() {
+            let r = sweep_row(t[i - 1], &t[i..i + 1], 0, x, w);
+            end = end.max(r.end);
+            next = next.min(r.next);
+        }
+        Swept { end, next }
+    }
+
+    fn far(&self, _x: u32) -> Option<u32> {
+        None
+    }
+
+    ghost each_starts = { λ pairs x e. tt };
+}
+
+// The number d more, where it is seen.
+fn add_seen(seen: bool, d: u32, set: &mut [u32]) -> Result<(), TooManyRuns>
+    requires { Valid set.old × ((v : ℕ) → v < axis → member set.old v ≡ true → v < d) × (d < axis) }
+    ensures { Makes (λ v. member set.old v || (seen && (leb d v && leb v d))) set.new result }
+{
+    if seen {
+        return RunSet::add(set, d, d);
+    }
+    Ok(())
+}
+
+// The seen numbers from x up to before `end` more.
+fn add_all(w: &Window, x: u32, end: u32, set: &mut [u32]) -> Result<(), TooManyRuns>
+    requires { Valid set.old × ((v : ℕ) → v < axis → member set.old v ≡ true → v < x) × (x ≤ end) × (end ≤ x + window_size) × (end ≤ axis) }
+    ensures { Makes (λ v. member set.old v || shown w.now x end v) set.new result }
+{
+    for d in x..end {
+        let t = place(d, x);
+        add_seen(w[t], d, set)?;
+    }
+    Ok(())
+}
+
+// The differences from x up to before the next turn's start, which it gives, more: one sweep.
+fn add_window<P: Pairs>(pairs: &P, x: u32, set: &mut [u32]) -> Result<u32, TooManyRuns>
+    requires { P.rising pairs.now × (x < axis) × Valid set.old × ((v : ℕ) → v < axis → member set.old v ≡ true → v < x) }
+    ensures { Extends (P.of pairs.now) x set.old set.new result }
+{
+    let mut w = [false; WINDOW];
+    let s = pairs.sweep(x, &mut w);
+    add_all(&w, x, s.end, set)?;
+    Ok(s.next)
+}
+
+// The same, but x alone where the next difference lies far off.
+fn add_from<P: Pairs>(pairs: &P, x: u32, set: &mut [u32]) -> Result<u32, TooManyRuns>
+    requires { P.rising pairs.now × (x < axis) × Valid set.old × ((v : ℕ) → v < axis → member set.old v ≡ true → v < x)
+        × P.starts pairs.now x }
+    ensures { Extends (P.of pairs.now) x set.old set.new result }
+{
+    if let Some(next) = pairs.far(x) {
+        RunSet::add(set, x, x)?;
+        return Ok(next);
+    }
+    add_window(pairs, x, set)
 }
 
 // The set of the differences from `low` on, turn by turn.
-fn collect(near: bool, a: &[u32], b: &[u32], low: u32, set: &mut [u32]) -> bool
-    requires { Times a.now × Times b.now × (low ≤ axis) × (length set.old ≡ slot_words) }
-    ensures { Makes (from low (chosen near a.now b.now)) set.new result }
+fn collect<P: Pairs>(pairs: &P, low: u32, set: &mut [u32]) -> Result<(), TooManyRuns>
+    requires { P.rising pairs.now × (low ≤ axis) × (length set.old ≡ slot_words) }
+    ensures { Makes (from low (P.of pairs.now)) set.new result }
 {
     RunSet::empty(set);
-    let mut x = begin(near, a, b, low);
+    let mut x = pairs.begin(low);
+    // A turn goes on to the next difference, however far off.
     while x < number::AXIS {
-        let r = add_from(near, a, b, x, set);
-        if r.over {
-            return true;
-        }
-        x = r.next;
+        x = add_from(pairs, x, set)?;
     }
-    false
+    Ok(())
 }
 
 // `lag`: a time of b minus a time of a, any pair.
-pub fn lags(a: &[u32], b: &[u32], set: &mut [u32]) -> bool
+pub fn lags(a: &[u32], b: &[u32], set: &mut [u32]) -> Result<(), TooManyRuns>
     requires { Times a.now × Times b.now × (length set.old ≡ slot_words) }
     ensures { Makes (lags_of a.now b.now) set.new result }
 {
-    collect(false, a, b, 0, set)
+    collect(&AllPairs { a, b }, 0, set)
 }
 
 // `gaps`: a later time minus an earlier one.
-pub fn gaps(t: &[u32], set: &mut [u32]) -> bool
+pub fn gaps(t: &[u32], set: &mut [u32]) -> Result<(), TooManyRuns>
     requires { Times t.now × (length set.old ≡ slot_words) }
     ensures { Makes (gaps_of t.now) set.new result }
 {
-    collect(false, t, t, number::ORIGIN + 1, set)
+    collect(&AllPairs { a: t, b: t }, number::ORIGIN + 1, set)
 }
 
 // `steps`: a time minus the time before it.
-pub fn steps(t: &[u32], set: &mut [u32]) -> bool
+pub fn steps(t: &[u32], set: &mut [u32]) -> Result<(), TooManyRuns>
     requires { Times t.now × (length set.old ≡ slot_words) }
     ensures { Makes (steps_of t.now) set.new result }
 {
-    collect(true, t, t, 0, set)
+    collect(&Neighbours { t }, 0, set)
 }
 
 // `peaks` and `cross`: the times themselves.
-pub fn time_set(t: &[u32], set: &mut [u32]) -> bool
+pub fn time_set(t: &[u32], set: &mut [u32]) -> Result<(), TooManyRuns>
     requires { Times t.now × (length set.old ≡ slot_words) }
     ensures { Makes (time_set t.now) set.new result }
 {
     RunSet::empty(set);
-    let mut i: usize = 0;
-    while i < t.len() {
-        let at = t[i];
-        if RunSet::add(set, at, at) {
-            return true;
-        }
-        i += 1;
+    for &at in t {
+        RunSet::add(set, at, at)?;
     }
-    false
+    Ok(())
 }

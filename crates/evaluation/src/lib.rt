@@ -16,6 +16,7 @@ ghost use Rattle.evaluation.specs.inner.Evaluation.{text_of, Asking, Evaluates};
 
 use grammar::kinds;
 use rows::ROWS;
+use runs::TooManyRuns;
 use runset::{RunSet, SHARED};
 use slots::TABLE;
 
@@ -28,7 +29,6 @@ type Shared = [u32; SHARED];
 
 // Evaluates node n of a text at record i; the node is no leaf, and the nodes under it are evaluated first.
 // Its set goes to its slot in `own`, the sets of its children go to theirs in `other`, those of their children to `own` again, and so on.
-// Returns whether a set has too many runs.
 #[cycle(child_eval)]
 fn eval(
     table: &Rows,
@@ -38,25 +38,21 @@ fn eval(
     own: &mut Sets,
     other: &mut Sets,
     shared: &mut Shared,
-) -> bool
+) -> Result<(), TooManyRuns>
     requires { Evaluable table.now rec.now i n own.old other.old × (length shared.old ≡ shared_words) × HasChild table.now n }
     ensures { NodePromise table.now rec.now i n own.old other.old own.new other.new result
         × Sized own.new × Sized other.new × (length shared.new ≡ shared_words) }
 {
     let row = rows::row_at(table, n);
     let kind = row.kind;
-    let first = slots::size(row.first);
-    if child(table, rec, i, first, other, own, shared) {
-        return true;
-    }
+    let first = row.first as usize;
+    child(table, rec, i, first, other, own, shared)?;
     let last = i + 1 == rec.len() / 16;
     if kind < kinds::OR {
         return node::one_at(kind, last, n, first, own, other, shared);
     }
-    let second = slots::size(row.second);
-    if child(table, rec, i, second, other, own, shared) {
-        return true;
-    }
+    let second = row.second as usize;
+    child(table, rec, i, second, other, own, shared)?;
     node::two_at(kind, last, n, first, second, own, other, shared)
 }
 
@@ -70,7 +66,7 @@ fn child(
     own: &mut Sets,
     other: &mut Sets,
     shared: &mut Shared,
-) -> bool
+) -> Result<(), TooManyRuns>
     requires { Evaluable table.now rec.now i n own.old other.old × (length shared.old ≡ shared_words) }
     ensures { NodePromise table.now rec.now i n own.old other.old own.new other.new result
         × Sized own.new × Sized other.new × (length shared.new ≡ shared_words) }
@@ -83,7 +79,7 @@ fn child(
 }
 
 // The set of a text without F, G, X, U and W: the first record is enough.
-fn at_first(table: &Rows, count: usize, rec: &[u8], out: &mut [u32]) -> bool
+fn at_first(table: &Rows, count: usize, rec: &[u8], out: &mut [u32]) -> Result<(), TooManyRuns>
     requires { Asking table.now count rec.now × (temporal (text_of table.now count) ≡ false) × (length out.old ≡ slot_words) × HasChild table.now (count - 1) }
     ensures { Evaluates (coded rec.now) (text_of table.now count) out.new result }
 {
@@ -91,15 +87,13 @@ fn at_first(table: &Rows, count: usize, rec: &[u8], out: &mut [u32]) -> bool
     let mut other = [0u32; TABLE];
     let mut shared = [0u32; SHARED];
     let root = count - 1;
-    if eval(table, rec, 0, root, &mut own, &mut other, &mut shared) {
-        return true;
-    }
+    eval(table, rec, 0, root, &mut own, &mut other, &mut shared)?;
     RunSet::copy(slots::set_in(&own, root), out);
-    false
+    Ok(())
 }
 
 // The set of a text with F, G, X, U or W: all records, from the last to the first. The root's set of the record that was evaluated before lies in `a` where `flip` is set.
-fn walk(table: &Rows, count: usize, rec: &[u8], out: &mut [u32]) -> bool
+fn walk(table: &Rows, count: usize, rec: &[u8], out: &mut [u32]) -> Result<(), TooManyRuns>
     requires { Asking table.now count rec.now × (temporal (text_of table.now count) ≡ true) × (length out.old ≡ slot_words) × HasChild table.now (count - 1) }
     ensures { Evaluates (coded rec.now) (text_of table.now count) out.new result }
 {
@@ -108,31 +102,31 @@ fn walk(table: &Rows, count: usize, rec: &[u8], out: &mut [u32]) -> bool
     let mut shared = [0u32; SHARED];
     let root = count - 1;
     let mut flip = false;
-    let mut i = rec.len() / 16;
-    while 0 < i {
-        i -= 1;
+    for i in (0..rec.len() / 16).rev() {
         if flip {
-            if eval(table, rec, i, root, &mut b, &mut a, &mut shared) {
-                return true;
-            }
+            eval(table, rec, i, root, &mut b, &mut a, &mut shared)?;
             flip = false;
         } else {
-            if eval(table, rec, i, root, &mut a, &mut b, &mut shared) {
-                return true;
-            }
+            eval(table, rec, i, root, &mut a, &mut b, &mut shared)?;
             flip = true;
         }
     }
     if flip {
         RunSet::copy(slots::set_in(&a, root), out);
-        return false;
+        return Ok(());
     }
     RunSet::copy(slots::set_in(&b, root), out);
-    false
+    Ok(())
 }
 
-// The set of a text at the first record, or that some node's set has too many runs. A text of one node needs no table of sets.
-pub fn evaluate(table: &[u32], count: usize, ahead: bool, rec: &[u8], out: &mut [u32]) -> bool
+// The set of a text at the first record, unless some node's set has too many runs. A text of one node needs no table of sets.
+pub fn evaluate(
+    table: &[u32],
+    count: usize,
+    ahead: bool,
+    rec: &[u8],
+    out: &mut [u32],
+) -> Result<(), TooManyRuns>
     requires { Asking table.now count rec.now × (temporal (text_of table.now count) ≡ ahead) × (length out.old ≡ slot_words) }
     ensures { Evaluates (coded rec.now) (text_of table.now count) out.new result }
 {

@@ -12,10 +12,11 @@ ghost use Rattle.evaluation.specs.inner.Slots.{slot, Sized, Puts};
 
 use crate::{slots, step};
 use grammar::{Row, kinds};
+use runs::TooManyRuns;
 use runset::{RunSet, SLOT};
 
 // A leaf. An atom, the common one, is called apart from the listed questions, which take room on the stack.
-pub fn leaf_at(rec: &[u8], i: usize, row: Row, n: usize, own: &mut [u32]) -> bool
+pub fn leaf_at(rec: &[u8], i: usize, row: Row, n: usize, own: &mut [u32]) -> Result<(), TooManyRuns>
     requires { Asked rec.now i row × (n < most_nodes) × Sized own.old }
     ensures { Puts (λ v. val (coded rec.now) v (leaf_of row) i) own.old own.new n result }
 {
@@ -23,7 +24,7 @@ pub fn leaf_at(rec: &[u8], i: usize, row: Row, n: usize, own: &mut [u32]) -> boo
     let end = from + SLOT;
     if row.kind < kinds::HIGH {
         leaves::atom(rec, i, row, &mut own[from..end]);
-        return false;
+        return Ok(());
     }
     leaves::leaf(rec, i, row, &mut own[from..end])
 }
@@ -32,7 +33,7 @@ pub fn leaf_at(rec: &[u8], i: usize, row: Row, n: usize, own: &mut [u32]) -> boo
 fn next_at(last: bool, n: usize, first: usize, own: &mut [u32], other: &[u32], shared: &mut [u32])
     requires { (n < most_nodes) × (first < most_nodes) × Sized own.old × Sized other.now × Valid (slot other.now first) × (last ≡ false → Valid (slot own.old first))
         × (length shared.old ≡ shared_words) }
-    ensures { Puts (λ v. cond last (member (slot other.now first) v) (member (slot own.old first) v)) own.old own.new n false }
+    ensures { Puts (λ v. cond last (member (slot other.now first) v) (member (slot own.old first) v)) own.old own.new n (Ok (tt {0})) }
 {
     if last {
         slots::put(slots::set_in(other, first), own, n);
@@ -51,7 +52,7 @@ pub fn one_at(
     own: &mut [u32],
     other: &[u32],
     shared: &mut [u32],
-) -> bool
+) -> Result<(), TooManyRuns>
     requires { (unary_from ≤ kind) × (kind < binary_from) × (n < most_nodes) × (first < most_nodes) × Sized own.old × Sized other.now × Valid (slot other.now first)
         × (last ≡ false → NOT < kind → Valid (slot other.now n) × Valid (slot own.old first)) × (length shared.old ≡ shared_words) }
     ensures { Puts (λ v. unary_of kind last (member (slot other.now first) v) (member (slot other.now n) v) (member (slot own.old first) v))
@@ -59,7 +60,7 @@ pub fn one_at(
 {
     if kind == kinds::NEXT {
         next_at(last, n, first, own, other, shared);
-        return false;
+        return Ok(());
     }
     let from = SLOT * n;
     let end = from + SLOT;
@@ -82,7 +83,7 @@ pub fn two_at(
     own: &mut [u32],
     other: &[u32],
     shared: &mut [u32],
-) -> bool
+) -> Result<(), TooManyRuns>
     requires { (binary_from ≤ kind) × (kind < kinds) × (n < most_nodes) × (first < most_nodes) × (second < most_nodes) × Sized own.old × Sized other.now
         × Valid (slot other.now first) × Valid (slot other.now second) × (last ≡ false → AND < kind → Valid (slot other.now n))
         × (length shared.old ≡ shared_words) }

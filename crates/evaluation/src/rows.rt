@@ -27,9 +27,8 @@ pub fn copy(table: &[u32], count: usize, rows: &mut [u32])
     ensures { Same count table.now rows.new }
 {
     let words = 4 * count;
-    let mut i: usize = 0;
-    while i < words {
+    // `copy_from_slice` calls memmove; the archive needs memcpy and memset alone.
+    for i in 0..words {
         rows[i] = table[i];
-        i += 1;
     }
 }

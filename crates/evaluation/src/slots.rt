@@ -1,5 +1,5 @@
 // Tables of sets: a slot to each node.
-ghost use Rattle.std.specs.Prelude.{◌≡◌, false, ◌<◌};
+ghost use Rattle.std.specs.Prelude.{◌≡◌, ◌<◌};
 ghost use Rattle.runs.specs.Set.{member, Valid};
 ghost use Rattle.grammar.specs.Size.{most_nodes};
 ghost use Rattle.evaluation.specs.inner.Slots.{slot, Sized, Puts};
@@ -8,12 +8,6 @@ use runset::{RunSet, SLOT};
 
 // The words of a table: a slot for each node that a text may have.
 pub const TABLE: usize = SLOT * text::MOST_NODES;
-
-pub fn size(n: u32) -> usize
-    ensures { result ≡ n }
-{
-    n as usize
-}
 
 // The set in slot m.
 pub fn set_in(sets: &[u32], m: usize) -> &[u32]
@@ -28,7 +22,7 @@ pub fn set_in(sets: &[u32], m: usize) -> &[u32]
 // The same set, in slot m.
 pub fn put(set: &[u32], sets: &mut [u32], m: usize)
     requires { Valid set.now × Sized sets.old × (m < most_nodes) }
-    ensures { Puts (member set.now) sets.old sets.new m false }
+    ensures { Puts (member set.now) sets.old sets.new m (Ok (tt {0})) }
 {
     let from = SLOT * m;
     let end = from + SLOT;

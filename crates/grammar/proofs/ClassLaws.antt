@@ -1,6 +1,6 @@
 -- The class of each byte of an interval, by a test that is computed once over the interval.
 use mathlib.Core.Path.{◌≡◌, refl, sym, ap, subst, ◌∙◌}
-use mathlib.Core.Bool.{Bool, true, false, cond, ◌&&◌, ◌||◌}
+use mathlib.Core.Bool.{Bool, true, false, ◌&&◌, ◌||◌}
 use mathlib.Core.Logic.{◌⊎◌, inl, inr}
 use Prim.Native.Nat.{ℕ, zero, suc, ◌+◌, ◌≤◌, ◌<◌}
 use native.Mathlib.Omega.{arith}
@@ -8,12 +8,12 @@ use lib.Dec.{eqb}
 use borrow.Author.Tests.{eqb-true, eqb-false, ne_eqb}
 use Rattle.number.proofs.laws.Boolean.{and_left, and_right}
 use Rattle.grammar.specs.declared.Class.{Class}
-use Rattle.grammar.specs.declared.Class.TheVariants.{Digit, Letter, Sign, Foreign}
-use Rattle.grammar.specs.Classes.{class_of, is_digit, is_letter, is_sign}
+use Rattle.grammar.specs.declared.Class.TheVariants.{Sign}
+use Rattle.grammar.specs.Classes.{class_of}
 use Rattle.grammar.proofs.laws.Class.{number, same_number}
 
 or_right : (x y : Bool) → (x || y) ≡ true → x ≡ false → y ≡ true
-or_right true y e f = let z : ◌≡◌ {A = ℕ} 0 1 = cc in absurd (omega arith)
+or_right true y e f = cc
 or_right false y e f = e
 
 -- the bytes that stand alone in the match: `!` `&` `|`
@@ -51,23 +51,3 @@ class_in low (suc n) b c t f h g =
         let t2 = or_right (single low) (eqb (number c) (number (class_of low))) t1 (ap single q ∙ not_single b f) in
         same_number c (class_of low) (eqb-true (number c) (number (class_of low)) t2) ∙ ap class_of q
     go false e k = let q : low ≡ b → ⊥ = eqb-false low b e in k (omega arith) (omega arith)
-
--- a digit is what is of the class of digits
-abbrev pub digit_class : Class → Bool
-digit_class Digit = true
-digit_class Letter = false
-digit_class Sign = false
-digit_class Foreign = false
-
-pub digit-class : (b : ℕ) → digit_class (class_of b) ≡ is_digit b
-unfolding class_of
-digit-class b = go (is_digit b)
-  where
-    rest : (x y : Bool) → digit_class (cond x Letter (cond y Sign Foreign)) ≡ false
-    rest true y = refl
-    rest false true = refl
-    rest false false = refl
-
-    go : (x : Bool) → digit_class (cond x Digit (cond (is_letter b) Letter (cond (is_sign b) Sign Foreign))) ≡ x
-    go true = refl
-    go false = rest (is_letter b) (is_sign b)

@@ -20,10 +20,5 @@ pub fn class_of(b: u8) -> Class
 pub fn is_digit(b: u8) -> bool
     ensures { result ≡ is_digit b }
 {
-    match class_of(b) {
-        Class::Digit => true,
-        Class::Letter => false,
-        Class::Sign => false,
-        Class::Foreign => false,
-    }
+    b.is_ascii_digit()
 }

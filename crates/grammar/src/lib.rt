@@ -1,11 +1,14 @@
 // The grammar of a question text, and the values that stand for its words and nodes.
 #![tactic(auto)]
 
+ghost use Rattle.std.specs.Prelude.{◌≡◌};
+ghost use Rattle.grammar.specs.inner.Table.{row};
+
 pub mod classes;
 pub mod kinds;
 
 // The class of a byte of a text.
-#[derive(Drop)]
+#[derive(Clone, Copy)]
 pub enum Class {
     Digit,
     Letter,
@@ -14,14 +17,14 @@ pub enum Class {
 }
 
 // A code that was read, and where reading stopped.
-#[derive(Drop)]
-pub enum Found {
-    At(u32, usize),
-    Missing,
+#[derive(Clone, Copy)]
+pub struct Found {
+    pub code: u32,
+    pub end: usize,
 }
 
 // A node: its kind, and what goes with it. Of an operator, the first and the second child.
-#[derive(Drop)]
+#[derive(Clone, Copy)]
 pub struct Row {
     pub kind: u32,
     pub first: u32,
@@ -29,10 +32,22 @@ pub struct Row {
     pub number: u32,
 }
 
-// What a primary text begins with: a whole leaf, an opening of one or two texts, or nothing that has a reading.
-#[derive(Drop)]
+impl Row {
+    pub const fn new(kind: u32, first: u32, second: u32, number: u32) -> Row
+        ensures { result ≡ row kind first second number }
+    {
+        Row {
+            kind,
+            first,
+            second,
+            number,
+        }
+    }
+}
+
+// What a primary text begins with: a whole leaf, or an opening of one or two texts, and where it stops.
+#[derive(Clone, Copy)]
 pub enum Leaf {
     Node(Row, usize),
     Open(u32, usize),
-    Nothing,
 }

@@ -1,13 +1,13 @@
 // Joining two sets: each run of the result is stored once, where it belongs, when it closes.
 #![tactic(auto)]
 
-ghost use Rattle.std.specs.Prelude.{◌≡◌, true, false, ◌||◌, ◌+◌, ◌*◌, ◌≤◌, ◌<◌, length};
+ghost use Rattle.std.specs.Prelude.{◌≡◌, ◌||◌, ◌+◌, ◌*◌, ◌≤◌, ◌<◌, length};
 ghost use Rattle.number.specs.Axis.{axis};
 ghost use Rattle.runs.specs.Runs.{most_runs};
 ghost use Rattle.runs.specs.Set.{inside, slot_words, shared_words, Canonical};
 ghost use Rattle.join.specs.inner.Join.{Rest, Next, Reached, with_run, Appended, Open, opened, Joins};
 
-use runs::MOST_RUNS;
+use runs::{MOST_RUNS, TooManyRuns};
 use slot::CUTS;
 
 // A run, the numbers from low on and before end, and the places behind it in both lists.
@@ -24,13 +24,6 @@ struct Head {
 struct Reach {
     end: u32,
     i: usize,
-}
-
-// Whether the result has too many runs; else how many runs were stored.
-#[derive(Drop)]
-pub struct Joined {
-    pub over: bool,
-    pub stores: usize,
 }
 
 // Of the runs from place i of a and from place j of b on the one that begins first.
@@ -95,6 +88,7 @@ fn extend(l: &[u32], i: usize, end: u32) -> Reach
 {
     let mut at = i;
     let mut far = end;
+    // Two cuts at a time, up to the one that does not meet: the place where it stops is wanted.
     while at < l.len() {
         if far < l[at] {
             return Reach { end: far, i: at };
@@ -112,6 +106,7 @@ fn append(l: &[u32], i: usize, set: &mut [u32], n: usize, stores: &mut usize)
 {
     let mut from = i;
     let mut at = n;
+    // Two cuts at a time: `step_by` would test each step besides.
     while from < l.len() {
         store(set, at, l[from], l[from + 1], stores);
         from += 2;
@@ -128,40 +123,35 @@ fn finish(
     set: &mut [u32],
     n: usize,
     stores: usize,
-) -> Joined
+) -> Result<usize, TooManyRuns>
     requires { Open set.old n low end l.now i × (length l.now ≤ shared_words) × (stores ≡ n) }
     ensures { Joins (opened set.old n low end l.now i) set.new result }
 {
     let run = extend(l, i, end);
     let all = 2 * n + 2 + (l.len() - run.i);
     if CUTS < all {
-        return Joined { over: true, stores };
+        return Err(TooManyRuns);
     }
     let mut count = stores;
     store(set, n, low, run.end, &mut count);
     append(l, run.i, set, n + 1, &mut count);
     set[CUTS] = all as u32;
-    Joined {
-        over: false,
-        stores: count,
-    }
+    Ok(count)
 }
 
-// What is in a or in b.
-pub fn join(a: &[u32], b: &[u32], set: &mut [u32]) -> Joined
+// What is in a or in b, with the number of runs that were stored.
+pub fn join(a: &[u32], b: &[u32], set: &mut [u32]) -> Result<usize, TooManyRuns>
     requires { Canonical a.now × Canonical b.now × (length a.now ≤ shared_words) × (length b.now ≤ shared_words) × (length set.old ≡ slot_words) }
     ensures { Joins (λ v. inside a.now v || inside b.now v) set.new result }
 {
     if a.len() + b.len() == 0 {
         set[CUTS] = 0;
-        return Joined {
-            over: false,
-            stores: 0,
-        };
+        return Ok(0);
     }
     let mut run = next(a, 0, b, 0);
     let mut n: usize = 0;
     let mut stores: usize = 0;
+    // Two places that move apart.
     while run.i < a.len() {
         if run.j == b.len() {
             return finish(a, run.i, run.low, run.end, set, n, stores);
@@ -178,7 +168,7 @@ pub fn join(a: &[u32], b: &[u32], set: &mut [u32]) -> Joined
             };
         } else {
             if n == MOST_RUNS {
-                return Joined { over: true, stores };
+                return Err(TooManyRuns);
             }
             close(set, n, run, &mut stores);
             n += 1;
@@ -189,7 +179,7 @@ pub fn join(a: &[u32], b: &[u32], set: &mut [u32]) -> Joined
 }
 
 // The same of two sets of one run each, at once.
-pub fn of_two(a: &[u32], b: &[u32], set: &mut [u32]) -> Joined
+pub fn of_two(a: &[u32], b: &[u32], set: &mut [u32]) -> Result<usize, TooManyRuns>
     requires { Canonical a.now × Canonical b.now × (length a.now ≡ 2) × (length b.now ≡ 2) × (length set.old ≡ slot_words) }
     ensures { Joins (λ v. inside a.now v || inside b.now v) set.new result }
 {
@@ -205,16 +195,10 @@ pub fn of_two(a: &[u32], b: &[u32], set: &mut [u32]) -> Joined
             &mut stores,
         );
         set[CUTS] = 2;
-        return Joined {
-            over: false,
-            stores,
-        };
+        return Ok(stores);
     }
     close(set, 0, run, &mut stores);
     close(set, 1, r, &mut stores);
     set[CUTS] = 4;
-    Joined {
-        over: false,
-        stores,
-    }
+    Ok(stores)
 }

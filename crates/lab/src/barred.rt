@@ -79,12 +79,10 @@ pub fn some_barred(table: &[u32], n: usize, marks: &[u8]) -> bool
     requires { 4 * n ≤ length table.now }
     ensures { (t : Text) → Laid table.now 0 n t → result ≡ not_for_laboratory (marks_of marks.now) t }
 {
-    let mut i: usize = 0;
-    while i < n {
+    for i in 0..n {
         if is_barred(evaluation::rows::row_at(table, i), marks) {
             return true;
         }
-        i += 1;
     }
     false
 }

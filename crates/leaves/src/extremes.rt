@@ -20,11 +20,7 @@ const START: u32 = 0;
 fn farther(up: bool, m: u32, x: u32) -> u32
     ensures { result ≡ extreme.farther up m x }
 {
-    if up {
-        if m < x { x } else { m }
-    } else {
-        if x < m { x } else { m }
-    }
+    if up { m.max(x) } else { m.min(x) }
 }
 
 // Where there is no record: the least upwards, the end of the axis downwards.
@@ -50,12 +46,9 @@ fn extreme(rec: &[u8], curve: usize, after: u32, up: bool) -> u32
     requires { Accepted rec.now × (curve < 2) }
     ensures { Extreme up (curve_of curve) after (coded rec.now) result }
 {
-    let n = rec.len() / 16;
     let mut m = none(up);
-    let mut i: usize = 0;
-    while i < n {
+    for i in 0..rec.len() / 16 {
         m = pass(rec, i, curve, after, up, m);
-        i += 1;
     }
     m
 }

@@ -16,21 +16,45 @@ ghost use Rattle.leaves.specs.inner.Leaf.{leaf_of, times_of, Asked};
 ghost use Rattle.grammar.specs.Syntax.{listed};
 ghost use Rattle.tops.specs.inner.Events.{event_of, Known};
 ghost use Rattle.leaves.specs.inner.Span.{Spans};
-ghost use Rattle.leaves.specs.inner.Differing.{Differs};
+ghost use Rattle.leaves.specs.inner.Differing.{refusal_of, Differs};
 ghost use Rattle.recording.specs.Recording.{Accepted};
 ghost use Rattle.grammar.specs.inner.Table.{unary_from};
 
 use grammar::{Row, kinds};
+use refusal::Refusal;
+use runs::TooManyRuns;
 use runset::RunSet;
 use span::Span;
 use tops::Event;
 
-// The set of differences between tops: there are too many tops, or it has too many runs, or it is made.
-#[derive(Drop)]
-pub enum Differing {
-    TooManyTops,
-    TooManyRuns,
-    Made,
+// Why a set of differences between tops is not made.
+#[derive(Clone, Copy, Debug, PartialEq, Eq)]
+pub enum TooMany {
+    // A curve has too many tops.
+    Tops,
+    // The set has too many runs.
+    Runs,
+}
+
+impl From<TooManyRuns> for TooMany {
+    ghost use Rattle.leaves.specs.declared.TooMany.{TooMany};
+
+    ghost from_gives = { λ _ e. e ≡ TooMany.Runs };
+
+    fn from(_e: TooManyRuns) -> TooMany {
+        TooMany::Runs
+    }
+}
+
+impl From<TooMany> for Refusal {
+    ghost from_gives = { λ e r. r ≡ refusal_of e };
+
+    fn from(e: TooMany) -> Refusal {
+        match e {
+            TooMany::Tops => Refusal::TooManyTops,
+            TooMany::Runs => Refusal::TooManyRuns,
+        }
+    }
 }
 
 // Whether an atom without v holds.
@@ -118,7 +142,7 @@ fn event_of(row: Row) -> Event
 }
 
 // Leaves on events.
-fn happening(rec: &[u8], i: usize, row: Row, set: &mut [u32]) -> bool
+fn happening(rec: &[u8], i: usize, row: Row, set: &mut [u32]) -> Result<(), TooManyRuns>
     requires { Asked rec.now i row × (PEAKS ≤ row.kind) × (row.kind < DOSE) × (length set.old ≡ slot_words) }
     ensures { Makes (λ v. val (coded rec.now) v (leaf_of row) i) set.new result }
 {
@@ -126,15 +150,15 @@ fn happening(rec: &[u8], i: usize, row: Row, set: &mut [u32]) -> bool
 }
 
 // `dose`.
-fn added(rec: &[u8], i: usize, row: Row, set: &mut [u32]) -> bool
+fn added(rec: &[u8], i: usize, row: Row, set: &mut [u32]) -> Result<(), TooManyRuns>
     requires { Asked rec.now i row × (row.kind ≡ DOSE) × (length set.old ≡ slot_words) }
     ensures { Makes (λ v. val (coded rec.now) v (leaf_of row) i) set.new result }
 {
     times::additions(rec, row.number, set)
 }
 
-// LEAVES ON DIFFERENCES BETWEEN TOPS: `gaps`, `steps` and `lag`. Says whether there are too many tops, and else whether the set has too many runs.
-pub fn between_tops(rec: &[u8], row: Row, set: &mut [u32]) -> Differing
+// LEAVES ON DIFFERENCES BETWEEN TOPS: `gaps`, `steps` and `lag`. Too many tops come before too many runs.
+pub fn between_tops(rec: &[u8], row: Row, set: &mut [u32]) -> Result<(), TooMany>
     requires { Accepted rec.now × (GAPS ≤ row.kind) × (row.kind < unary_from) × (length set.old ≡ slot_words) }
     ensures { (i : ℕ) → Differs (of_listed (asks_too_many (coded rec.now)) (leaf_of row)) (λ v. val (coded rec.now) v (leaf_of row) i) set.new result }
 {
@@ -150,32 +174,27 @@ pub fn between_tops(rec: &[u8], row: Row, set: &mut [u32]) -> Differing
 }
 
 // The same where the tops are few enough.
-fn apart(rec: &[u8], i: usize, row: Row, set: &mut [u32]) -> bool
+fn apart(rec: &[u8], i: usize, row: Row, set: &mut [u32]) -> Result<(), TooManyRuns>
     requires { Asked rec.now i row × (GAPS ≤ row.kind) × (length set.old ≡ slot_words) }
     ensures { Makes (λ v. val (coded rec.now) v (leaf_of row) i) set.new result }
 {
-    let found = between_tops(rec, row, set);
-    match found {
-        Differing::TooManyTops => true,
-        Differing::TooManyRuns => true,
-        Differing::Made => false,
-    }
+    between_tops(rec, row, set).map_err(|_| TooManyRuns)
 }
 
-// THE SET OF A LEAF at record i. Says whether it has too many runs.
-pub fn leaf(rec: &[u8], i: usize, row: Row, set: &mut [u32]) -> bool
+// THE SET OF A LEAF at record i.
+pub fn leaf(rec: &[u8], i: usize, row: Row, set: &mut [u32]) -> Result<(), TooManyRuns>
     requires { Asked rec.now i row × (length set.old ≡ slot_words) }
     ensures { Makes (λ v. val (coded rec.now) v (leaf_of row) i) set.new result }
 {
     let kind = row.kind;
     if kind < kinds::HIGH {
         atom(rec, i, row, set);
-        return false;
+        return Ok(());
     }
     if kind < kinds::PEAKS {
         let s = extreme(rec, i, row);
         RunSet::span(s.low, s.high, set);
-        return false;
+        return Ok(());
     }
     if kind < kinds::DOSE {
         return happening(rec, i, row, set);
@@ -186,7 +205,7 @@ pub fn leaf(rec: &[u8], i: usize, row: Row, set: &mut [u32]) -> bool
     if kind == kinds::AMPL {
         let s = amplitude(rec, i, row);
         RunSet::span(s.low, s.high, set);
-        return false;
+        return Ok(());
     }
     apart(rec, i, row, set)
 }

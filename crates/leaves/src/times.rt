@@ -9,11 +9,12 @@ ghost use Rattle.runs.specs.Set.{slot_words, Makes};
 ghost use Rattle.meaning.specs.inner.Coded.{coded};
 ghost use Rattle.leaves.specs.inner.Leaf.{times_of};
 ghost use Rattle.leaves.specs.inner.Indices.{Early, Shifted, Indexed};
-ghost use Rattle.leaves.specs.inner.Differing.{FewIndexed, judged_runs, Differs};
+ghost use Rattle.leaves.specs.inner.Differing.{FewIndexed, Differs};
 ghost use Rattle.recording.specs.Reading.{a_top, curve_of};
 ghost use Rattle.tops.specs.inner.Events.{event_of, Known};
 
-use crate::Differing;
+use crate::TooMany;
+use runs::TooManyRuns;
 use tops::Event;
 
 // The most events of one kind: half of the records.
@@ -24,10 +25,8 @@ fn shift(times: &mut [u32], n: usize)
     requires { (n ≤ length times.old) × Early n times.old }
     ensures { Shifted n times.old times.new }
 {
-    let mut k: usize = 0;
-    while k < n {
+    for k in 0..n {
         times[k] += number::ORIGIN;
-        k += 1;
     }
 }
 
@@ -42,7 +41,7 @@ fn event_indices(rec: &[u8], event: Event, times: &mut [u32]) -> usize
 }
 
 // `peaks`, `dips`, `cross` and `crossup`.
-pub fn events(rec: &[u8], event: Event, set: &mut [u32]) -> bool
+pub fn events(rec: &[u8], event: Event, set: &mut [u32]) -> Result<(), TooManyRuns>
     requires { Accepted rec.now × Known event × (length set.old ≡ slot_words) }
     ensures { Makes (λ v. truth (times_of (event_of event)) (coded rec.now) v) set.new result }
 {
@@ -51,7 +50,8 @@ pub fn events(rec: &[u8], event: Event, set: &mut [u32]) -> bool
     differences::time_set(&times[..n], set)
 }
 
-// The times of the additions of a pigment, as indices.
+// The times of the additions of a pigment, as indices. Written out beside those of an event: with the scan as a parameter, the contract
+// would be longer than both.
 fn addition_indices(rec: &[u8], k: u32, times: &mut [u32]) -> usize
     requires { Accepted rec.now × (length (coded_additions k (coded rec.now)) ≤ length times.old) }
     ensures { Indexed (coded_additions k (coded rec.now)) result times.new }
@@ -62,7 +62,7 @@ fn addition_indices(rec: &[u8], k: u32, times: &mut [u32]) -> usize
 }
 
 // `dose`.
-pub fn additions(rec: &[u8], k: u32, set: &mut [u32]) -> bool
+pub fn additions(rec: &[u8], k: u32, set: &mut [u32]) -> Result<(), TooManyRuns>
     requires { Accepted rec.now × (length set.old ≡ slot_words) }
     ensures { Makes (λ v. truth (asks.dose k) (coded rec.now) v) set.new result }
 {
@@ -71,65 +71,48 @@ pub fn additions(rec: &[u8], k: u32, set: &mut [u32]) -> bool
     differences::time_set(&times[..n], set)
 }
 
-// The times of the tops of a curve, as indices, where they are few enough for differences; how many there are.
-fn top_indices(rec: &[u8], curve: usize, times: &mut [u32]) -> usize
+// The times of the tops of a curve, as indices, if they are few enough for differences.
+fn top_indices(rec: &[u8], curve: usize, times: &mut [u32]) -> Result<usize, TooMany>
     requires { Accepted rec.now × (curve < 2) × (length times.old ≡ most_tops) }
     ensures { FewIndexed (coded_times (a_top (curve_of curve)) (coded rec.now)) result times.new }
 {
     let n = tops::event_times(rec, rec.len() / 16, Event::Top(curve), times);
-    if n <= tops::MOST_TOPS {
-        shift(times, n);
+    if tops::MOST_TOPS < n {
+        return Err(TooMany::Tops);
     }
-    n
+    shift(times, n);
+    Ok(n)
 }
 
-// A set that is made, by whether it has too many runs.
-fn made(over: bool) -> Differing
-    ensures { result ≡ judged_runs over }
-{
-    if over {
-        return Differing::TooManyRuns;
-    }
-    Differing::Made
-}
-
-pub fn gaps(rec: &[u8], curve: usize, set: &mut [u32]) -> Differing
+pub fn gaps(rec: &[u8], curve: usize, set: &mut [u32]) -> Result<(), TooMany>
     requires { Accepted rec.now × (curve < 2) × (length set.old ≡ slot_words) }
     ensures { Differs (many_tops (curve_of curve) (coded rec.now)) (λ v. truth (asks.gaps (curve_of curve)) (coded rec.now) v) set.new result }
 {
     let mut times = [0u32; tops::MOST_TOPS];
-    let n = top_indices(rec, curve, &mut times);
-    if tops::MOST_TOPS < n {
-        return Differing::TooManyTops;
-    }
-    made(differences::gaps(&times[..n], set))
+    let n = top_indices(rec, curve, &mut times)?;
+    differences::gaps(&times[..n], set)?;
+    Ok(())
 }
 
-pub fn steps(rec: &[u8], curve: usize, set: &mut [u32]) -> Differing
+// Written out beside `gaps`: with the differences as a parameter, the contract would be longer than both.
+pub fn steps(rec: &[u8], curve: usize, set: &mut [u32]) -> Result<(), TooMany>
     requires { Accepted rec.now × (curve < 2) × (length set.old ≡ slot_words) }
     ensures { Differs (many_tops (curve_of curve) (coded rec.now)) (λ v. truth (asks.steps (curve_of curve)) (coded rec.now) v) set.new result }
 {
     let mut times = [0u32; tops::MOST_TOPS];
-    let n = top_indices(rec, curve, &mut times);
-    if tops::MOST_TOPS < n {
-        return Differing::TooManyTops;
-    }
-    made(differences::steps(&times[..n], set))
+    let n = top_indices(rec, curve, &mut times)?;
+    differences::steps(&times[..n], set)?;
+    Ok(())
 }
 
-pub fn lag(rec: &[u8], set: &mut [u32]) -> Differing
+pub fn lag(rec: &[u8], set: &mut [u32]) -> Result<(), TooMany>
     requires { Accepted rec.now × (length set.old ≡ slot_words) }
     ensures { Differs (many_tops (curve_of 0) (coded rec.now) || many_tops (curve_of 1) (coded rec.now)) (λ v. truth asks.lag (coded rec.now) v) set.new result }
 {
     let mut a = [0u32; tops::MOST_TOPS];
-    let m = top_indices(rec, 0, &mut a);
-    if tops::MOST_TOPS < m {
-        return Differing::TooManyTops;
-    }
+    let m = top_indices(rec, 0, &mut a)?;
     let mut b = [0u32; tops::MOST_TOPS];
-    let n = top_indices(rec, 1, &mut b);
-    if tops::MOST_TOPS < n {
-        return Differing::TooManyTops;
-    }
-    made(differences::lags(&a[..m], &b[..n], set))
+    let n = top_indices(rec, 1, &mut b)?;
+    differences::lags(&a[..m], &b[..n], set)?;
+    Ok(())
 }

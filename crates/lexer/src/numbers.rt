@@ -15,7 +15,7 @@ const LARGER: u64 = LARGEST + 1;
 const MOST_PIGMENTS: u32 = recording::MOST_PIGMENTS as u32;
 
 // The digits in front: what they come to, or 2,000,000,001 where that is more, and where they stop.
-#[derive(Drop)]
+#[derive(Clone, Copy)]
 pub struct Digits {
     pub value: u64,
     pub end: usize,
@@ -26,8 +26,7 @@ fn with_digit(value: u64, b: u8) -> u64
     requires { (value ≤ 2000000001) × (48 ≤ b) × (b ≤ 57) }
     ensures { result ≡ min (10 * value + (b - 48)) 2000000001 }
 {
-    let longer = 10 * value + (b - 48) as u64;
-    if longer <= LARGEST { longer } else { LARGER }
+    (10 * value + u64::from(b - b'0')).min(LARGER)
 }
 
 fn digit_run(text: &[u8], at: usize) -> Digits
@@ -35,81 +34,75 @@ fn digit_run(text: &[u8], at: usize) -> Digits
     ensures { (result.end ≡ at + length (digit_run (drop at text.now)))
         × (result.value ≡ min (decimal (digit_run (drop at text.now))) 2000000001) }
 {
-    let mut value: u64 = 0;
-    let mut end = at;
-    while end < text.len() {
+    let mut value = 0;
+    for end in at..text.len() {
         let b = text[end];
         if !classes::is_digit(b) {
             return Digits { value, end };
         }
         value = with_digit(value, b);
-        end += 1;
     }
-    Digits { value, end }
+    Digits {
+        value,
+        end: text.len(),
+    }
 }
 
 // A number without a sign.
-fn unsigned(text: &[u8], at: usize) -> Found
+#[tactic(auto, unfolding(grammar::specs::inner::Lexer::unsigned_at))]
+fn unsigned(text: &[u8], at: usize) -> Option<Found>
     requires { at ≤ length text.now }
     ensures { result ≡ unsigned_at text.now at }
 {
     let b = words::peek(text, at);
     if b == b'0' {
-        return Found::At(0, at + 1);
+        return Some(Found {
+            code: 0,
+            end: at + 1,
+        });
     }
     if !classes::is_digit(b) {
-        return Found::Missing;
+        return None;
     }
-    let d = digit_run(text, at);
-    let value = d.value;
-    let end = d.end;
+    let Digits { value, end } = digit_run(text, at);
     if value <= LARGEST {
-        Found::At(value as u32, end)
+        let code = value as u32;
+        Some(Found { code, end })
     } else {
-        Found::Missing
+        None
     }
 }
 
 // A number, as its index on the axis.
-pub fn number(text: &[u8], at: usize) -> Found
+#[tactic(auto, unfolding(grammar::specs::inner::Lexer::number_at))]
+pub fn number(text: &[u8], at: usize) -> Option<Found>
     requires { at ≤ length text.now }
     ensures { result ≡ number_at text.now at }
 {
     if words::peek(text, at) == b'-' {
-        match unsigned(text, at + 1) {
-            Found::At(n, e) => {
-                if n == 0 {
-                    Found::Missing
-                } else {
-                    Found::At(ORIGIN - n, e)
-                }
-            }
-            Found::Missing => Found::Missing,
+        let Found { code: n, end } = unsigned(text, at + 1)?;
+        if n == 0 {
+            return None;
         }
+        let code = ORIGIN - n;
+        Some(Found { code, end })
     } else {
-        match unsigned(text, at) {
-            Found::At(n, e) => Found::At(ORIGIN + n, e),
-            Found::Missing => Found::Missing,
-        }
+        let Found { code: n, end } = unsigned(text, at)?;
+        let code = ORIGIN + n;
+        Some(Found { code, end })
     }
 }
 
 // The number of a pigment: 1 to 16.
-pub fn pigment(text: &[u8], at: usize) -> Found
+#[tactic(auto, unfolding(grammar::specs::inner::Lexer::pigment_at))]
+pub fn pigment(text: &[u8], at: usize) -> Option<Found>
     requires { at ≤ length text.now }
     ensures { result ≡ pigment_at text.now at }
 {
-    match unsigned(text, at) {
-        Found::At(n, e) => {
-            if n == 0 {
-                return Found::Missing;
-            }
-            if n <= MOST_PIGMENTS {
-                Found::At(n, e)
-            } else {
-                Found::Missing
-            }
-        }
-        Found::Missing => Found::Missing,
+    let found = unsigned(text, at)?;
+    if 0 < found.code && found.code <= MOST_PIGMENTS {
+        Some(found)
+    } else {
+        None
     }
 }

@@ -12,9 +12,7 @@ ghost use Rattle.listing.specs.Listing.{most_entries, entry_at, said_to_reach, n
 ghost use Rattle.listing.specs.Call.{level_lines, find_of};
 
 use entry::ENTRY_BYTES;
-use recording::Written;
 use refusal::Refusal;
-use targets::OnAxis;
 
 // The most entries of a summary.
 const MOST_ENTRIES: usize = 2048;
@@ -37,27 +35,16 @@ fn reaches_level(summary: &[u8], i: usize, curve: usize, index: u32) -> bool
     index + LIFT <= greatest
 }
 
-// One more, where it is wanted.
-fn count_one(k: usize, wanted: bool) -> usize
-    requires { k ≤ most_entries }
-    ensures { result ≡ cond wanted (k + 1) k }
-{
-    if wanted {
-        return k + 1;
-    }
-    k
-}
-
 // How many of the first n entries say so.
 fn count_entries(summary: &[u8], n: usize, curve: usize, index: u32) -> usize
     requires { (n * entry_bytes ≤ length summary.now) × (n ≤ most_entries) × (curve < 2) × (index < axis) }
     ensures { result ≡ length (numbers_to (curve_of curve) (whole index) summary.now n) }
 {
-    let mut i: usize = 0;
     let mut k: usize = 0;
-    while i < n {
-        k = count_one(k, reaches_level(summary, i, curve, index));
-        i += 1;
+    for i in 0..n {
+        if reaches_level(summary, i, curve, index) {
+            k += 1;
+        }
     }
     k
 }
@@ -90,53 +77,62 @@ fn put_numbers(summary: &[u8], n: usize, curve: usize, index: u32, out: &mut [u8
     requires { (n * entry_bytes ≤ length summary.now) × (n ≤ most_entries) × (curve < 2) × (index < axis) × (4 * length (numbers_to (curve_of curve) (whole index) summary.now n) ≤ length out.old) }
     ensures { (result ≡ length (numbers_to (curve_of curve) (whole index) summary.now n)) × (out.new ≡ words_bytes (numbers_to (curve_of curve) (whole index) summary.now n) ++ drop (4 * length (numbers_to (curve_of curve) (whole index) summary.now n)) out.old) }
 {
-    let mut i: usize = 0;
     let mut k: usize = 0;
-    while i < n {
+    for i in 0..n {
         let wanted = reaches_level(summary, i, curve, index);
         k = put_number(out, k, i, wanted);
-        i += 1;
     }
     k
 }
 
 // The find call for a level on the axis, given as its index: the listing, or 10.
-fn at_level(summary: &[u8], n: usize, curve: usize, index: u32, out: &mut [u8]) -> Written
+fn at_level(
+    summary: &[u8],
+    n: usize,
+    curve: usize,
+    index: u32,
+    out: &mut [u8],
+) -> Result<usize, Refusal>
     requires { (length summary.now ≡ n * entry_bytes) × (n ≤ most_entries) × (curve < 2) × (index < axis) }
     ensures { Answers (judged (output_line (length out.old) (listing (curve_of curve) (whole index) summary.now) ∷ []) (listing (curve_of curve) (whole index) summary.now)) out.old result out.new }
 {
     if too_short(summary, n, curve, index, out.len()) {
-        return Written::Refused(Refusal::ShortOutput);
+        return Err(Refusal::ShortOutput);
     }
     let size = 4 * put_numbers(summary, n, curve, index, out);
-    Written::Bytes(size)
+    Ok(size)
 }
 
 // The find call on a summary of n entries: the listing, or 12 or 10.
-fn in_entries(summary: &[u8], n: usize, curve: u32, level: i64, out: &mut [u8]) -> Written
+fn in_entries(
+    summary: &[u8],
+    n: usize,
+    curve: u32,
+    level: i64,
+    out: &mut [u8],
+) -> Result<usize, Refusal>
     requires { (length summary.now ≡ n * entry_bytes) × (n ≤ most_entries) }
     ensures { Answers (judged (level_lines summary.now curve level (length out.old)) (listing (curve_of curve) level summary.now)) out.old result out.new }
 {
     if 1 < curve {
-        return Written::Refused(Refusal::BadTarget);
+        return Err(Refusal::BadTarget);
     }
-    let place = targets::on_axis(level);
-    match place {
-        OnAxis::Index(index) => at_level(summary, n, curve as usize, index, out),
-        OnAxis::Off => Written::Refused(Refusal::BadTarget),
-    }
+    let Some(index) = targets::on_axis(level) else {
+        return Err(Refusal::BadTarget);
+    };
+    at_level(summary, n, curve as usize, index, out)
 }
 
 // THE FIND CALL.
-pub fn find(summary: &[u8], curve: u32, level: i64, out: &mut [u8]) -> Written
+pub fn find(summary: &[u8], curve: u32, level: i64, out: &mut [u8]) -> Result<usize, Refusal>
     ensures { Answers (find_of summary.now curve level (length out.old)) out.old result out.new }
 {
     if summary.len() % ENTRY_BYTES != 0 {
-        return Written::Refused(Refusal::BadSummary);
+        return Err(Refusal::BadSummary);
     }
     let n = summary.len() / ENTRY_BYTES;
     if MOST_ENTRIES < n {
-        return Written::Refused(Refusal::BadSummary);
+        return Err(Refusal::BadSummary);
     }
     in_entries(summary, n, curve, level, out)
 }

@@ -1,13 +1,14 @@
 -- The walk along two lists, as it fills an array: what is written, with what is still to come, is the whole.
 use Prim.Native.Nat.{ℕ, ◌+◌, ◌≤◌, ◌<◌, min, max}
 use mathlib.Core.Path.{◌≡◌, refl, sym, ap, ap₂, subst, ◌∙◌}
-use mathlib.Core.Bool.{true, false, true≢false}
+use mathlib.Core.Bool.{true≢false}
 use mathlib.Core.List.{List, [], ◌∷◌, ◌++◌, append_assoc, append-nil}
 use mathlib.Core.Logic.{⊎_elim}
 use native.Mathlib.Omega.{arith}
 use lib.ListN.{length, take, drop, get_or, set, length-append, length-set, take-append-drop}
 use lib.Seq.{length-take-le, drop-set-lt, drop-drop, drop-length}
 use borrow.Author.Tests.{lt-ltb, le-ltb}
+use Rattle.std.specs.Prelude.{Some, None}
 use Rattle.number.proofs.laws.Order.{less_or_not}
 use Rattle.runs.specs.Set.{Canonical}
 use Rattle.runs.proofs.laws.Added.{put_two}
@@ -40,21 +41,21 @@ module _ (m before out : List ℕ) (n low end : ℕ) (left rest : List ℕ) (h :
             ∙ sym (drop-drop 2 n out) ∙ ap (drop 2) h.behind ∙ drop-drop 2 n before;
       }
 
-  pub full : length before < n + 2 → (k : ℕ) → Merged m before out (record { over = true; n = k })
-  full q k =
+  pub full : length before < n + 2 → Merged m before out None
+  full q =
       record {
         over = sym (lt-ltb (length before) (length m) (omega (arith, h.size, h.room, simp (length-append, length-take-le n out (omega (arith, h.size, h.room))) at (ap length shown))));
-        count = λ z. absurd (true≢false z);
+        count = tt;
         filled = λ z. absurd (true≢false z);
       }
 
-done : (m before out : List ℕ) (n : ℕ) (left : List ℕ) → Progress m before out n left → left ≡ [] → Merged m before out (record { over = false; n = n })
+done : (m before out : List ℕ) (n : ℕ) (left : List ℕ) → Progress m before out n left → left ≡ [] → Merged m before out (Some n)
 done m before out n left h e =
     let w : take n out ≡ m = sym (append-nil (take n out)) ∙ ap (λ (l : List ℕ). take n out ++ l) (sym e) ∙ h.whole in
     let k : n ≡ length m = sym (length-take-le n out (omega (arith, h.room, h.size))) ∙ ap length w in
     record {
       over = sym (le-ltb (length before) (length m) (omega (arith, h.room)));
-      count = λ z. k;
+      count = k;
       filled = λ z. sym (take-append-drop n out) ∙ ap₂ ◌++◌ w (h.behind ∙ ap (λ (j : ℕ). drop j before) k);
     }
 
@@ -71,12 +72,12 @@ walking_start a b before ca cb = record { left_in = omega arith; right_in = omeg
 
 module _ (a b before out : List ℕ) (n i j : ℕ) (w : Walking a b before out n i j) where
   -- one list is at its end
-  pub walked_left : length a ≤ i → Merged (shared a b) before out (record { over = false; n = n })
+  pub walked_left : length a ≤ i → Merged (shared a b) before out (Some n)
   walked_left h =
       let e : i ≡ length a = omega (arith, w.left_in) in
       done _ before out n _ w.progress (ap (λ (l : List ℕ). shared l (drop j b)) (ap (λ (k : ℕ). drop k a) e ∙ drop-length a) ∙ none_left (drop j b) w.right.ascending)
 
-  pub walked_right : j ≡ length b → Merged (shared a b) before out (record { over = false; n = n })
+  pub walked_right : j ≡ length b → Merged (shared a b) before out (Some n)
   walked_right e =
       done _ before out n _ w.progress (ap (λ (l : List ℕ). shared (drop i a) l) (ap (λ (k : ℕ). drop k b) e ∙ drop-length b) ∙ none_right (drop i a) w.left.ascending)
 
@@ -133,9 +134,9 @@ module _ (a b before out : List ℕ) (n i j : ℕ) (w : Walking a b before out n
       write_right h g k = on_right _ (n + 2) (write (shared a b) before out n low end _ _ w.progress (comes_right h g) k)
 
     -- or there is no room for it
-    pub no_room : get_or b j 0 < get_or a (i + 1) 0 → get_or a i 0 < get_or b (j + 1) 0 → length before < n + 2 → (k : ℕ) → Merged (shared a b) before out (record { over = true; n = k })
-    no_room h g q k =
+    pub no_room : get_or b j 0 < get_or a (i + 1) 0 → get_or a i 0 < get_or b (j + 1) 0 → length before < n + 2 → Merged (shared a b) before out None
+    no_room h g q =
         ⊎_elim
-        (λ s. full (shared a b) before out n _ _ _ _ w.progress (comes_left _ _ refl refl h (omega arith)) q k)
-        (λ s. full (shared a b) before out n _ _ _ _ w.progress (comes_right _ _ refl refl g s) q k)
+        (λ s. full (shared a b) before out n _ _ _ _ w.progress (comes_left _ _ refl refl h (omega arith)) q)
+        (λ s. full (shared a b) before out n _ _ _ _ w.progress (comes_right _ _ refl refl g s) q)
         (less_or_not (get_or a (i + 1) 0) (get_or b (j + 1) 0))

@@ -3,6 +3,7 @@ ghost use Rattle.std.specs.Prelude.{◌≡◌, not, ◌≤◌, length};
 ghost use Rattle.runs.specs.Set.{inside, slot_words, shared_words, Canonical, Makes};
 ghost use Rattle.merge.specs.inner.Complement.{Ended};
 
+use runs::TooManyRuns;
 use slot::CUTS;
 
 // How many cuts lie at the low end and at the high end of the axis: one or none.
@@ -10,13 +11,6 @@ use slot::CUTS;
 struct Ends {
     low: usize,
     high: usize,
-}
-
-// One where two numbers are the same, else none.
-fn one_if(x: u32, y: u32) -> usize
-    ensures { (x ≡ y → result ≡ 1) × ((x ≡ y → ⊥) → result ≡ 0) }
-{
-    if x == y { 1 } else { 0 }
 }
 
 fn ends_of(a: &[u32]) -> Ends
@@ -28,13 +22,13 @@ fn ends_of(a: &[u32]) -> Ends
         return Ends { low: 0, high: 0 };
     }
     Ends {
-        low: one_if(a[0], 0),
-        high: one_if(a[n - 1], number::AXIS),
+        low: usize::from(a[0] == 0),
+        high: usize::from(a[n - 1] == number::AXIS),
     }
 }
 
-// The complement of the set of a list of cuts. Says whether it has too many runs.
-pub fn complement(a: &[u32], set: &mut [u32]) -> bool
+// The complement of the set of a list of cuts.
+pub fn complement(a: &[u32], set: &mut [u32]) -> Result<(), TooManyRuns>
     requires { Canonical a.now × (length a.now ≤ shared_words) × (length set.old ≡ slot_words) }
     ensures { Makes (λ v. not (inside a.now v)) set.new result }
 {
@@ -45,11 +39,11 @@ pub fn complement(a: &[u32], set: &mut [u32]) -> bool
     let back = front + (end - from);
     let all = back + (1 - ends.high);
     if CUTS < all {
-        return true;
+        return Err(TooManyRuns);
     }
     set[0] = 0;
     slot::copy(&a[from..end], set, front);
     set[back] = number::AXIS;
     set[CUTS] = all as u32;
-    false
+    Ok(())
 }

@@ -8,17 +8,15 @@ pub mod walk;
 ghost use Rattle.std.specs.Prelude.{◌≡◌, ◌&&◌, ◌≤◌, length};
 ghost use Rattle.runs.specs.Set.{inside, slot_words, shared_words, Canonical, Makes};
 
+use runs::TooManyRuns;
 use slot::CUTS;
 
-// What the sets of two lists of cuts share. Says whether it has too many runs.
-pub fn intersect(a: &[u32], b: &[u32], set: &mut [u32]) -> bool
+// What the sets of two lists of cuts share.
+pub fn intersect(a: &[u32], b: &[u32], set: &mut [u32]) -> Result<(), TooManyRuns>
     requires { Canonical a.now × Canonical b.now × (length a.now ≤ shared_words) × (length b.now ≤ shared_words) × (length set.old ≡ slot_words) }
     ensures { Makes (λ v. inside a.now v && inside b.now v) set.new result }
 {
-    let filled = run::merge(a, b, &mut set[..CUTS]);
-    if filled.over {
-        return true;
-    }
-    set[CUTS] = filled.n as u32;
-    false
+    let n = run::merge(a, b, &mut set[..CUTS]).ok_or(TooManyRuns)?;
+    set[CUTS] = n as u32;
+    Ok(())
 }

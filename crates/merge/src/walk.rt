@@ -3,15 +3,9 @@ ghost use Rattle.std.specs.Prelude.{◌≡◌, false, ◌&&◌, ◌≤◌, lengt
 ghost use Rattle.runs.specs.Set.{shared_words, Canonical};
 ghost use Rattle.merge.specs.inner.Merge.{merge_cuts, Merged};
 
-// How many cuts were written; over where there was no room for all.
-#[derive(Drop)]
-pub struct Filled {
-    pub over: bool,
-    pub n: usize,
-}
-
 // Writes the cuts of what two sets share: of the runs at i and j what both hold, then on behind the one that ends first.
-pub fn merge(a: &[u32], b: &[u32], out: &mut [u32]) -> Filled
+// Says how many cuts it wrote, or nothing where there was no room for all.
+pub fn merge(a: &[u32], b: &[u32], out: &mut [u32]) -> Option<usize>
     requires { Canonical a.now × Canonical b.now × (length a.now ≤ shared_words) × (length b.now ≤ shared_words) }
     ensures { Merged (merge_cuts ◌&&◌ false false a.now b.now) out.old out.new result }
 {
@@ -19,9 +13,10 @@ pub fn merge(a: &[u32], b: &[u32], out: &mut [u32]) -> Filled
     let mut n: usize = 0;
     let mut i: usize = 0;
     let mut j: usize = 0;
+    // Two places that move apart.
     while i < a.len() {
         if j == b.len() {
-            return Filled { over: false, n };
+            return Some(n);
         }
         let la = a[i];
         let ea = a[i + 1];
@@ -33,10 +28,10 @@ pub fn merge(a: &[u32], b: &[u32], out: &mut [u32]) -> Filled
             j += 2;
         } else {
             if room < n + 2 {
-                return Filled { over: true, n };
+                return None;
             }
-            out[n] = number::greater(la, lb);
-            out[n + 1] = number::lesser(ea, eb);
+            out[n] = la.max(lb);
+            out[n + 1] = ea.min(eb);
             n += 2;
             if ea < eb {
                 i += 2;
@@ -45,5 +40,5 @@ pub fn merge(a: &[u32], b: &[u32], out: &mut [u32]) -> Filled
             }
         }
     }
-    Filled { over: false, n }
+    Some(n)
 }

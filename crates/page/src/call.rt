@@ -4,8 +4,6 @@ ghost use Rattle.io.specs.Counts.{IsPrefixLen};
 ghost use Rattle.page.specs.Typed.{without_newline};
 ghost use Rattle.page.specs.Printed.{printed, Prints};
 
-use recording::Written;
-
 // The output that the question call is given: 8 bytes for each run that a set may have.
 pub const SET_ROOM: usize = 8 * runs::MOST_RUNS;
 
@@ -13,7 +11,7 @@ pub const SET_ROOM: usize = 8 * runs::MOST_RUNS;
 // 11 bytes, a blank and a newline.
 pub const PAGE_SIZE: usize = 16 + 24 * runs::MOST_RUNS;
 
-const NEWLINE: u8 = 10;
+const NEWLINE: u8 = b'\n';
 
 // The length of the text that was typed, without a final newline.
 fn text_length(typed: &[u8]) -> usize
@@ -38,7 +36,7 @@ pub fn answer(rec: &[u8], typed: &[u8], page: &mut [u8; PAGE_SIZE]) -> usize
     let mut set = [0u8; SET_ROOM];
     let written = question::question(rec, &typed[..n], &mut set);
     match written {
-        Written::Refused(x) => crate::lines::refusal_page(page, x),
-        Written::Bytes(size) => crate::lines::set_page(page, &set[..size]),
+        Err(x) => crate::lines::refusal_page(page, x),
+        Ok(size) => crate::lines::set_page(page, &set[..size]),
     }
 }

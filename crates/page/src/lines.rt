@@ -31,12 +31,10 @@ fn runs(out: &mut [u8], at: usize, set: &[u8], n: usize) -> usize
     ensures { Puts (run_lines n set.now) out.old at out.new result }
 {
     let mut end = at;
-    let mut i: usize = 0;
-    while i < n {
+    for i in 0..n {
         let low = number::word_at(set, RUN * i);
         let high = number::word_at(set, RUN * i + 4);
         end = run(out, end, low, high);
-        i += 1;
     }
     end
 }
@@ -59,8 +57,8 @@ pub fn refusal_page(out: &mut [u8], x: Refusal) -> usize
     ensures { Puts (page (refused (number_of x) (place_of x))) out.old 0 out.new result }
 {
     let number = put::bytes(out, 0, b"refused ");
-    let blank = numbers::unsigned(out, number, refusal::number(x) as u64);
+    let blank = numbers::unsigned(out, number, x.number() as u64);
     let place = put::byte(out, blank, b' ');
-    let end = numbers::unsigned(out, place, refusal::place(x) as u64);
+    let end = numbers::unsigned(out, place, x.place() as u64);
     put::byte(out, end, b'\n')
 }

@@ -1,5 +1,5 @@
 -- Document 01, "Degree and pair": the pair call. Which pair it gives: document 02, Paper 2.
-use Rattle.std.specs.Prelude.{ℕ, ◌≤◌, ◌<◌, ◌≡◌, Bool, true, false, cond, ◌⊎◌, List, [], ◌∷◌, ◌++◌, map, length, get_or, eqb, ltb, ℤ, pos, negsuc}
+use Rattle.std.specs.Prelude.{ℕ, ◌≤◌, ◌<◌, ◌≡◌, Bool, true, false, cond, ◌⊎◌, List, [], ◌∷◌, ◌++◌, map, length, get_or, eqb, ltb, ℤ, pos, negsuc, Result, Ok, Err, Option, Some, None}
 use Rattle.std.proofs.Math.IntN.{sub_ℕ}
 use Rattle.refusal.specs.Outcome.{Outcome, result, refused, Line, line, judged}
 use Rattle.refusal.specs.Numbers.{number_of, place_of}
@@ -9,7 +9,7 @@ use Rattle.recording.specs.Recording.{readings, recording_lines, no_record}
 use Rattle.tops.specs.Tops.{recorded_time, top_times, most_tops}
 use Rattle.targets.specs.Target.{bad_target}
 use Rattle.pair.specs.declared.TopPair.{TopPair}
-use Rattle.pair.specs.declared.TopPair.TheVariants as answer
+use Rattle.refusal.specs.declared.Refusal.{Refusal}
 
 -- the time of record i
 abbrev pub time_at : List Reading → ℕ → ℕ
@@ -92,11 +92,15 @@ accepted_lines bytes curve g = no_record bytes ∷ bad_target curve g ∷ too_ma
 abbrev pub pair_lines : List ℕ → ℕ → ℤ → List Line
 pair_lines bytes curve g = recording_lines bytes ++ accepted_lines bytes curve g
 
--- the number, the place and the values of each answer
-abbrev pub outcome_of : TopPair → Outcome Given
-outcome_of (answer.Times t u) = result (times t u)
-outcome_of answer.Nothing = result none
-outcome_of (answer.Refused x) = refused (number_of x) (place_of x)
+-- what an answer of the code gives
+abbrev pub pair_in : Option TopPair → Given
+pair_in (Some p) = times p.earlier p.later
+pair_in None = none
+
+-- the pair, or the refusal's number and place
+abbrev pub outcome_of : Result (Option TopPair) Refusal → Outcome Given
+outcome_of (Ok p) = result (pair_in p)
+outcome_of (Err x) = refused (number_of x) (place_of x)
 
 -- THE PAIR CALL: its refusals in the order 1 to 4, 12, 9; else the first pair
 unfoldable pub pair_of : List ℕ → ℕ → ℤ → Outcome Given

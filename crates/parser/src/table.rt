@@ -23,17 +23,8 @@ pub fn put_unary(table: &mut [u32], n: usize, kind: u32)
     requires { (0 < n) × (n ≤ most_bytes) × (4 * n + 4 ≤ length table.old) }
     ensures { Put table.old n (row kind (n - 1) 0 0) table.new }
 {
-    let child = n - 1;
-    put(
-        table,
-        n,
-        Row {
-            kind,
-            first: child as u32,
-            second: 0,
-            number: 0,
-        },
-    )
+    let child = (n - 1) as u32;
+    put(table, n, Row::new(kind, child, 0, 0))
 }
 
 // Writes row n, an operator over two texts: that whose root is the row before m, and that whose root is the row before n.
@@ -41,16 +32,7 @@ pub fn put_binary(table: &mut [u32], m: usize, n: usize, kind: u32)
     requires { (0 < m) × (m ≤ n) × (n ≤ most_bytes) × (4 * n + 4 ≤ length table.old) }
     ensures { Put table.old n (row kind (m - 1) (n - 1) 0) table.new }
 {
-    let left = m - 1;
-    let right = n - 1;
-    put(
-        table,
-        n,
-        Row {
-            kind,
-            first: left as u32,
-            second: right as u32,
-            number: 0,
-        },
-    )
+    let left = (m - 1) as u32;
+    let right = (n - 1) as u32;
+    put(table, n, Row::new(kind, left, right, 0))
 }

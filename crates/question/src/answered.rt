@@ -9,67 +9,45 @@ ghost use Rattle.meaning.specs.inner.Truth.{val, asks_too_many, of_listed};
 ghost use Rattle.leaves.specs.inner.Leaf.{leaf_of};
 ghost use Rattle.leaves.specs.inner.Differing.{Differs};
 ghost use Rattle.evaluation.specs.inner.Evaluation.{text_of};
-ghost use Rattle.question.specs.inner.Answered.{Answerable, verdict_of, Gives};
+ghost use Rattle.question.specs.inner.Answered.{Answerable, Gives};
 
 use grammar::{Row, kinds};
-use leaves::Differing;
+use leaves::TooMany;
 use refusal::Refusal;
 
-// Whether the set is given.
-#[derive(Drop)]
-pub enum Verdict {
-    Fine,
-    Refused(Refusal),
-}
-
 // THE SET OF A TEXT at the first record, unless it is refused: 9 by a search for tops, then 8 and the set by an evaluation.
-pub fn of_tree(rec: &[u8], table: &[u32], count: usize, set: &mut [u32]) -> Verdict
+pub fn of_tree(rec: &[u8], table: &[u32], count: usize, set: &mut [u32]) -> Result<(), Refusal>
     requires { Answerable table.now count rec.now × (length set.old ≡ slot_words) }
     ensures { Gives rec.now (text_of table.now count) set.new result }
 {
     if crate::limits::asks(table, count, rec, count - 1) {
-        return Verdict::Refused(Refusal::TooManyTops);
+        return Err(Refusal::TooManyTops);
     }
     let ahead = text::table::is_temporal(table, count);
-    let over = evaluation::evaluate(table, count, ahead, rec, set);
-    if over {
-        return Verdict::Refused(Refusal::TooManyRuns);
-    }
-    Verdict::Fine
-}
-
-// What differences between tops come to.
-fn verdict_of(found: Differing) -> Verdict
-    ensures { result ≡ verdict_of found }
-{
-    match found {
-        Differing::TooManyTops => Verdict::Refused(Refusal::TooManyTops),
-        Differing::TooManyRuns => Verdict::Refused(Refusal::TooManyRuns),
-        Differing::Made => Verdict::Fine,
-    }
+    evaluation::evaluate(table, count, ahead, rec, set)?;
+    Ok(())
 }
 
 // A leaf alone. Differences between tops are read once, for 9 and for the set.
-fn alone(rec: &[u8], row: Row, set: &mut [u32]) -> Differing
+fn alone(rec: &[u8], row: Row, set: &mut [u32]) -> Result<(), TooMany>
     requires { Accepted rec.now × (0 < length (coded rec.now)) × (row.kind < NOT) × (length set.old ≡ slot_words) }
     ensures { Differs (of_listed (asks_too_many (coded rec.now)) (leaf_of row)) (λ v. val (coded rec.now) v (leaf_of row) 0) set.new result }
 {
     if kinds::GAPS <= row.kind {
         return leaves::between_tops(rec, row, set);
     }
-    if leaves::leaf(rec, 0, row, set) {
-        return Differing::TooManyRuns;
-    }
-    Differing::Made
+    leaves::leaf(rec, 0, row, set)?;
+    Ok(())
 }
 
 // THE SET OF A TEXT OF ONE LEAF.
-pub fn of_leaf(rec: &[u8], table: &[u32], count: usize, set: &mut [u32]) -> Verdict
+pub fn of_leaf(rec: &[u8], table: &[u32], count: usize, set: &mut [u32]) -> Result<(), Refusal>
     requires { Answerable table.now count rec.now × ((row_at table.now (count - 1)).kind < NOT) × (length set.old ≡ slot_words) }
     ensures { Gives rec.now (text_of table.now count) set.new result }
 {
     let root = evaluation::rows::row_at(table, count - 1);
-    verdict_of(alone(rec, root, set))
+    alone(rec, root, set)?;
+    Ok(())
 }
 
 // Whether a text is one leaf.

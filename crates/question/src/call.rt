@@ -8,53 +8,44 @@ ghost use Rattle.question.specs.Question.{question_of, answer_of, written_of};
 ghost use Rattle.question.specs.inner.Answered.{Answerable};
 ghost use Rattle.runs.specs.Set.{member, Valid};
 
-use crate::answered::Verdict;
-use crate::prepare::Prepared;
-use recording::Written;
 use refusal::Refusal;
 use runset::RunSet;
 
 // Writes a set, if the output is long enough.
-fn write_set(set: &[u32], out: &mut [u8]) -> Written
+fn write_set(set: &[u32], out: &mut [u8]) -> Result<usize, Refusal>
     requires { Valid set.now }
     ensures { Answers (written_of (member set.now) (length out.old)) out.old result out.new }
 {
     let size = 8 * RunSet::count(set);
     if out.len() < size {
-        return Written::Refused(Refusal::ShortOutput);
+        return Err(Refusal::ShortOutput);
     }
     RunSet::write(set, out);
-    Written::Bytes(size)
+    Ok(size)
 }
 
 // Answers a text of one leaf.
-fn answer_leaf(rec: &[u8], table: &[u32], count: usize, out: &mut [u8]) -> Written
+fn answer_leaf(rec: &[u8], table: &[u32], count: usize, out: &mut [u8]) -> Result<usize, Refusal>
     requires { Answerable table.now count rec.now × ((row_at table.now (count - 1)).kind < NOT) }
     ensures { Answers (answer_of rec.now (text_of table.now count) (length out.old)) out.old result out.new }
 {
     let mut set = [0u32; runset::SLOT];
-    let verdict = crate::answered::of_leaf(rec, table, count, &mut set);
-    match verdict {
-        Verdict::Refused(x) => Written::Refused(x),
-        Verdict::Fine => write_set(&set, out),
-    }
+    crate::answered::of_leaf(rec, table, count, &mut set)?;
+    write_set(&set, out)
 }
 
 // Answers any other.
-fn answer_tree(rec: &[u8], table: &[u32], count: usize, out: &mut [u8]) -> Written
+fn answer_tree(rec: &[u8], table: &[u32], count: usize, out: &mut [u8]) -> Result<usize, Refusal>
     requires { Answerable table.now count rec.now }
     ensures { Answers (answer_of rec.now (text_of table.now count) (length out.old)) out.old result out.new }
 {
     let mut set = [0u32; runset::SLOT];
-    let verdict = crate::answered::of_tree(rec, table, count, &mut set);
-    match verdict {
-        Verdict::Refused(x) => Written::Refused(x),
-        Verdict::Fine => write_set(&set, out),
-    }
+    crate::answered::of_tree(rec, table, count, &mut set)?;
+    write_set(&set, out)
 }
 
 // Answers a text that was read.
-pub fn answer(rec: &[u8], table: &[u32], count: usize, out: &mut [u8]) -> Written
+pub fn answer(rec: &[u8], table: &[u32], count: usize, out: &mut [u8]) -> Result<usize, Refusal>
     requires { Answerable table.now count rec.now }
     ensures { Answers (answer_of rec.now (text_of table.now count) (length out.old)) out.old result out.new }
 {
@@ -65,13 +56,10 @@ pub fn answer(rec: &[u8], table: &[u32], count: usize, out: &mut [u8]) -> Writte
 }
 
 // The bytes of the set of numbers with which the text is true of the recording, or the refusal.
-pub fn question(rec: &[u8], text: &[u8], out: &mut [u8]) -> Written
+pub fn question(rec: &[u8], text: &[u8], out: &mut [u8]) -> Result<usize, Refusal>
     ensures { Answers (question_of rec.now text.now (length out.old)) out.old result out.new }
 {
     let mut table = [0u32; text::TABLE_SIZE];
-    let prepared = crate::prepare::prepare(rec, text, &mut table);
-    match prepared {
-        Prepared::Refused(x) => Written::Refused(x),
-        Prepared::Nodes(n) => answer(rec, &table, n, out),
-    }
+    let count = crate::prepare::prepare(rec, text, &mut table)?;
+    answer(rec, &table, count, out)
 }

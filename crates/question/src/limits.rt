@@ -45,11 +45,11 @@ pub fn asks(table: &[u32], count: usize, rec: &[u8], n: usize) -> bool
     if kind < kinds::NOT {
         return leaf_asks(rec, row);
     }
-    if asks(table, count, rec, evaluation::slots::size(row.first)) {
+    if asks(table, count, rec, row.first as usize) {
         return true;
     }
     if kind < kinds::OR {
         return false;
     }
-    asks(table, count, rec, evaluation::slots::size(row.second))
+    asks(table, count, rec, row.second as usize)
 }

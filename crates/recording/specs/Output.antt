@@ -1,21 +1,7 @@
 -- Document 01, "When no result is given": what a call answers, and what it leaves in its output.
-use Rattle.std.specs.Prelude.{ℕ, ◌≡◌, List, ◌++◌, ltb, length, drop}
-use Rattle.refusal.specs.Outcome.{Outcome, result, refused, Line, line}
-use Rattle.refusal.specs.Numbers.{number_of, place_of}
-use Rattle.recording.specs.declared.Checked.{Checked}
-use Rattle.recording.specs.declared.Checked.TheVariants as checked
-use Rattle.recording.specs.declared.Written.{Written}
-use Rattle.recording.specs.declared.Written.TheVariants as written
-
--- the number of bytes written, or the refusal's number and place
-abbrev pub reported : Written → Outcome ℕ
-reported (written.Bytes n) = result n
-reported (written.Refused r) = refused (number_of r) (place_of r)
-
--- the number of records, or the refusal's number and place
-abbrev pub check_outcome : Checked → Outcome ℕ
-check_outcome (checked.Records n) = result n
-check_outcome (checked.Refused r) = refused (number_of r) (place_of r)
+use Rattle.std.specs.Prelude.{ℕ, ◌≡◌, List, ◌++◌, ltb, length, drop, Result}
+use Rattle.refusal.specs.declared.Refusal.{Refusal}
+use Rattle.refusal.specs.Outcome.{Outcome, result, refused, reported, Line, line}
 
 -- the length of the result
 abbrev pub counted : Outcome (List ℕ) → Outcome ℕ
@@ -28,7 +14,7 @@ output_after (result bytes) old = bytes ++ drop (length bytes) old
 output_after (refused n p) old = old
 
 -- THE COMPLETE OUTCOME of a call that writes: its answer r, and its output, `old` before and `new` after
-pub record Answers (outcome : Outcome (List ℕ)) (old : List ℕ) (r : Written) (new : List ℕ) : Type 0 where
+pub record Answers (outcome : Outcome (List ℕ)) (old : List ℕ) (r : Result ℕ Refusal) (new : List ℕ) : Type 0 where
   pub answer : reported r ≡ counted outcome
   pub output : new ≡ output_after outcome old
 

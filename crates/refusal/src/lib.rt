@@ -4,7 +4,7 @@
 ghost use Rattle.std.specs.Prelude.{◌≡◌};
 ghost use Rattle.refusal.specs.Numbers.{number_of, place_of};
 
-#[derive(Clone, Copy)]
+#[derive(Clone, Copy, Debug, PartialEq, Eq)]
 pub enum Refusal {
     // The recording's length is not a multiple of 16 bytes.
     PartialRecord,
@@ -48,58 +48,42 @@ pub enum Refusal {
     BadSummary,
 }
 
-// The refusal's number in the table.
-pub fn number(r: Refusal) -> u32
-    ensures { result ≡ number_of r }
-{
-    match r {
-        Refusal::PartialRecord => 1,
-        Refusal::TooManyRecords => 2,
-        Refusal::BadRecord(_) => 3,
-        Refusal::NoRecord => 4,
-        Refusal::TextLength => 5,
-        Refusal::NoReading => 6,
-        Refusal::TextTooLarge => 7,
-        Refusal::TooManyRuns => 8,
-        Refusal::TooManyTops => 9,
-        Refusal::ShortOutput => 10,
-        Refusal::BadMarks => 11,
-        Refusal::BadTarget => 12,
-        Refusal::BadSheet => 13,
-        Refusal::NotForLaboratory => 14,
-        Refusal::NoReport => 15,
-        Refusal::BadBand => 16,
-        Refusal::NotBandQuestion => 17,
-        Refusal::BadMoment => 18,
-        Refusal::TooManyKept => 19,
-        Refusal::BadSummary => 20,
+impl Refusal {
+    // Its number in the table.
+    pub fn number(self) -> u32
+        ensures { result ≡ number_of self }
+    {
+        match self {
+            Refusal::PartialRecord => 1,
+            Refusal::TooManyRecords => 2,
+            Refusal::BadRecord(_) => 3,
+            Refusal::NoRecord => 4,
+            Refusal::TextLength => 5,
+            Refusal::NoReading => 6,
+            Refusal::TextTooLarge => 7,
+            Refusal::TooManyRuns => 8,
+            Refusal::TooManyTops => 9,
+            Refusal::ShortOutput => 10,
+            Refusal::BadMarks => 11,
+            Refusal::BadTarget => 12,
+            Refusal::BadSheet => 13,
+            Refusal::NotForLaboratory => 14,
+            Refusal::NoReport => 15,
+            Refusal::BadBand => 16,
+            Refusal::NotBandQuestion => 17,
+            Refusal::BadMoment => 18,
+            Refusal::TooManyKept => 19,
+            Refusal::BadSummary => 20,
+        }
     }
-}
 
-// The record's index for a bad record, else 0.
-pub fn place(r: Refusal) -> usize
-    ensures { result ≡ place_of r }
-{
-    match r {
-        Refusal::PartialRecord => 0,
-        Refusal::TooManyRecords => 0,
-        Refusal::BadRecord(i) => i,
-        Refusal::NoRecord => 0,
-        Refusal::TextLength => 0,
-        Refusal::NoReading => 0,
-        Refusal::TextTooLarge => 0,
-        Refusal::TooManyRuns => 0,
-        Refusal::TooManyTops => 0,
-        Refusal::ShortOutput => 0,
-        Refusal::BadMarks => 0,
-        Refusal::BadTarget => 0,
-        Refusal::BadSheet => 0,
-        Refusal::NotForLaboratory => 0,
-        Refusal::NoReport => 0,
-        Refusal::BadBand => 0,
-        Refusal::NotBandQuestion => 0,
-        Refusal::BadMoment => 0,
-        Refusal::TooManyKept => 0,
-        Refusal::BadSummary => 0,
+    // The record's index for a bad record, else 0.
+    pub fn place(self) -> usize
+        ensures { result ≡ place_of self }
+    {
+        match self {
+            Refusal::BadRecord(i) => i,
+            _ => 0,
+        }
     }
 }

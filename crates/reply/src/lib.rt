@@ -2,12 +2,10 @@
 #![tactic(auto)]
 
 ghost use Rattle.std.specs.Prelude.{◌≡◌, ◌<◌};
-ghost use Rattle.refusal.specs.Outcome.{refused};
+ghost use Rattle.refusal.specs.Outcome.{refused, reported};
 ghost use Rattle.refusal.specs.Numbers.{number_of, place_of};
 ghost use Rattle.reply.specs.Reply.{half, packed, InHalf};
-ghost use Rattle.recording.specs.Output.{reported};
 
-use recording::Written;
 use refusal::Refusal;
 
 // The size of either half of 64 bits.
@@ -18,18 +16,18 @@ pub fn refused(x: Refusal) -> u64
     requires { place_of x < half }
     ensures { result ≡ packed (refused (number_of x) (place_of x)) }
 {
-    let number = refusal::number(x);
-    let place = refusal::place(x);
+    let number = x.number();
+    let place = x.place();
     (number as u64) * HALF + (place as u64)
 }
 
 // The number that stands for the bytes written, or for the refusal.
-pub fn written(w: Written) -> u64
+pub fn written(w: Result<usize, Refusal>) -> u64
     requires { InHalf (reported w) }
     ensures { result ≡ packed (reported w) }
 {
     match w {
-        Written::Bytes(n) => n as u64,
-        Written::Refused(x) => refused(x),
+        Ok(n) => n as u64,
+        Err(x) => refused(x),
     }
 }

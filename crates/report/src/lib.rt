@@ -1,20 +1,18 @@
 // The report under way: one text and one target, put to a named number of recordings, one after another. It goes in and comes back by value.
 #![tactic(auto)]
 
-ghost use Rattle.std.specs.Prelude.{◌≡◌, cond, [], ◌<◌, eqb};
+ghost use Rattle.std.specs.Prelude.{◌≡◌, cond, [], ◌<◌};
 ghost use Rattle.number.specs.Axis.{axis};
-ghost use Rattle.refusal.specs.Outcome.{judged};
+ghost use Rattle.refusal.specs.Outcome.{reported, judged};
 ghost use Rattle.meaning.specs.inner.Coded.{index as index_of};
 ghost use Rattle.degree.specs.Degree.{away, nowhere, reached_of};
 ghost use Rattle.report.specs.Report.{naming_lines};
 ghost use Rattle.refusal.specs.Numbers.{number_of, place_of};
-ghost use Rattle.report.specs.inner.Running.{running_of, with_batch, faulty, Sound, none, stopped, counted, addition_of, named_of, Small, unread, unsound, absent, addition_to, added_with};
+ghost use Rattle.report.specs.inner.Running.{running_of, with_batch, faulty, Sound, none, stopped, counted, addition_of, Small, unread, unsound, absent, addition_to, added_with};
 ghost use Rattle.report.specs.inner.Naming.{naming, target_lines};
 
-use degree::Reached;
 use mean::Mean;
 use refusal::Refusal;
-use targets::OnAxis;
 
 // The most recordings of a report.
 pub const MOST_BATCHES: u32 = 1000;
@@ -39,14 +37,6 @@ pub struct Report {
     pub mean: Mean,
 }
 
-// The answer to a naming.
-#[derive(Drop)]
-pub enum Named {
-    // The index of the target on the axis.
-    Index(u32),
-    Refused(Refusal),
-}
-
 // The answer to a recording.
 #[derive(Clone, Copy)]
 pub enum Added {
@@ -59,52 +49,45 @@ pub enum Added {
     Last(Report),
 }
 
-// The target of a naming whose count and text are in order.
-fn aimed(target: i64, room: usize) -> Named
-    ensures { named_of result ≡ judged (target_lines target room) (index_of target) }
+// The target's index on the axis, of a naming whose count and text are in order.
+fn aimed(target: i64, room: usize) -> Result<u32, Refusal>
+    ensures { reported result ≡ judged (target_lines target room) (index_of target) }
 {
-    let place = targets::on_axis(target);
-    match place {
-        OnAxis::Index(index) => {
-            if room < REPORT_BYTES {
-                return Named::Refused(Refusal::ShortOutput);
-            }
-            Named::Index(index)
-        }
-        OnAxis::Off => Named::Refused(Refusal::BadTarget),
+    let Some(index) = targets::on_axis(target) else {
+        return Err(Refusal::BadTarget);
+    };
+    if room < REPORT_BYTES {
+        return Err(Refusal::ShortOutput);
     }
+    Ok(index)
 }
 
-// THE NAMING of a report for which there are `room` bytes.
-pub fn name(count: u32, text: &[u8], target: i64, room: usize) -> Named
-    ensures { named_of result ≡ judged (naming_lines (naming count text.now target) room) (index_of target) }
+// THE NAMING of a report for which there are `room` bytes: the target's index on the axis, or the refusal.
+pub fn name(count: u32, text: &[u8], target: i64, room: usize) -> Result<u32, Refusal>
+    ensures { reported result ≡ judged (naming_lines (naming count text.now target) room) (index_of target) }
 {
     if count == 0 {
-        return Named::Refused(Refusal::NoReport);
+        return Err(Refusal::NoReport);
     }
     if MOST_BATCHES < count {
-        return Named::Refused(Refusal::NoReport);
+        return Err(Refusal::NoReport);
     }
     let mut table = [0u32; text::TABLE_SIZE];
-    let read = text::read(text, &mut table);
-    match read {
-        text::Answer::Refused(x) => Named::Refused(x),
-        text::Answer::Nodes(_) => aimed(target, room),
-    }
+    text::read(text, &mut table)?;
+    aimed(target, room)
 }
 
 // A report before its first recording.
 pub fn begin(count: u32) -> Report
     ensures { result ≡ running_of count [] }
 {
-    let none = mean::none();
     Report {
-        count: count,
+        count,
         taken: 0,
         met: 0,
         empty: 0,
         distances: 0,
-        mean: none,
+        mean: mean::none(),
     }
 }
 
@@ -124,21 +107,13 @@ fn is_faulty(r: Report) -> bool
     if r.taken - r.met < r.empty {
         return true;
     }
-    if LONGEST * (r.taken as u64) < r.distances {
+    if LONGEST * u64::from(r.taken) < r.distances {
         return true;
     }
-    let m = r.mean;
-    if m.sum != m.sum {
+    if r.mean.sum.is_nan() {
         return true;
     }
-    m.mean != m.mean
-}
-
-// 1 where the target is met.
-fn one_met(d: u32) -> u32
-    ensures { (result ≡ cond (eqb d 0) 1 0) × (result < 2) }
-{
-    if d == 0 { 1 } else { 0 }
+    r.mean.mean.is_nan()
 }
 
 // With a batch at distance d.
@@ -146,15 +121,13 @@ fn with_distance(r: Report, d: u32) -> Report
     requires { Sound r × (d < axis) }
     ensures { result ≡ with_batch r (away d) }
 {
-    let m = r.mean;
-    let mean = mean::with(m, r.taken + 1 - r.empty, d);
+    let mean = mean::with(r.mean, r.taken + 1 - r.empty, d);
     Report {
-        count: r.count,
         taken: r.taken + 1,
-        met: r.met + one_met(d),
-        empty: r.empty,
-        distances: r.distances + (d as u64),
-        mean: mean,
+        met: r.met + u32::from(d == 0),
+        distances: r.distances + u64::from(d),
+        mean,
+        ..r
     }
 }
 
@@ -163,14 +136,10 @@ fn with_empty(r: Report) -> Report
     requires { Sound r }
     ensures { result ≡ with_batch r nowhere }
 {
-    let m = r.mean;
     Report {
-        count: r.count,
         taken: r.taken + 1,
-        met: r.met,
         empty: r.empty + 1,
-        distances: r.distances,
-        mean: m,
+        ..r
     }
 }
 
@@ -189,11 +158,7 @@ fn is_unread(text: &[u8]) -> bool
     ensures { result ≡ unread text.now }
 {
     let mut table = [0u32; text::TABLE_SIZE];
-    let read = text::read(text, &mut table);
-    match read {
-        text::Answer::Refused(_) => true,
-        text::Answer::Nodes(_) => false,
-    }
+    text::read(text, &mut table).is_err()
 }
 
 // Whether no call leaves the report so, or the target's index.
@@ -226,21 +191,21 @@ fn stop(text: &[u8], x: Refusal) -> Added
     Added::Stopped(x)
 }
 
-// A recording whose set is so far from the target.
-fn with_reached(r: Report, text: &[u8], reached: Reached) -> Added
+// A recording whose set is so far from the target, or has no member, or is refused.
+fn with_reached(r: Report, text: &[u8], reached: Result<Option<u32>, Refusal>) -> Added
     requires { Sound r × Small (reached_of reached) }
     ensures { addition_of result ≡ added_with r text.now (reached_of reached) }
 {
     match reached {
-        Reached::Away(d) => {
+        Ok(Some(d)) => {
             let next = with_distance(r, d);
             judge(next)
         }
-        Reached::Nowhere => {
+        Ok(None) => {
             let next = with_empty(r);
             judge(next)
         }
-        Reached::Refused(x) => stop(text, x),
+        Err(x) => stop(text, x),
     }
 }
 

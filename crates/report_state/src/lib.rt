@@ -47,10 +47,10 @@ fn long_at(buffer: &[u8], at: usize) -> u64
 {
     let l = number::word_at(buffer, at);
     let h = number::word_at(buffer, at + 4);
-    (l as u64) + RANGE * (h as u64)
+    u64::from(l) + RANGE * u64::from(h)
 }
 
-// Whether bits are a NaN's.
+// Whether bits are a NaN's. `f64::from_bits` takes no NaN, so the bits are tested.
 fn is_nan(bits: u64) -> bool
     ensures { result ≡ nan_bits binary64 bits }
 {
@@ -72,10 +72,7 @@ fn mean_in(buffer: &[u8]) -> Mean
 {
     let sum = float_at(buffer, 28);
     let mean = float_at(buffer, 36);
-    Mean {
-        sum: sum,
-        mean: mean,
-    }
+    Mean { sum, mean }
 }
 
 // The report that stands in the bytes.
@@ -90,12 +87,12 @@ fn report_in(buffer: &[u8]) -> Report
     let distances = long_at(buffer, 20);
     let mean = mean_in(buffer);
     Report {
-        count: count,
-        taken: taken,
-        met: met,
-        empty: empty,
-        distances: distances,
-        mean: mean,
+        count,
+        taken,
+        met,
+        empty,
+        distances,
+        mean,
     }
 }
 
@@ -153,7 +150,7 @@ fn added(buffer: &[u8], rec: &[u8]) -> Added
     report::add(r, rec, text, number::word_at(buffer, INDEX))
 }
 
-// The lower word of a number.
+// The lower word of a number. A cast loses no bits, so the higher word is taken off first.
 fn low_word(x: u64) -> u32
     ensures { result ≡ low x }
 {
@@ -195,10 +192,8 @@ fn put_words(buffer: &mut [u8], words: [u32; WORDS])
     requires { 44 ≤ length buffer.old }
     ensures { buffer.new ≡ words_bytes words ++ drop 44 buffer.old }
 {
-    let mut i: usize = 0;
-    while i < WORDS {
+    for i in 0..WORDS {
         number::put_word(buffer, 4 * i, words[i]);
-        i += 1;
     }
 }
 
@@ -207,10 +202,9 @@ fn put_text(buffer: &mut [u8], text: &[u8])
     requires { 52 + length text.now ≤ length buffer.old }
     ensures { buffer.new ≡ take 52 buffer.old ++ text.now ++ drop (52 + length text.now) buffer.old }
 {
-    let mut i: usize = 0;
-    while i < text.len() {
+    // `copy_from_slice` calls memmove; the archive needs memcpy and memset alone.
+    for i in 0..text.len() {
         buffer[TEXT + i] = text[i];
-        i += 1;
     }
 }
 
@@ -308,11 +302,11 @@ pub fn start(count: u32, text: &[u8], target: i64, buffer: &mut [u8]) -> u64
 {
     let named = report::name(count, text, target, buffer.len());
     match named {
-        report::Named::Index(index) => {
+        Ok(index) => {
             begin(buffer, count, text, index);
             0
         }
-        report::Named::Refused(x) => {
+        Err(x) => {
             end(buffer);
             reply::refused(x)
         }

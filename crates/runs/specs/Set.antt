@@ -1,10 +1,10 @@
 -- Sets of numbers of the axis as `RunSet` holds them in words that are lent, and what its operations promise, by membership alone.
-use Rattle.std.specs.Prelude.{ℕ, ◌+◌, ◌*◌, ◌≤◌, ◌<◌, ◌≡◌, Bool, true, false, not, cond, List, [], ◌∷◌, leb, ltb, length, take, get_or}
+use Rattle.std.specs.Prelude.{ℕ, ◌+◌, ◌*◌, ◌≤◌, ◌<◌, ◌≡◌, Bool, true, false, not, cond, List, [], ◌∷◌, leb, ltb, length, take, get_or, Option, Some, None, Result}
+use Rattle.std.specs.Result.{is_err}
 use Rattle.number.specs.Axis.{axis}
 use Rattle.runs.specs.Runs.{most_runs, run_count}
 use Rattle.runs.specs.Distance.{distance}
-use Rattle.runs.specs.declared.Nearest.{Nearest}
-use Rattle.runs.specs.declared.Nearest.TheVariants.{At, Nothing}
+use Rattle.runs.specs.declared.TooManyRuns.{TooManyRuns}
 
 -- how many words hold a set, and how many what two sets share
 abbrev pub slot_words : ℕ
@@ -52,11 +52,11 @@ pub record Holds (f : ℕ → Bool) (words : List ℕ) : Type 0 where
   pub valid : Valid words
   pub members : (v : ℕ) → v < axis → member words v ≡ f v
 
--- WHAT AN OPERATION PROMISES: it is over if and only if the members f lie in too many maximal runs; else the words hold the set with these members
-pub record Makes (f : ℕ → Bool) (words : List ℕ) (over : Bool) : Type 0 where
-  pub flag : over ≡ ltb most_runs (run_count f)
-  pub holds : over ≡ false → Holds f words
+-- WHAT AN OPERATION PROMISES: an error if and only if the members f lie in too many maximal runs; else the words hold the set with these members
+pub record Makes {A : Type 0} (f : ℕ → Bool) (words : List ℕ) (r : Result A TooManyRuns) : Type 0 where
+  pub flag : is_err r ≡ ltb most_runs (run_count f)
+  pub holds : is_err r ≡ false → Holds f words
 
 -- the distance from v to the nearest member; nothing where there is no member, for then the distance is the size of the axis
-abbrev pub nearest_of : (ℕ → Bool) → ℕ → Nearest
-nearest_of f v = cond (ltb (distance f v) axis) (At (distance f v)) Nothing
+abbrev pub nearest_of : (ℕ → Bool) → ℕ → Option ℕ
+nearest_of f v = cond (ltb (distance f v) axis) (Some (distance f v)) None

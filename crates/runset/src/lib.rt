@@ -5,20 +5,12 @@
 ghost use Rattle.std.specs.Prelude.{◌≡◌, true, false, not, ◌||◌, ◌&&◌, ◌++◌, ℕ, ◌*◌, ◌≤◌, ◌<◌, leb, length, get_or, drop};
 ghost use Rattle.number.specs.Axis.{axis};
 ghost use Rattle.runs.specs.Runs.{run_count, lows, highs, set_bytes};
-ghost use Rattle.runs.specs.Set.{xor, member, slot_words, shared_words, Valid, Holds, Makes, nearest_of};
+ghost use Rattle.runs.specs.Set.{member, slot_words, shared_words, Valid, Holds, Makes, nearest_of};
 ghost use Rattle.join.specs.inner.Join.{Joins};
 
-use join::Joined;
-use runs::Nearest;
+use runs::TooManyRuns;
 use slot::{CUTS, cuts_in, cuts_of, run};
 pub use slot::{SHARED, SLOT};
-
-// Whether just one of two holds.
-fn differ(a: bool, b: bool) -> bool
-    ensures { result ≡ xor a b }
-{
-    if a { !b } else { b }
-}
 
 // The sets of this crate, by what can be done with them.
 #[derive(Drop)]
@@ -58,21 +50,21 @@ impl RunSet {
         slot::put_run(set, 0, low, high);
     }
 
-    // The numbers from low to high more, where all members lie below low. Says whether there are too many runs.
-    pub fn add(set: &mut [u32], low: u32, high: u32) -> bool
+    // The numbers from low to high more, where all members lie below low.
+    pub fn add(set: &mut [u32], low: u32, high: u32) -> Result<(), TooManyRuns>
         requires { Valid set.old × ((v : ℕ) → v < axis → member set.old v ≡ true → v < low) × (low ≤ high) × (high < axis) }
         ensures { Makes (λ v. member set.old v || (leb low v && leb v high)) set.new result }
     {
         let n = cuts_in(set);
         if slot::ends_at(set, n, low) {
             set[n - 1] = high + 1;
-            return false;
+            return Ok(());
         }
         if n == CUTS {
-            return true;
+            return Err(TooManyRuns);
         }
         slot::put_run(set, n, low, high);
-        false
+        Ok(())
     }
 
     // The same set.
@@ -86,31 +78,29 @@ impl RunSet {
     }
 
     // What is in a or in b, with the number of runs that were stored.
-    pub fn join(a: &[u32], b: &[u32], set: &mut [u32]) -> Joined
+    pub fn join(a: &[u32], b: &[u32], set: &mut [u32]) -> Result<usize, TooManyRuns>
         requires { Valid a.now × Valid b.now × (length set.old ≡ slot_words) }
         ensures { Joins (λ v. member a.now v || member b.now v) set.new result }
     {
         let p = cuts_of(a);
         let q = cuts_of(b);
-        if p.len() == 2 {
-            if q.len() == 2 {
-                return join::of_two(p, q, set);
-            }
+        if p.len() == 2 && q.len() == 2 {
+            return join::of_two(p, q, set);
         }
         join::join(p, q, set)
     }
 
-    // What is in a or in b. This and the next three say whether there are too many runs.
-    pub fn or(a: &[u32], b: &[u32], set: &mut [u32]) -> bool
+    // What is in a or in b.
+    pub fn or(a: &[u32], b: &[u32], set: &mut [u32]) -> Result<(), TooManyRuns>
         requires { Valid a.now × Valid b.now × (length set.old ≡ slot_words) }
         ensures { Makes (λ v. member a.now v || member b.now v) set.new result }
     {
-        let joined = RunSet::join(a, b, set);
-        joined.over
+        RunSet::join(a, b, set)?;
+        Ok(())
     }
 
     // What is in a and in b.
-    pub fn and(a: &[u32], b: &[u32], set: &mut [u32]) -> bool
+    pub fn and(a: &[u32], b: &[u32], set: &mut [u32]) -> Result<(), TooManyRuns>
         requires { Valid a.now × Valid b.now × (length set.old ≡ slot_words) }
         ensures { Makes (λ v. member a.now v && member b.now v) set.new result }
     {
@@ -118,7 +108,7 @@ impl RunSet {
     }
 
     // The complement on the axis.
-    pub fn not(a: &[u32], set: &mut [u32]) -> bool
+    pub fn not(a: &[u32], set: &mut [u32]) -> Result<(), TooManyRuns>
         requires { Valid a.now × (length set.old ≡ slot_words) }
         ensures { Makes (λ v. not (member a.now v)) set.new result }
     {
@@ -127,47 +117,43 @@ impl RunSet {
 
     // What is in q, or in p and in r. Only the result is limited: what p and r share has room in `shared`, for it is no join of two sets, but one of those
     // that are joined with q.
-    pub fn or_and(q: &[u32], p: &[u32], r: &[u32], shared: &mut [u32], set: &mut [u32]) -> bool
+    pub fn or_and(
+        q: &[u32],
+        p: &[u32],
+        r: &[u32],
+        shared: &mut [u32],
+        set: &mut [u32],
+    ) -> Result<(), TooManyRuns>
         requires { Valid q.now × Valid p.now × Valid r.now × (length shared.old ≡ shared_words) × (length set.old ≡ slot_words) }
         ensures { Makes (λ v. member q.now v || (member p.now v && member r.now v)) set.new result }
     {
-        let both = merge::run::merge(cuts_of(p), cuts_of(r), shared);
-        let n = both.n;
-        let joined = join::join(cuts_of(q), &shared[..n], set);
-        joined.over
+        let n = merge::run::merge(cuts_of(p), cuts_of(r), shared).unwrap();
+        join::join(cuts_of(q), &shared[..n], set)?;
+        Ok(())
     }
 
     pub fn has(set: &[u32], v: u32) -> bool
         requires { Valid set.now }
         ensures { result ≡ member set.now v }
     {
-        let n = cuts_in(set);
         let mut inside = false;
-        let mut i: usize = 0;
-        while i < n {
-            inside = differ(inside, set[i] <= v);
-            i += 1;
+        for cut in cuts_of(set) {
+            inside = inside != (*cut <= v);
         }
         inside
     }
 
     // The distance from v to the nearest member.
-    pub fn distance(set: &[u32], v: u32) -> Nearest
+    pub fn distance(set: &[u32], v: u32) -> Option<u32>
         requires { Valid set.now × (v < axis) }
         ensures { result ≡ nearest_of (member set.now) v }
     {
-        let mut i = cuts_in(set);
-        let mut any = false;
-        let mut d: u32 = 0;
-        while 0 < i {
-            i -= 2;
-            d = run::nearer(any, d, run::gap(set[i], set[i + 1], v));
-            any = true;
+        let mut nearest = None;
+        for i in (0..RunSet::count(set)).rev() {
+            let gap = run::gap(set[2 * i], set[2 * i + 1], v);
+            nearest = Some(run::nearer(nearest, gap));
         }
-        if any {
-            return Nearest::At(d);
-        }
-        Nearest::Nothing
+        nearest
     }
 
     // The number of maximal runs.
@@ -198,11 +184,8 @@ impl RunSet {
         requires { Valid set.now × (8 * run_count (member set.now) ≤ length out.old) }
         ensures { out.new ≡ set_bytes (member set.now) ++ drop (length (set_bytes (member set.now))) out.old }
     {
-        let n = RunSet::count(set);
-        let mut i: usize = 0;
-        while i < n {
+        for i in 0..RunSet::count(set) {
             run::put_bytes(out, i, RunSet::low(set, i), RunSet::high(set, i));
-            i += 1;
         }
     }
 }

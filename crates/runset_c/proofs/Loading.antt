@@ -4,6 +4,9 @@ use borrow.Author.Tests.{lt-leb}
 use Rattle.number.specs.Axis.{axis}
 use Rattle.number.specs.Words.{word, offset_binary}
 use Rattle.runs.specs.Runs.{most_runs, run_count}
+use Rattle.std.specs.Result.{is_err}
+use Rattle.std.specs.Prelude.{Result, Ok, Err}
+use Rattle.runs.specs.declared.TooManyRuns.{TooManyRuns}
 use Rattle.runs.specs.Set.{member, Holds, Makes}
 use Rattle.runs.proofs.laws.Runs.{run_count_ext}
 use Rattle.runs.proofs.laws.Set.{holds_ext, makes_ext}
@@ -17,39 +20,33 @@ module _ (bytes : List ℕ) (at t : ℕ) (e : t ≡ offset_binary (word bytes at
   unfolding index_at
   index_below h = sym (ap (λ (b : Bool). cond b axis (min (offset_binary (word bytes at) - 147483648) axis)) (lt-ltb (offset_binary (word bytes at)) 147483648 (omega arith)))
 
-  from_shift : 147483648 ≤ t → min (offset_binary (word bytes at) - 147483648) axis ≡ index_at bytes at
+  pub index-from : 147483648 ≤ t → min (t - 147483648) axis ≡ index_at bytes at
   unfolding index_at
-  from_shift h = sym (ap (λ (b : Bool). cond b axis (min (offset_binary (word bytes at) - 147483648) axis)) (le-ltb (offset_binary (word bytes at)) 147483648 (omega arith)))
-
-  pub index-in : 147483648 ≤ t → t - 147483648 < axis → t - 147483648 ≡ index_at bytes at
-  index-in h g = let q : t - 147483648 ≡ min (offset_binary (word bytes at) - 147483648) axis = omega arith in q ∙ from_shift h
-
-  pub index-above : 147483648 ≤ t → axis ≤ t - 147483648 → axis ≡ index_at bytes at
-  index-above h g = let q : axis ≡ min (offset_binary (word bytes at) - 147483648) axis = omega arith in q ∙ from_shift h
+  index-from h = ap (λ (k : ℕ). min (k - 147483648) axis) e ∙ sym (ap (λ (b : Bool). cond b axis (min (offset_binary (word bytes at) - 147483648) axis)) (le-ltb (offset_binary (word bytes at)) 147483648 (omega arith)))
 
 -- ---- one more run
 
-pub extended : (s t words : List ℕ) (low high : ℕ) (over : Bool) → high < axis → Holds (λ v. leb low v && leb v high) t
-    → Makes (λ v. member s v || member t v) words over → Extended s low high words over
-extended s t words low high over h r k =
-    let e = makes_ext (λ v. member s v || member t v) (λ v. member s v || (leb low v && leb v high)) words over (λ v g. ap (λ (b : Bool). member s v || b) (r.members v g)) k in
+pub extended : (s t words : List ℕ) (low high : ℕ) (made : Result (Unit {0}) TooManyRuns) → high < axis → Holds (λ v. leb low v && leb v high) t
+    → Makes (λ v. member s v || member t v) words made → Extended s low high words (is_err made)
+extended s t words low high made h r k =
+    let e = makes_ext (λ v. member s v || member t v) (λ v. member s v || (leb low v && leb v high)) words made (λ v g. ap (λ (b : Bool). member s v || b) (r.members v g)) k in
     record {
       flag = e.flag ∙ sym (ap (λ (b : Bool). b || ltb most_runs (run_count (λ v. member s v || (leb low v && leb v high)))) (lt-leb axis high h));
       holds = e.holds;
     }
 
 -- too many runs, whatever the words are then
-pub extended_over : (s t next words : List ℕ) (low high : ℕ) (over : Bool) → over ≡ true → high < axis → Holds (λ v. leb low v && leb v high) t
-    → Makes (λ v. member s v || member t v) next over → Extended s low high words true
-extended_over s t next words low high over o h r k =
-    record { flag = sym o ∙ (extended s t next low high over h r k).flag; holds = λ z. absurd (true≢false z) }
+pub extended_over : (s t next words : List ℕ) (low high : ℕ) {x : TooManyRuns} → high < axis → Holds (λ v. leb low v && leb v high) t
+    → Makes {A = Unit {0}} (λ v. member s v || member t v) next (Err x) → Extended s low high words true
+extended_over s t next words low high h r k =
+    record { flag = (extended s t next low high _ h r k).flag; holds = λ z. absurd (true≢false z) }
 
 -- the set is copied
-pub extended_copy : (s t next words : List ℕ) (low high : ℕ) (over : Bool) → over ≡ false → high < axis → Holds (λ v. leb low v && leb v high) t
-    → Makes (λ v. member s v || member t v) next over → Holds (member next) words → Extended s low high words false
-extended_copy s t next words low high over o h r k c =
-    let e = extended s t next low high over h r k in
-    record { flag = sym o ∙ e.flag; holds = λ z. holds_ext (member next) (λ v. member s v || (leb low v && leb v high)) words (e.holds o).members c }
+pub extended_copy : (s t next words : List ℕ) (low high : ℕ) → high < axis → Holds (λ v. leb low v && leb v high) t
+    → Makes (λ v. member s v || member t v) next (Ok (tt {0})) → Holds (member next) words → Extended s low high words false
+extended_copy s t next words low high h r k c =
+    let e = extended s t next low high _ h r k in
+    record { flag = e.flag; holds = λ z. holds_ext (member next) (λ v. member s v || (leb low v && leb v high)) words (e.holds refl).members c }
 
 pub off-axis : (s words : List ℕ) (low high : ℕ) → axis ≤ high → Extended s low high words true
 off-axis s words low high h =
@@ -91,11 +88,11 @@ stays bytes k (suc d) e =
     let q : k + suc d ≡ suc (k + d) = omega arith in
     ap (unfit_runs bytes) q ∙ ap (λ (b : Bool). b || (leb axis (index_at bytes (8 * (k + d) + 4)) || ltb most_runs (run_count (in_runs bytes (suc (k + d)))))) (stays bytes k d e)
 
-pub loaded_over : (bytes : List ℕ) (k : ℕ) (words : List ℕ) (over : Bool) → k ≤ length bytes / 8 → over ≡ true → over ≡ unfit_runs bytes k → Loaded bytes words true
-loaded_over bytes k words over h o e =
+pub loaded_over : (bytes : List ℕ) (k : ℕ) (words : List ℕ) → k ≤ length bytes / 8 → true ≡ unfit_runs bytes k → Loaded bytes words true
+loaded_over bytes k words h e =
     let q : k + (length bytes / 8 - k) ≡ length bytes / 8 = omega arith in
     record {
-      flag = sym (ap (unfit_runs bytes) (sym q) ∙ stays bytes k (length bytes / 8 - k) (sym e ∙ o));
+      flag = sym (ap (unfit_runs bytes) (sym q) ∙ stays bytes k (length bytes / 8 - k) (sym e));
       holds = λ z. absurd (true≢false z);
     }
 

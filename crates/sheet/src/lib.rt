@@ -2,23 +2,21 @@
 #![tactic(auto)]
 
 ghost use Rattle.std.specs.Prelude.{◌≡◌, ◌/◌, ◌<◌, length, get_or};
-ghost use Rattle.refusal.specs.Outcome as outcome;
 ghost use Rattle.refusal.specs.Outcome.{judged};
-ghost use Rattle.recording.specs.Condition.{some_of};
+ghost use Rattle.std.specs.List.{list_any};
 ghost use Rattle.recording.specs.Recording.{readings, Accepted};
 ghost use Rattle.sheet.specs.Sheet.{sheet_of, no_pigment, bad_sheet, AcceptedSheet};
 ghost use Rattle.sheet.specs.inner.Found.{finding};
-ghost use Rattle.sheet.specs.Call.{sheet_lines, outcome_of, order_of};
+ghost use Rattle.sheet.specs.Call.{sheet_lines, finding_in, outcome_of, order_of};
 ghost use Rattle.sheet.specs.inner.Firsts.{Firsts, Earliest};
 
-// The answer of the order call.
-#[derive(Drop)]
-pub enum Ordered {
-    // Every line of the sheet is met.
-    Met,
-    // The time of the first record whose addition breaks a line, and the first line that it breaks, counted from 0.
-    Broken(u32, u32),
-    Refused(refusal::Refusal),
+use refusal::Refusal;
+
+// A sheet that is broken: the time of the first record whose addition breaks a line, and the first line that it breaks, counted from 0.
+#[derive(Clone, Copy)]
+pub struct Breach {
+    pub time: u32,
+    pub line: u32,
 }
 
 // The most lines of a sheet.
@@ -34,29 +32,13 @@ struct Break {
     line: usize,
 }
 
-// The number in the machine's width.
-fn wide(x: u8) -> usize
-    ensures { (result ≡ x) × (result < 256) }
-{
-    x as usize
-}
-
 // Whether some number of the sheet is not that of a pigment.
 fn some_foreign(sheet: &[u8]) -> bool
-    ensures { result ≡ some_of no_pigment sheet.now }
+    ensures { result ≡ list_any no_pigment sheet.now }
 {
-    let mut i: usize = 0;
-    while i < sheet.len() {
-        let k = sheet[i];
-        if k == 0 {
-            return true;
-        }
-        if recording::MOST_PIGMENTS < k {
-            return true;
-        }
-        i += 1;
-    }
-    false
+    sheet
+        .iter()
+        .any(|k| *k == 0 || recording::MOST_PIGMENTS < *k)
 }
 
 // Whether 13 meets the sheet.
@@ -78,10 +60,8 @@ fn first_additions(rec: &[u8], n: usize) -> [usize; PLACES]
     ensures { Firsts (readings rec.now) result }
 {
     let mut first = [n; PLACES];
-    let mut i = n;
-    while 0 < i {
-        i -= 1;
-        let pigment = wide(recording::byte_in(rec, i, recording::PIGMENT));
+    for i in (0..n).rev() {
+        let pigment = usize::from(recording::byte_in(rec, i, recording::PIGMENT));
         first[pigment] = i;
     }
     first
@@ -92,7 +72,7 @@ fn first_of(sheet: &[u8], at: usize, first: [usize; PLACES]) -> usize
     requires { (at < length sheet.now) × AcceptedSheet sheet.now }
     ensures { result ≡ get_or first (get_or sheet.now at 0) 0 }
 {
-    first[wide(sheet[at])]
+    first[usize::from(sheet[at])]
 }
 
 // The first break of an accepted sheet by the table of first additions: the earliest record, and of its lines the first. n is the index where there is none.
@@ -103,8 +83,7 @@ fn first_break(sheet: &[u8], first: [usize; PLACES], n: usize) -> Break
     let count = sheet.len() / 2;
     let mut index = n;
     let mut line: usize = 0;
-    let mut k: usize = 0;
-    while k < count {
+    for k in 0..count {
         let a = first_of(sheet, k * 2, first);
         let b = first_of(sheet, k * 2 + 1, first);
         if b < index {
@@ -113,51 +92,47 @@ fn first_break(sheet: &[u8], first: [usize; PLACES], n: usize) -> Break
                 line = k;
             }
         }
-        k += 1;
     }
-    Break {
-        index: index,
-        line: line,
-    }
+    Break { index, line }
 }
 
-// What the check finds in an accepted recording of n records.
-fn find(rec: &[u8], n: usize, sheet: &[u8]) -> Ordered
+// What the check finds in an accepted recording of n records; nothing where every line of the sheet is met.
+fn find(rec: &[u8], n: usize, sheet: &[u8]) -> Option<Breach>
     requires { Accepted rec.now × (n ≡ length rec.now / 16) × AcceptedSheet sheet.now }
-    ensures { outcome_of result ≡ outcome.result (finding (sheet_of sheet.now) (readings rec.now)) }
+    ensures { finding_in result ≡ finding (sheet_of sheet.now) (readings rec.now) }
 {
     let first = first_additions(rec, n);
     let found = first_break(sheet, first, n);
     let index = found.index;
     let line = found.line;
     if n <= index {
-        return Ordered::Met;
+        return None;
     }
     let time = recording::word_in(rec, index, recording::TIME);
-    Ordered::Broken(time, line as u32)
+    Some(Breach {
+        time,
+        line: line as u32,
+    })
 }
 
 // The order call on an accepted recording of n records.
-fn in_accepted(rec: &[u8], n: usize, sheet: &[u8]) -> Ordered
+fn in_accepted(rec: &[u8], n: usize, sheet: &[u8]) -> Result<Option<Breach>, Refusal>
     requires { Accepted rec.now × (n ≡ length rec.now / 16) }
     ensures { outcome_of result ≡ judged (sheet_lines rec.now sheet.now) (finding (sheet_of sheet.now) (readings rec.now)) }
 {
     if n == 0 {
-        return Ordered::Refused(refusal::Refusal::NoRecord);
+        return Err(Refusal::NoRecord);
     }
     if is_bad(sheet) {
-        return Ordered::Refused(refusal::Refusal::BadSheet);
+        return Err(Refusal::BadSheet);
     }
-    find(rec, n, sheet)
+    Ok(find(rec, n, sheet))
 }
 
 // THE ORDER CALL: met, or the first record whose addition breaks a line of the sheet, and the first line that it breaks.
-pub fn order(rec: &[u8], sheet: &[u8]) -> Ordered
+pub fn order(rec: &[u8], sheet: &[u8]) -> Result<Option<Breach>, Refusal>
     ensures { outcome_of result ≡ order_of rec.now sheet.now }
 {
-    let checked = recording::check(rec);
-    match checked {
-        recording::Checked::Records(n) => in_accepted(rec, n, sheet),
-        recording::Checked::Refused(x) => Ordered::Refused(x),
-    }
+    let n = recording::check(rec)?;
+    in_accepted(rec, n, sheet)
 }

@@ -19,18 +19,12 @@ pub const SLOT: usize = CUTS + 1;
 // The words that `or_and` is lent for what two sets share.
 pub const SHARED: usize = 2 * CUTS;
 
-fn size(n: u32) -> usize
-    ensures { result ≡ n }
-{
-    n as usize
-}
-
 // The number of cuts.
 pub fn cuts_in(set: &[u32]) -> usize
     requires { length set.now ≡ slot_words }
     ensures { result ≡ get_or set.now (2 * most_runs) 0 }
 {
-    size(set[CUTS])
+    set[CUTS] as usize
 }
 
 // The cuts.
@@ -47,10 +41,7 @@ pub fn ends_at(set: &[u32], n: usize, low: u32) -> bool
     requires { n ≤ length set.now }
     ensures { (result ≡ true → (0 < n) × (get_or set.now (n - 1) 0 ≡ low)) × (result ≡ false → 0 < n → get_or set.now (n - 1) 0 ≡ low → ⊥) }
 {
-    if n == 0 {
-        return false;
-    }
-    set[n - 1] == low
+    0 < n && set[n - 1] == low
 }
 
 // Puts the run low..high behind the first n cuts, and counts its two cuts.
@@ -68,9 +59,8 @@ pub fn copy(from: &[u32], to: &mut [u32], at: usize)
     requires { at + length from.now ≤ length to.old }
     ensures { to.new ≡ take at to.old ++ (from.now ++ drop (at + length from.now) to.old) }
 {
-    let mut i: usize = 0;
-    while i < from.len() {
+    // `copy_from_slice` calls memmove; the archive needs memcpy and memset alone.
+    for i in 0..from.len() {
         to[at + i] = from[i];
-        i += 1;
     }
 }

@@ -19,10 +19,13 @@ pub fn gap(low: u32, end: u32, v: u32) -> u32
 }
 
 // The lesser of two distances, where there is one already.
-pub fn nearer(any: bool, d: u32, g: u32) -> u32
-    ensures { result ≡ nearer_of any d g }
+pub fn nearer(nearest: Option<u32>, g: u32) -> u32
+    ensures { result ≡ nearer_of nearest g }
 {
-    if any { if d < g { d } else { g } } else { g }
+    match nearest {
+        Some(d) => d.min(g),
+        None => g,
+    }
 }
 
 // Writes low and high of a run, as run number `at`.

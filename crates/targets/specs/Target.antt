@@ -1,10 +1,8 @@
 -- Document 01, refusal 12: a target on the axis and one off it.
-use Rattle.std.specs.Prelude.{ℕ, ◌<◌, ◌≡◌, Bool, true, false, ◌||◌, ltb, ℤ}
+use Rattle.std.specs.Prelude.{ℕ, ◌<◌, ◌≡◌, Bool, true, false, ◌||◌, ltb, ℤ, Option, Some, None}
 use Rattle.std.specs.Int.Signed.{lt_z}
 use Rattle.number.specs.Axis.{axis, whole, lowest, highest}
 use Rattle.refusal.specs.Outcome.{Line, line}
-use Rattle.targets.specs.declared.OnAxis.{OnAxis}
-use Rattle.targets.specs.declared.OnAxis.TheVariants.{Index, Off}
 
 -- a whole number is off the axis
 abbrev pub off_axis : ℤ → Bool
@@ -15,6 +13,6 @@ abbrev pub bad_target : ℕ → ℤ → Line
 bad_target curve z = line 12 (ltb 1 curve || off_axis z)
 
 -- the number at the index is z; Off exactly where z is off the axis
-abbrev pub Placed : ℤ → OnAxis → Type 0
-Placed z (Index n) = (off_axis z ≡ false) × (n < axis) × (whole n ≡ z)
-Placed z Off = off_axis z ≡ true
+abbrev pub Placed : ℤ → Option ℕ → Type 0
+Placed z (Some n) = (off_axis z ≡ false) × (n < axis) × (whole n ≡ z)
+Placed z None = off_axis z ≡ true

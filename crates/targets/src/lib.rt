@@ -5,29 +5,20 @@ ghost use Rattle.targets.specs.Target.{Placed};
 
 use number::ORIGIN;
 
-// Where a whole number stands.
-#[derive(Drop)]
-pub enum OnAxis {
-    // It is the number at this index of the axis.
-    Index(u32),
-    // It is off the axis.
-    Off,
-}
-
 // The ends of the axis.
 const LOWEST: i64 = -(ORIGIN as i64);
 
 const HIGHEST: i64 = ORIGIN as i64;
 
-// The index of a whole number on the axis, or that it is off it.
-pub fn on_axis(target: i64) -> OnAxis
+// The index of a whole number on the axis; none where it is off it.
+pub fn on_axis(target: i64) -> Option<u32>
     ensures { Placed target result }
 {
     if target < LOWEST {
-        return OnAxis::Off;
+        return None;
     }
     if HIGHEST < target {
-        return OnAxis::Off;
+        return None;
     }
-    OnAxis::Index((target - LOWEST) as u32)
+    Some((target - LOWEST) as u32)
 }

@@ -4,6 +4,7 @@ use mathlib.Core.Bool.{Bool, true, false, cond}
 use mathlib.Core.List.{List, [], ◌∷◌, ◌++◌}
 use Prim.Native.Nat.{ℕ, zero, suc, ◌+◌, ◌-◌, ◌≤◌, ◌<◌}
 use native.Mathlib.Omega.{arith}
+use mir.Val.{bool_byte}
 use native.Mathlib.Numerals.{add-one}
 use lib.Dec.{eqb, ltb}
 use lib.ListN.{length, get_or, take}
@@ -20,6 +21,11 @@ count-parts b (z ∷ x) y = let h = count-parts b x y in omega arith
 
 count_step : (b : ℕ) (s : List ℕ) (i : ℕ) → i < length s → count b (take (suc i) s) ≡ count b (take i s) + cond (eqb (get_or s i 0) b) 1 0
 count_step b s i h = ap (count b) (take-suc s i 0 h) ∙ count-parts b (take i s) (get_or s i 0 ∷ []) ∙ (omega arith)
+
+-- what a test counts as
+pub one_if : (b : Bool) → bool_byte b ≡ cond b 1 0
+one_if true = refl
+one_if false = refl
 
 -- the least number of which a condition holds
 least-below : (P : ℕ → Bool) (n i : ℕ) → i < n → P i ≡ true → least P n < n
@@ -39,9 +45,6 @@ pub record Counted (s : List ℕ) (opened closed i : ℕ) : Type 0 where
   pub closes : closed ≡ count 41 (take i s)
   pub few : (opened ≤ i) × (closed ≤ i)
   pub shallow : (k : ℕ) → k < i → ltb 16 (open_at s k) ≡ false
-
-pub none_counted : (s : List ℕ) → Counted s 0 0 0
-none_counted s = record { inside = omega arith; opens = refl; closes = refl; few = (omega arith, omega arith); shallow = λ k h. absurd (omega arith) }
 
 module _ (s : List ℕ) (opened closed i x y : ℕ) (h : Counted s opened closed i) (l : i < length s) (p : x ≡ cond (eqb (get_or s i 0) 40) 1 0) (q : y ≡ cond (eqb (get_or s i 0) 41) 1 0) where
   pub small : (x ≤ 1) × (y ≤ 1)

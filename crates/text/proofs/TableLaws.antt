@@ -3,12 +3,12 @@ use mathlib.Core.Path.{◌≡◌, sym, ap, ◌∙◌}
 use mathlib.Core.List.{List}
 use Prim.Native.Nat.{ℕ, ◌+◌, ◌≤◌, ◌<◌}
 use native.Mathlib.Omega.{arith}
-use mathlib.Core.Bool.{Bool, true, false, ◌&&◌, ◌||◌}
+use mathlib.Core.Bool.{Bool, true, false, ◌||◌}
 use Rattle.grammar.specs.inner.Kinds.{HIGH, LAG, NEXT, GLOBALLY, UNTIL, WEAK-UNTIL}
 use Rattle.grammar.specs.inner.Table.{row_at, some_kind}
 use Rattle.grammar.specs.Classes.{within}
 use Rattle.grammar.specs.Syntax.{Text}
-use Rattle.grammar.specs.Size.{temporal, has_listed, mixed, nodes}
+use Rattle.grammar.specs.Size.{temporal, has_listed, nodes}
 use Rattle.parser.specs.inner.Rows.{Laid}
 use Rattle.text.proofs.laws.Table as rows
 use Rattle.text.proofs.laws.Table.{held-nodes, held_some, some_either, listed_kind, temporal_kind, listed_by_kind, temporal_by_kind}
@@ -33,14 +33,8 @@ module _ (T : List ℕ) (n : ℕ) (t : Text) (h : Laid T 0 n t) where
   temporal_is : (some_kind (within NEXT GLOBALLY) T 0 n || some_kind (within UNTIL WEAK-UNTIL) T 0 n) ≡ temporal t
   temporal_is = sym (some_either (within NEXT GLOBALLY) (within UNTIL WEAK-UNTIL) T 0 n) ∙ ap (some_kind temporal_kind T 0) counted ∙ sym (held_some (λ r. temporal_kind r.kind) temporal temporal_by_kind h)
 
-  pub temporal_yes : (r : Bool) → r ≡ some_kind (within NEXT GLOBALLY) T 0 n → r ≡ true → true ≡ temporal t
-  temporal_yes r e q = sym (ap (λ x. x || some_kind (within UNTIL WEAK-UNTIL) T 0 n) (sym e ∙ q)) ∙ temporal_is
+  pub temporal_yes : (r : Bool) → r ≡ some_kind (within NEXT GLOBALLY) T 0 n → r ≡ true → r ≡ temporal t
+  temporal_yes r e q = q ∙ sym (ap (λ x. x || some_kind (within UNTIL WEAK-UNTIL) T 0 n) (sym e ∙ q)) ∙ temporal_is
 
   pub temporal-rest : (r u : Bool) → r ≡ some_kind (within NEXT GLOBALLY) T 0 n → r ≡ false → u ≡ some_kind (within UNTIL WEAK-UNTIL) T 0 n → u ≡ temporal t
   temporal-rest r u e q d = d ∙ sym (ap (λ x. x || some_kind (within UNTIL WEAK-UNTIL) T 0 n) (sym e ∙ q)) ∙ temporal_is
-
-  pub mixed_yes : (r u : Bool) → r ≡ has_listed t → r ≡ true → u ≡ temporal t → u ≡ mixed t
-  mixed_yes r u e q d = d ∙ sym (ap (λ x. x && temporal t) (sym e ∙ q))
-
-  pub mixed_not : (r : Bool) → r ≡ has_listed t → r ≡ false → false ≡ mixed t
-  mixed_not r e q = sym (ap (λ x. x && temporal t) (sym e ∙ q))

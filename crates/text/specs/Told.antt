@@ -1,9 +1,7 @@
 -- Document 01, the table of refusals: 5, 6 and 7 of a text, and what the reader answers.
-use Rattle.std.specs.Prelude.{ℕ, ◌-◌, ◌≡◌, Bool, true, false, ◌||◌, List, [], ◌∷◌, eqb, ltb, length}
-use Rattle.refusal.specs.Outcome.{Outcome, result, refused, Line, line, judged}
-use Rattle.refusal.specs.Numbers.{number_of, place_of}
-use Rattle.text.specs.declared.Answer.{Answer}
-use Rattle.text.specs.declared.Answer.TheVariants.{Nodes, Refused}
+use Rattle.refusal.specs.declared.Refusal.{Refusal}
+use Rattle.std.specs.Prelude.{ℕ, ◌-◌, ◌≡◌, Bool, true, false, ◌||◌, List, [], ◌∷◌, eqb, ltb, length, Result, Ok}
+use Rattle.refusal.specs.Outcome.{reported, Line, line, judged}
 use Rattle.grammar.specs.Size.{nodes, too_deep, most_bytes, most_nodes}
 use Rattle.grammar.specs.inner.Table.{tree_at, Falling}
 use Rattle.grammar.specs.inner.Parse.{Parsed, one, none, parsed}
@@ -31,11 +29,6 @@ too_large s = ltb most_nodes (nodes_of (parsed s)) || too_deep s
 abbrev pub text_lines : List ℕ → List Line
 text_lines s = line 5 (bad_length s) ∷ line 6 (no_reading (parsed s)) ∷ line 7 (too_large s) ∷ []
 
--- the number of nodes, or the refusal by its number and its place
-abbrev pub outcome_of : Answer → Outcome ℕ
-outcome_of (Nodes n) = result n
-outcome_of (Refused r) = refused (number_of r) (place_of r)
-
 -- the first n rows of the table stand for the one reading of the text: its root is node n − 1, and children have smaller numbers than their parent
 pub record Tabled (s table : List ℕ) (n : ℕ) : Type 0 where
   pub reads : parsed s ≡ one (tree_at table (n - 1))
@@ -43,6 +36,6 @@ pub record Tabled (s table : List ℕ) (n : ℕ) : Type 0 where
   pub falling : Falling table n
 
 -- WHAT THE READER ANSWERS
-pub record Told (s table : List ℕ) (r : Answer) : Type 0 where
-  pub outcome : outcome_of r ≡ judged (text_lines s) (nodes_of (parsed s))
-  pub tabled : (n : ℕ) → r ≡ Nodes n → Tabled s table n
+pub record Told (s table : List ℕ) (r : Result ℕ Refusal) : Type 0 where
+  pub outcome : reported r ≡ judged (text_lines s) (nodes_of (parsed s))
+  pub tabled : (n : ℕ) → r ≡ Ok n → Tabled s table n

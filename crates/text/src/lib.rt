@@ -23,50 +23,43 @@ pub const MOST_NODES: usize = 32;
 // The numbers of a table that holds any text: four to a node, and no more nodes than bytes.
 pub const TABLE_SIZE: usize = 4 * MOST_BYTES;
 
-// The number of nodes that stand in the table for the text's one reading, or a refusal.
-#[derive(Drop)]
-pub enum Answer {
-    Nodes(usize),
-    Refused(Refusal),
-}
-
-// The answer for a text whose tree the first n rows hold.
-fn judge(text: &[u8], table: &[u32], n: usize) -> Answer
+// The answer for a text whose tree the first n rows hold: how many nodes it has.
+fn judge(text: &[u8], table: &[u32], n: usize) -> Result<usize, Refusal>
     requires { 4 * n ≤ length table.now }
     ensures { (t : Text) → Laid table.now 0 n t → result ≡ judged_text text.now t }
 {
     if table::is_mixed(table, n) {
-        return Answer::Refused(Refusal::NoReading);
+        return Err(Refusal::NoReading);
     }
     if MOST_NODES < n {
-        return Answer::Refused(Refusal::TextTooLarge);
+        return Err(Refusal::TextTooLarge);
     }
     if brackets::too_deep(text) {
-        return Answer::Refused(Refusal::TextTooLarge);
+        return Err(Refusal::TextTooLarge);
     }
-    Answer::Nodes(n)
+    Ok(n)
 }
 
-// Reads a text into the table.
-pub fn read(text: &[u8], table: &mut [u32]) -> Answer
+// Reads a text into the table, and says how many nodes stand there for its one reading.
+pub fn read(text: &[u8], table: &mut [u32]) -> Result<usize, Refusal>
     requires { 4 * most_bytes ≤ length table.old }
     ensures { Told text.now table.new result }
 {
     let size = text.len();
     if size == 0 {
-        return Answer::Refused(Refusal::TextLength);
+        return Err(Refusal::TextLength);
     }
     if MOST_BYTES < size {
-        return Answer::Refused(Refusal::TextLength);
+        return Err(Refusal::TextLength);
     }
     match parser::or_text(text, table, 0, 0) {
-        Got::Upto(e, n) => {
+        Some(Got { end: e, nodes: n }) => {
             if e == size {
                 judge(text, table, n)
             } else {
-                Answer::Refused(Refusal::NoReading)
+                Err(Refusal::NoReading)
             }
         }
-        Got::Unread => Answer::Refused(Refusal::NoReading),
+        None => Err(Refusal::NoReading),
     }
 }

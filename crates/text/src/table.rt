@@ -20,7 +20,7 @@ pub fn kind(table: &[u32], n: usize) -> u32
 pub fn between(k: u32, low: u32, high: u32) -> bool
     ensures { result ≡ within low high k }
 {
-    if low <= k { k <= high } else { false }
+    low <= k && k <= high
 }
 
 // Whether one of the first n kinds lies between low and high.
@@ -28,12 +28,10 @@ fn some_kind(table: &[u32], n: usize, low: u32, high: u32) -> bool
     requires { 4 * n ≤ length table.now }
     ensures { result ≡ some_kind (within low high) table.now 0 n }
 {
-    let mut i = 0;
-    while i < n {
+    for i in 0..n {
         if between(kind(table, i), low, high) {
             return true;
         }
-        i += 1;
     }
     false
 }
@@ -51,10 +49,8 @@ pub fn is_temporal(table: &[u32], n: usize) -> bool
     requires { 4 * n ≤ length table.now }
     ensures { (t : Text) → Laid table.now 0 n t → result ≡ temporal t }
 {
-    if some_kind(table, n, kinds::NEXT, kinds::GLOBALLY) {
-        return true;
-    }
-    some_kind(table, n, kinds::UNTIL, kinds::WEAK_UNTIL)
+    some_kind(table, n, kinds::NEXT, kinds::GLOBALLY)
+        || some_kind(table, n, kinds::UNTIL, kinds::WEAK_UNTIL)
 }
 
 // Whether the text writes a listed name beside F, G, X, U or W.
@@ -62,8 +58,5 @@ pub fn is_mixed(table: &[u32], n: usize) -> bool
     requires { 4 * n ≤ length table.now }
     ensures { (t : Text) → Laid table.now 0 n t → result ≡ mixed t }
 {
-    if has_listed(table, n) {
-        return is_temporal(table, n);
-    }
-    false
+    has_listed(table, n) && is_temporal(table, n)
 }

@@ -13,7 +13,7 @@ pub extern "C" fn text_read(s: &[u8]) -> u64
     let mut table = [0u32; text::TABLE_SIZE];
     let answer = text::read(s, &mut table);
     match answer {
-        text::Answer::Nodes(n) => n as u64,
-        text::Answer::Refused(x) => reply::refused(x),
+        Ok(n) => n as u64,
+        Err(x) => reply::refused(x),
     }
 }

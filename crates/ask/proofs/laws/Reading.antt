@@ -1,13 +1,21 @@
 -- What is kept stands for all the pieces that were handed over, joined; so the page is that of the whole inputs.
 use Rattle.std.specs.Prelude.{ℕ, ◌+◌, ◌*◌, ◌≡◌, refl, List, [], ◌++◌, length, take}
-use Rattle.std.proofs.Common.{sym, subst, ◌∙◌}
+use Rattle.std.proofs.Common.{sym, ap, subst, ◌∙◌, append-nil}
 use Rattle.recording.specs.Recording.{most_records}
 use Rattle.page.specs.Printed.{printed}
-use Rattle.page.specs.Intake.{spare, text_blocks, StandsFor}
+use Rattle.page.specs.Intake.{spare, text_blocks, StandsFor, TakesIn}
 use Rattle.page.proofs.laws.Intake.{stands_empty}
 use Rattle.page.proofs.laws.Length.{printed_stands}
 use Rattle.ask.specs.declared.input.Input.{Input}
 use Rattle.ask.specs.Reading.{piece_of, Turns, no_turn, then, Recorded, opened, missing}
+
+-- an empty piece leaves all as it was
+pub takes_none : (store : List ℕ) (n : ℕ) (piece : List ℕ) → piece ≡ [] → TakesIn store n piece store n
+takes_none store n piece e =
+    record {
+      stands = λ blocks seen r s. subst (λ (w : List ℕ). StandsFor blocks w store n) (sym (ap (λ (p : List ℕ). seen ++ p) e ∙ append-nil seen)) s;
+      behind = refl;
+    }
 
 -- ALL THE BYTES that were handed over: the pieces, joined in order
 abbrev pub handed : {store new : List ℕ} {r : Input} → Turns store new r → List ℕ

@@ -1,11 +1,11 @@
 -- The band call from its parts: a text that was read, a width, and the refusals before them.
-use Rattle.std.specs.Prelude.{ℕ, zero, suc, ◌+◌, ◌-◌, ◌≤◌, ◌<◌, ◌≡◌, refl, Bool, true, false, not, ◌||◌, ◌&&◌, List, [], ◌∷◌, ◌++◌, eqb, ℤ, pos, negsuc, get_or, length}
+use Rattle.std.specs.Prelude.{ℕ, zero, suc, ◌+◌, ◌-◌, ◌≤◌, ◌<◌, ◌≡◌, refl, Bool, true, false, not, ◌||◌, ◌&&◌, List, [], ◌∷◌, ◌++◌, eqb, ℤ, pos, negsuc, get_or, length, Result, Ok, Err, Some, None}
 use Rattle.std.proofs.Common.{not-suc-le-zero, le_of_suc-le-suc, arith, ◌∙◌, subst, true≢false, lt-ltb, le-ltb, ltb-true, ne_eqb}
 use Rattle.std.proofs.Math.Path.{sym, ap}
 use Rattle.std.proofs.lemmas.Bool.{not-true}
 use Rattle.number.specs.Axis.{origin, whole}
 use Rattle.number.proofs.laws.Boolean.{or_cases, or_none, and_left, and_right}
-use Rattle.refusal.specs.Outcome.{Outcome, result, refused, judged}
+use Rattle.refusal.specs.Outcome.{Outcome, result, refused, judged, reported}
 use Rattle.refusal.specs.Numbers.{number_of, place_of}
 use Rattle.refusal.specs.declared.Refusal.{Refusal}
 use Rattle.recording.specs.Reading.{Curve, curve_of}
@@ -22,13 +22,10 @@ use Rattle.text.proofs.laws.Table.{tree_step}
 use Rattle.evaluation.proofs.laws.Tree.{kind-known}
 use Rattle.question.specs.Question.{the_text, read, asking_lines}
 use Rattle.question.specs.inner.Answered.{Answerable}
-use Rattle.question.specs.inner.Prepare.{prepared_of, Prepares}
+use Rattle.question.specs.inner.Prepare.{Prepares}
 use Rattle.question.proofs.laws.Prepare.{prepared_passes}
-use Rattle.question.specs.declared.prepare.Prepared.{Prepared}
-use Rattle.question.specs.declared.prepare.Prepared.TheVariants as prepared
 use Rattle.targets.specs.Target.{off_axis, Placed}
 use Rattle.targets.proofs.laws.Target.{sub_above, sub_below}
-use Rattle.targets.specs.declared.OnAxis.TheVariants.{Index, Off}
 use Rattle.band.specs.Band.{widest}
 use Rattle.band.specs.Means.{Bands}
 use Rattle.band.specs.inner.Ends.{bands_of}
@@ -137,27 +134,27 @@ module _ (p : Text) (r : List Coded) where
       q ∙ sym (judged_skip [] (width_line (pos (n - origin))) (extreme_line p ∷ []) (bands_of (the_question p) (n - origin) r) (le-ltb widest (n - origin) k))
       ∙ ap (λ (z : ℤ). JudgedIn p z r) (sym (sub_above n origin h))
 
-  pub width_off : (z : ℤ) → Placed z Off → refused 16 0 ≡ JudgedIn p z r
+  pub width_off : (z : ℤ) → Placed z None → refused 16 0 ≡ JudgedIn p z r
   width_off z h = bad_width z (bad z h)
     where
       bad : (z : ℤ) → off_axis z ≡ true → bad_band z ≡ true
       bad (pos n) h = lt-ltb widest n (omega (arith, ltb-true 2000000000 n h))
       bad (negsuc n) h = refl
 
-  pub width_on : (z : ℤ) (n : ℕ) → Placed z (Index n) → (o : Outcome Bands) → o ≡ JudgedIn p (whole n) r → o ≡ JudgedIn p z r
+  pub width_on : (z : ℤ) (n : ℕ) → Placed z (Some n) → (o : Outcome Bands) → o ≡ JudgedIn p (whole n) r → o ≡ JudgedIn p z r
   width_on z n h o q = q ∙ ap (λ (y : ℤ). JudgedIn p y r) h.2
 
 -- ---- the call
 
-module _ (bytes text table : List ℕ) (e : ℤ) (q : Prepared) (h : Prepares bytes text table q) where
-  pub band_refused : (x : Refusal) → q ≡ prepared.Refused x → refused (number_of x) (place_of x) ≡ band_of bytes text e
+module _ (bytes text table : List ℕ) (e : ℤ) (q : Result ℕ Refusal) (h : Prepares bytes text table q) where
+  pub band_refused : (x : Refusal) → q ≡ Err x → refused (number_of x) (place_of x) ≡ band_of bytes text e
   unfolding band_of
   band_refused x w =
       sym (refusal_stands (asking_lines bytes text) (width_line e ∷ extreme_line (read text) ∷ []) (nodes_of (parsed text)) (bands_of (the_question (read text)) (width_of e) (coded bytes)) (number_of x) (place_of x)
-      (sym h.outcome ∙ ap prepared_of w))
+      (sym h.outcome ∙ ap reported w))
 
   -- e is handed on as z
-  pub band_answered : (n : ℕ) → q ≡ prepared.Nodes n → (z : ℤ) → z ≡ e → (o : Outcome Bands) → o ≡ JudgedIn (text_of table n) z (coded bytes) → o ≡ band_of bytes text e
+  pub band_answered : (n : ℕ) → q ≡ Ok n → (z : ℤ) → z ≡ e → (o : Outcome Bands) → o ≡ JudgedIn (text_of table n) z (coded bytes) → o ≡ band_of bytes text e
   unfolding band_of
   band_answered n w z same o u =
       let is : text_of table n ≡ read text = ap the_text (sym (h.tabled n w).reads) in

@@ -1,9 +1,9 @@
 -- What a call that writes bytes answers, packed; the bits of the band call; and that equal outcomes are told alike.
-use Rattle.std.specs.Prelude.{ℕ, ◌≤◌, ◌≡◌, List}
+use Rattle.refusal.specs.declared.Refusal.{Refusal}
+use Rattle.std.specs.Prelude.{ℕ, ◌≤◌, ◌≡◌, List, Result}
 use Rattle.std.proofs.Common.{arith, ap, ◌∙◌, subst}
-use Rattle.refusal.specs.Outcome.{Outcome}
-use Rattle.recording.specs.Output.{Answers, reported}
-use Rattle.recording.specs.declared.Written.{Written}
+use Rattle.refusal.specs.Outcome.{Outcome, reported}
+use Rattle.recording.specs.Output.{Answers}
 use Rattle.degree.specs.Degree.{Value}
 use Rattle.pair.specs.Pair.{Given}
 use Rattle.band.specs.Means.{Part, empty, run, Bands}
@@ -11,7 +11,7 @@ use Rattle.sheet.specs.Finding.{Finding}
 use Rattle.reply.specs.Reply.{packed}
 use Rattle.boundary.specs.Boundary.{Writes, Degrees, Pairs, filled, InBands, Orders}
 
-pub writes : (outcome : Outcome (List ℕ)) (old : List ℕ) (w : Written) (new : List ℕ) (r : ℕ) → Answers outcome old w new → r ≡ packed (reported w)
+pub writes : (outcome : Outcome (List ℕ)) (old : List ℕ) (w : Result ℕ Refusal) (new : List ℕ) (r : ℕ) → Answers outcome old w new → r ≡ packed (reported w)
     → Writes outcome old r new
 writes outcome old w new r a e = record { returned = e ∙ ap packed a.answer; output = a.output }
 

@@ -1,7 +1,6 @@
 -- Four numbers in a row.
 use Rattle.copying.specs.Put.{put}
 use Rattle.copying.proofs.laws.Words.{words-put}
-use borrow.Author.Rules.{rules}
 use Rattle.copying.proofs.put_words.Goals as goal
 
 pub returns : goal.returns

@@ -1,17 +1,16 @@
 -- The degree call from its parts: a distance, a set, a text that was read, a target.
-use Rattle.std.specs.Prelude.{ℕ, ◌<◌, ◌≡◌, refl, Bool, true, false, not, cond, ◌⊎◌, List, [], ◌∷◌, ◌++◌, T, eqb, ltb, ℤ, Float}
+use Rattle.std.specs.Prelude.{ℕ, ◌<◌, ◌≡◌, refl, Bool, true, false, not, cond, ◌⊎◌, List, [], ◌∷◌, ◌++◌, T, eqb, ltb, ℤ, Float, Result, Ok, Err, Option, Some, None, ⊤}
 use Rattle.std.proofs.Common.{arith, subst, ◌∙◌, inl, inr, ⊎_elim, eq-eqb, ne_eqb, ltb-true}
 use Rattle.std.proofs.Math.Path.{sym, ap}
 use Rattle.std.specs.Float.Ieee.{is_nan}
 use Rattle.number.specs.Axis.{axis}
-use Rattle.refusal.specs.Outcome.{Outcome, result, refused, Line, judged}
+use Rattle.refusal.specs.Outcome.{Outcome, result, refused, Line, judged, reported}
 use Rattle.refusal.specs.Numbers.{number_of, place_of}
 use Rattle.refusal.specs.declared.Refusal.{Refusal}
 use Rattle.recording.proofs.laws.Outcome.{judged_pass, judged_skip, judged-first, judged_none, result_none, refusal_stands}
 use Rattle.runs.specs.Distance.{distance}
 use Rattle.runs.proofs.laws.Distance.{distance_ext}
 use Rattle.runs.specs.Set.{member, nearest_of}
-use Rattle.runs.specs.declared.Nearest.TheVariants.{At, Nothing}
 use Rattle.grammar.specs.Syntax.{Text}
 use Rattle.grammar.specs.inner.Parse.{parsed}
 use Rattle.text.specs.Told.{nodes_of}
@@ -20,20 +19,14 @@ use Rattle.meaning.specs.inner.Truth.{val}
 use Rattle.meaning.proofs.laws.Whole.{index-whole}
 use Rattle.evaluation.specs.inner.Evaluation.{text_of}
 use Rattle.question.specs.Question.{the_text, read, answer, asking_lines, set_lines}
-use Rattle.question.specs.inner.Prepare.{prepared_of, Prepares}
+use Rattle.question.specs.inner.Prepare.{Prepares}
 use Rattle.question.proofs.laws.Prepare.{prepared_passes}
 use Rattle.question.specs.inner.Answered.{Gives}
-use Rattle.question.specs.declared.prepare.Prepared.{Prepared}
-use Rattle.question.specs.declared.prepare.Prepared.TheVariants as prepared
-use Rattle.question.specs.declared.answered.Verdict.TheVariants.{Fine, Refused}
-use Rattle.question.specs.declared.answered.Verdict.{Verdict}
 use Rattle.binary64.specs.Degree.{distance_of, degree_of}
 use Rattle.binary64.proofs.laws.Degree.{distance-number, degree_number}
 use Rattle.targets.specs.Target.{Placed}
-use Rattle.targets.specs.declared.OnAxis.TheVariants.{Index, Off}
-use Rattle.degree.specs.Degree.{Reach, away, nowhere, reach_in, reached_of, Value, met, short, no_value, graded, valued, value_of, target_line, nearness_of}
+use Rattle.degree.specs.Degree.{Reach, away, nowhere, reach_in, reach_to, reached_of, Value, met, short, no_value, graded, valued, value_of, target_line, nearness_of}
 use Rattle.degree.specs.inner.Reach.{reach_at, mapped}
-use Rattle.degree.specs.declared.Reached.{Reached}
 
 -- ---- a distance
 
@@ -43,34 +36,34 @@ is_met x b e = sym (ap (λ (c : Bool). cond c met x) e)
 is_short : (x : Value) (b : Bool) → b ≡ false → x ≡ cond b met x
 is_short x b e = sym (ap (λ (c : Bool). cond c met x) e)
 
-pub grade_met : (d : ℕ) → d ≡ 0 → result met ≡ result (graded d)
-grade_met d z = ap result (is_met _ (eqb d 0) (eq-eqb d 0 z))
+pub grade_met : (d : ℕ) → d ≡ 0 → met ≡ graded d
+grade_met d z = is_met _ (eqb d 0) (eq-eqb d 0 z)
 
-pub grade_short : (d : ℕ) (x k : Float) → (d ≡ 0 → ⊥) → x ≡ distance_of d → k ≡ degree_of d → result (short x k) ≡ result (graded d)
+pub grade_short : (d : ℕ) (x k : Float) → (d ≡ 0 → ⊥) → x ≡ distance_of d → k ≡ degree_of d → short x k ≡ graded d
 grade_short d x k n p q =
     let same : short x k ≡ short (distance_of d) (degree_of d) = ap (λ (y : Float). short y k) p ∙ ap (short (distance_of d)) q in
-    ap result (same ∙ is_short _ (eqb d 0) (ne_eqb d 0 n))
+    same ∙ is_short _ (eqb d 0) (ne_eqb d 0 n)
 
 -- ---- a set
 
-at_nothing : {C : Type 0} (d : ℕ) → At d ≡ Nothing → C
+at_nothing : {C : Type 0} (d : ℕ) → ◌≡◌ {A = Option ℕ} (Some d) None → C
 at_nothing d e = let z : ◌≡◌ {A = ℕ} 0 1 = cc in absurd (bad z)
   where
     bad : ◌≡◌ {A = ℕ} 0 1 → ⊥
     bad z = omega arith
 
 module _ (f : ℕ → Bool) (v : ℕ) where
-  pub near_at : (d : ℕ) → At d ≡ nearest_of f v → result (away d) ≡ result (reach_in f v)
+  pub near_at : (d : ℕ) → Some d ≡ nearest_of f v → away d ≡ reach_in f v
   near_at d e = by (ltb (distance f v) axis) e
     where
-      by : (b : Bool) → At d ≡ cond b (At (distance f v)) Nothing → result (away d) ≡ result (cond b (away (distance f v)) nowhere)
-      by true e = let same : d ≡ distance f v = cc in ap (λ (k : ℕ). result (away k)) same
+      by : (b : Bool) → Some d ≡ cond b (Some (distance f v)) None → away d ≡ cond b (away (distance f v)) nowhere
+      by true e = let same : d ≡ distance f v = cc in ap away same
       by false e = at_nothing d e
 
-  pub near-nothing : Nothing ≡ nearest_of f v → result nowhere ≡ result (reach_in f v)
+  pub near-nothing : None ≡ nearest_of f v → nowhere ≡ reach_in f v
   near-nothing e = by (ltb (distance f v) axis) e
     where
-      by : (b : Bool) → Nothing ≡ cond b (At (distance f v)) Nothing → result nowhere ≡ result (cond b (away (distance f v)) nowhere)
+      by : (b : Bool) → None ≡ cond b (Some (distance f v)) None → nowhere ≡ cond b (away (distance f v)) nowhere
       by true e = at_nothing (distance f v) (sym e)
       by false e = refl
 
@@ -91,18 +84,23 @@ judged-mapped {R} {S} h (l ∷ ls) r = go l.meets (judged-mapped h ls r)
     go true e = refl
     go false e = e
 
+-- what the nearest member comes to
+pub near_is : (f : ℕ → Bool) (v : ℕ) (o : Option ℕ) → o ≡ nearest_of f v → reach_to o ≡ reach_in f v
+near_is f v (Some d) e = near_at f v d e
+near_is f v None e = near-nothing f v e
+
 -- an answer that was reached under lines, graded
-pub graded-lines : (x : Reached) (ls : List Line) (y : Reach) (o : Outcome Value) → reached_of x ≡ judged ls y → o ≡ mapped valued (reached_of x) → o ≡ judged ls (valued y)
+pub graded-lines : (x : Result (Option ℕ) Refusal) (ls : List Line) (y : Reach) (o : Outcome Value) → reached_of x ≡ judged ls y → o ≡ mapped valued (reached_of x) → o ≡ judged ls (valued y)
 graded-lines x ls y o e q = q ∙ ap (mapped valued) e ∙ judged-mapped valued ls y
 
 -- ---- a text that was read
 
-module _ (bytes : List ℕ) (p : Text) (words : List ℕ) (a : Verdict) (g : Gives bytes p words a) (v : ℕ) where
-  pub text_refused : (x : Refusal) → a ≡ Refused x
+module _ (bytes : List ℕ) (p : Text) (words : List ℕ) (a : Result ⊤ Refusal) (g : Gives bytes p words a) (v : ℕ) where
+  pub text_refused : (x : Refusal) → a ≡ Err x
       → refused (number_of x) (place_of x) ≡ judged (set_lines bytes p) (reach_in (λ n. val (coded bytes) n p 0) v)
   text_refused x e = sym (refusal_stands (set_lines bytes p) [] tt (reach_in (λ n. val (coded bytes) n p 0) v) (number_of x) (place_of x) (g.refusal x e))
 
-  pub text-near : a ≡ Fine → v < axis → (o : Outcome Reach) → o ≡ result (reach_in (member words) v)
+  pub text-near : a ≡ (Ok tt) → v < axis → (o : Outcome Reach) → o ≡ result (reach_in (member words) v)
       → o ≡ judged (set_lines bytes p) (reach_in (λ n. val (coded bytes) n p 0) v)
   text-near e h o q =
       q ∙ ap result (reach_ext (member words) (λ n. val (coded bytes) n p 0) v h (g.set e).members)
@@ -111,10 +109,10 @@ module _ (bytes : List ℕ) (p : Text) (words : List ℕ) (a : Verdict) (g : Giv
 -- ---- a target
 
 module _ (g : ℤ) (lines : List Line) (f : ℕ → Bool) where
-  pub target_off : Placed g Off → refused 12 0 ≡ judged (target_line g ∷ lines) (value_of f (index g))
+  pub target_off : Placed g None → refused 12 0 ≡ judged (target_line g ∷ lines) (value_of f (index g))
   target_off h = sym (judged-first (target_line g) lines (value_of f (index g)) h)
 
-  pub target_on : (n : ℕ) → Placed g (Index n) → (o : Outcome Value) → o ≡ judged lines (value_of f n)
+  pub target_on : (n : ℕ) → Placed g (Some n) → (o : Outcome Value) → o ≡ judged lines (value_of f n)
       → o ≡ judged (target_line g ∷ lines) (value_of f (index g))
   target_on n h o q =
       let there : index g ≡ n = ap index (sym h.2) ∙ index-whole n in
@@ -122,15 +120,15 @@ module _ (g : ℤ) (lines : List Line) (f : ℕ → Bool) where
 
 -- ---- the call
 
-module _ (bytes text table : List ℕ) (g : ℤ) (q : Prepared) (h : Prepares bytes text table q) where
-  pub degree_refused : (x : Refusal) → q ≡ prepared.Refused x → refused (number_of x) (place_of x) ≡ nearness_of bytes text g
+module _ (bytes text table : List ℕ) (g : ℤ) (q : Result ℕ Refusal) (h : Prepares bytes text table q) where
+  pub degree_refused : (x : Refusal) → q ≡ Err x → refused (number_of x) (place_of x) ≡ nearness_of bytes text g
   unfolding nearness_of
   degree_refused x e =
       sym (refusal_stands (asking_lines bytes text) (target_line g ∷ set_lines bytes (read text)) (nodes_of (parsed text)) (value_of (answer bytes text) (index g)) (number_of x) (place_of x)
-      (sym h.outcome ∙ ap prepared_of e))
+      (sym h.outcome ∙ ap reported e))
 
   -- the target is handed on as z
-  pub degree_answered : (n : ℕ) → q ≡ prepared.Nodes n → (z : ℤ) → z ≡ g → (o : Outcome Value)
+  pub degree_answered : (n : ℕ) → q ≡ Ok n → (z : ℤ) → z ≡ g → (o : Outcome Value)
       → o ≡ judged (target_line z ∷ set_lines bytes (text_of table n)) (value_of (λ k. val (coded bytes) k (text_of table n) 0) (index z)) → o ≡ nearness_of bytes text g
   unfolding nearness_of
   degree_answered n e z same o w =
@@ -140,13 +138,13 @@ module _ (bytes text table : List ℕ) (g : ℤ) (q : Prepared) (h : Prepares by
       ∙ sym (judged_pass (asking_lines bytes text) (target_line g ∷ set_lines bytes (read text)) (value_of (answer bytes text) (index g)) (prepared_passes h n e).0)
 
 -- the target is given by its index
-module _ (bytes text table : List ℕ) (v : ℕ) (q : Prepared) (h : Prepares bytes text table q) where
-  pub at_refused : (x : Refusal) → q ≡ prepared.Refused x → refused (number_of x) (place_of x) ≡ reach_at bytes text v
+module _ (bytes text table : List ℕ) (v : ℕ) (q : Result ℕ Refusal) (h : Prepares bytes text table q) where
+  pub at_refused : (x : Refusal) → q ≡ Err x → refused (number_of x) (place_of x) ≡ reach_at bytes text v
   unfolding reach_at
   at_refused x e =
-      sym (refusal_stands (asking_lines bytes text) (set_lines bytes (read text)) (nodes_of (parsed text)) (reach_in (answer bytes text) v) (number_of x) (place_of x) (sym h.outcome ∙ ap prepared_of e))
+      sym (refusal_stands (asking_lines bytes text) (set_lines bytes (read text)) (nodes_of (parsed text)) (reach_in (answer bytes text) v) (number_of x) (place_of x) (sym h.outcome ∙ ap reported e))
 
-  pub at_answered : (n : ℕ) → q ≡ prepared.Nodes n → (o : Outcome Reach)
+  pub at_answered : (n : ℕ) → q ≡ Ok n → (o : Outcome Reach)
       → o ≡ judged (set_lines bytes (text_of table n)) (reach_in (λ k. val (coded bytes) k (text_of table n) 0) v) → o ≡ reach_at bytes text v
   unfolding reach_at
   at_answered n e o w =

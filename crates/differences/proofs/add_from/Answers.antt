@@ -1,8 +1,14 @@
 -- `add_from` meets its contract.
-use Rattle.differences.proofs.TurnLaws.{alone_chosen}
-use borrow.Author.Rules.{rules}
+use mathlib.Core.Path.{refl, sym}
+use Rattle.std.proofs.lemmas.Result.{IfOk-from_err}
+use Rattle.differences.proofs.TurnLaws.{alone_extends}
 use Rattle.differences.proofs.add_from.Goals as goal
 
-pub returns : goal.returns
-returns c =
-    alone_chosen c.args.near c.args.a.now c.args.b.now c.if-near.false c.args.x c.least-next.result (c.requires.5 c.if-near.false) c.least-next.ensures c.args.set.now _ c.add.result c.add.ensures
+pub returns-in_err-add : goal.returns-in_err-add
+returns-in_err-add g c =
+    alone_extends (g.P.Pairs.of c.args.pairs.now) c.args.x c.in-Some.next c.in-Some.ensures.0 c.in-Some.ensures.1 c.args.set.now _ _ _ (sym c.from_residual.ensures.0)
+    (IfOk-from_err _ _ c.from_residual.ensures.0) c.in_err-add.ensures
+
+pub returns-in-Some : goal.returns-in-Some
+returns-in-Some g c =
+    alone_extends (g.P.Pairs.of c.args.pairs.now) c.args.x c.in-Some.next c.in-Some.ensures.0 c.in-Some.ensures.1 c.args.set.now _ _ _ refl refl c.in_ok-add.ensures

@@ -1,6 +1,5 @@
 -- `add_seen` meets its contract.
 use Rattle.differences.proofs.TurnLaws.{one_more, none_more}
-use borrow.Author.Rules.{rules}
 use Rattle.differences.proofs.add_seen.Goals as goal
 
 pub returns-then-seen : goal.returns-then-seen

@@ -2,7 +2,6 @@
 use Prim.Native.Nat.{◌-◌}
 use native.Mathlib.Omega.{arith}
 use Rattle.differences.proofs.RowLaws.{behind_none, behind_last}
-use borrow.Author.Rules.{rules}
 use Rattle.differences.proofs.behind.Goals as goal
 
 pub returns-then-stop-start : goal.returns-then-stop-start

@@ -1,7 +1,6 @@
 -- `beyond` meets its contract.
 use native.Mathlib.Omega.{arith}
 use mathlib.Core.Path.{refl}
-use borrow.Author.Rules.{rules}
 use Rattle.differences.proofs.beyond.Goals as goal
 
 pub difference-requires : goal.difference-requires

@@ -1,42 +1,40 @@
--- `collect` meets its contract. The invariant: the set holds the part below x, and x is a difference if all pairs are taken.
-use Prim.Native.Nat.{◌≤◌, ◌<◌, ◌-◌}
+-- `collect` meets its contract. The invariant: the set holds the part below x, and a turn may start at x.
 use native.Mathlib.Omega.{arith}
-use mathlib.Core.Path.{◌≡◌, sym, ◌∙◌}
-use mathlib.Core.Bool.{true, false}
-use Rattle.number.specs.Axis.{axis}
-use Rattle.differences.specs.inner.Sweep.{from, chosen}
-use Rattle.differences.proofs.GatherLaws.{Gathered, gathered_below}
-use Rattle.differences.proofs.TurnLaws.{turn-start, turn_more, turn_many, turn_end}
-use borrow.Author.Rules.{rules}
+use mathlib.Core.Path.{refl, sym, ◌∙◌}
+use Rattle.runs.proofs.laws.Set.{makes_failed}
+use Rattle.differences.specs.inner.Sweep.{from}
+use Rattle.differences.proofs.GatherLaws.{gathered_below}
+use Rattle.differences.proofs.TurnLaws.{turn-start, turn_on, turn_many, turn_end}
 use Rattle.differences.proofs.collect.Goals as goal
 
 pub loop-x-init : goal.loop-x-init
-loop-x-init c =
-    (c.begin-x.ensures.begun, turn-start c.args.near (chosen c.args.near c.args.a.now c.args.b.now) c.args.low c.begin-x.result _ c.begin-x.ensures c.empty.ensures, c.begin-x.ensures.here)
+loop-x-init g c =
+    (c.begin-x.ensures.0.begun, turn-start (g.P.Pairs.of c.args.pairs.now) c.args.low c.begin-x.result _ c.begin-x.ensures.0 c.empty.ensures, c.begin-x.ensures.1)
 
-pub add_from-r-requires : goal.add_from-r-requires
-add_from-r-requires c =
-    (c.requires.0, c.requires.1, c.loop-x-test.true, c.loop-x.invariant.1.held.valid, gathered_below (from c.args.low (chosen c.args.near c.args.a.now c.args.b.now)) c.loop-x.x c.loop-x.set c.loop-x.invariant.1, (λ e. c.loop-x.invariant.2 e c.loop-x-test.true))
+pub add_from-requires : goal.add_from-requires
+add_from-requires g c =
+    (c.requires.0, c.loop-x-test.true, c.loop-x.invariant.1.held.valid, gathered_below (from c.args.low (g.P.Pairs.of c.args.pairs.now)) c.loop-x.x c.loop-x.set c.loop-x.invariant.1, c.loop-x.invariant.2 c.loop-x-test.true)
 
-pub shape_of-set-then-r : goal.shape_of-set-then-r
-shape_of-set-then-r c =
-    c.add_from-r.auto.set ∙ c.loop-x.invariant.1.held.valid.size ∙ sym c.requires.3
+pub shape_of-set-in_err-x : goal.shape_of-set-in_err-x
+shape_of-set-in_err-x g c =
+    c.add_from.auto.set ∙ c.loop-x.invariant.1.held.valid.size ∙ sym c.requires.2
 
-pub returns-then-r : goal.returns-then-r
-returns-then-r c =
-    turn_many (chosen c.args.near c.args.a.now c.args.b.now) c.args.low c.loop-x.x c.add_from-r.result.next c.loop-x.set _ c.add_from-r.result.over c.loop-x.invariant.1 c.loop-x.invariant.0 c.add_from-r.ensures c.if-r.true
+pub returns-in_err-x : goal.returns-in_err-x
+returns-in_err-x g c =
+    makes_failed _ _ _ _ (turn_many (g.P.Pairs.of c.args.pairs.now) c.args.low c.loop-x.x c.loop-x.set _ _ c.loop-x.invariant.1 c.loop-x.invariant.0 c.in_err-x.ensures refl) c.from_residual.ensures.0
 
 pub loop-x-smaller : goal.loop-x-smaller
-loop-x-smaller c = omega (arith, c.add_from-r.ensures.on, c.loop-x-test.true)
+loop-x-smaller g c = omega (arith, c.in_ok-x.ensures.on, c.in_ok-x.ensures.is, c.loop-x-test.true)
 
 pub loop-x-preserved : goal.loop-x-preserved
-loop-x-preserved c =
-    (omega (arith, c.loop-x.invariant.0, c.add_from-r.ensures.on), turn_more (chosen c.args.near c.args.a.now c.args.b.now) c.args.low c.loop-x.x c.add_from-r.result.next c.loop-x.set _ c.add_from-r.result.over c.loop-x.invariant.1 c.loop-x.invariant.0 c.add_from-r.ensures c.if-r.false, (λ e. c.add_from-r.ensures.here))
+loop-x-preserved g c =
+    turn_on (g.P.Pairs.of c.args.pairs.now) c.args.low c.loop-x.x c.loop-x.set _ _ c.loop-x.invariant.1 c.loop-x.invariant.0 c.in_ok-x.ensures _ c.in_ok-x.ensures.is refl
+    (g.P.Pairs.starts c.args.pairs.now) (g.met.P.Pairs.each_starts c.args.pairs.now)
 
 pub shape_of-set : goal.shape_of-set
-shape_of-set c =
-    c.loop-x.invariant.1.held.valid.size ∙ sym c.requires.3
+shape_of-set g c =
+    c.loop-x.invariant.1.held.valid.size ∙ sym c.requires.2
 
 pub returns : goal.returns
-returns c =
-    turn_end (from c.args.low (chosen c.args.near c.args.a.now c.args.b.now)) c.loop-x.x c.loop-x.set c.loop-x.invariant.1 c.loop-x-test.false
+returns g c =
+    turn_end (from c.args.low (g.P.Pairs.of c.args.pairs.now)) c.loop-x.x c.loop-x.set c.loop-x.invariant.1 c.loop-x-test.false

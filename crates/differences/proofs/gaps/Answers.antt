@@ -5,7 +5,6 @@ use Rattle.runs.proofs.laws.Set.{makes_ext}
 use Rattle.differences.specs.inner.Sweep.{from}
 use Rattle.differences.specs.inner.Times.{lags_of, gaps_of}
 use Rattle.differences.proofs.GapLaws.{gaps_are}
-use borrow.Author.Rules.{rules}
 use Rattle.differences.proofs.gaps.Goals as goal
 
 pub returns : goal.returns

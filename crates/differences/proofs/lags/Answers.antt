@@ -3,7 +3,6 @@ use Rattle.runs.proofs.laws.Set.{makes_ext}
 use Rattle.differences.specs.inner.Sweep.{from}
 use Rattle.differences.specs.inner.Times.{lags_of}
 use Rattle.differences.proofs.GapLaws.{from_zero}
-use borrow.Author.Rules.{rules}
 use Rattle.differences.proofs.lags.Goals as goal
 
 pub returns : goal.returns

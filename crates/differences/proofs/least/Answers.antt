@@ -1,11 +1,8 @@
 -- `least` meets its contract. The invariant: all pairs in a row before i or a column before j are weighed.
-use Prim.Native.Nat.{◌≤◌, ◌-◌, ◌+◌}
 use native.Mathlib.Omega.{arith}
 use native.Mathlib.Numerals.{add-one}
 use mathlib.Core.Logic.{inl, inr}
-use lib.ListN.{length}
-use Rattle.differences.proofs.WalkLaws.{Passed, passed_start, passed_column, passed_row, passed_end}
-use borrow.Author.Rules.{rules}
+use Rattle.differences.proofs.WalkLaws.{passed_start, passed_column, passed_row, passed_end}
 use Rattle.differences.proofs.least.Goals as goal
 
 pub loop-i-init : goal.loop-i-init
@@ -32,7 +29,7 @@ pub loop-i-preserved : goal.loop-i-preserved
 loop-i-preserved c = (
   omega arith,
   omega arith,
-  rw (add-one, c.lesser-best.ensures) (passed_row c.args.a.now c.args.b.now c.requires.0 c.requires.1 c.args.x c.loop-i.i c.loop-i.j c.loop-i.best
+  rw (add-one, c.min-best.ensures) (passed_row c.args.a.now c.args.b.now c.requires.0 c.requires.1 c.args.x c.loop-i.i c.loop-i.j c.loop-i.best
       c.difference-d.result c.loop-i.invariant.2 c.loop-i-test.true c.if-b-j.false
       c.difference-d.ensures c.if-d-x.false),
 )

@@ -1,11 +1,7 @@
 -- `least` meets its contract. The invariant: all pairs in a row before i or a column before j are weighed.
 use Prim.Native.Nat.{◌≤◌, ◌-◌, ◌+◌}
-use native.Mathlib.Omega.{arith}
-use native.Mathlib.Numerals.{add-one}
-use mathlib.Core.Logic.{inl, inr}
 use lib.ListN.{length}
-use Rattle.differences.proofs.WalkLaws.{Passed, passed_start, passed_column, passed_row, passed_end}
-use borrow.Author.Rules.{rules}
+use Rattle.differences.proofs.WalkLaws.{Passed}
 use Rattle.differences.proofs.least.Given as goal
 
 abbrev pub invariant-loop-i : goal.invariant-loop-i

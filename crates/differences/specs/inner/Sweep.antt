@@ -1,10 +1,10 @@
 -- What the searches for differences promise: a sweep, which sees those of a window and finds the next, and a walk, which finds the next alone.
-use Rattle.std.specs.Prelude.{ℕ, ◌+◌, ◌-◌, ◌≤◌, ◌<◌, min, ◌≡◌, Bool, true, false, ◌&&◌, ◌||◌, List, leb, ltb, length, get_or}
+use Rattle.std.specs.Prelude.{ℕ, ◌+◌, ◌-◌, ◌≤◌, ◌<◌, min, ◌≡◌, Bool, true, false, ◌&&◌, ◌||◌, List, leb, ltb, length, get_or, Result, IfOk}
 use Rattle.number.specs.Axis.{origin, axis}
 use Rattle.meaning.specs.inner.Truth.{apart}
 use Rattle.recording.specs.Condition.{some_of}
+use Rattle.runs.specs.declared.TooManyRuns.{TooManyRuns}
 use Rattle.runs.specs.Set.{member, Makes}
-use Rattle.differences.specs.inner.Times.{lags_of, steps_of}
 
 -- how many numbers one sweep sees
 abbrev pub window_size : ℕ
@@ -19,11 +19,6 @@ Time s = (origin ≤ s) × (s ≤ origin + origin)
 -- n is the index of a time of b minus s
 abbrev pub row_of : ℕ → List ℕ → ℕ → Bool
 row_of s b n = some_of (apart n s) b
-
--- the differences of the neighbours of a, or of all of b with all of a
-abbrev pub chosen : Bool → List ℕ → List ℕ → ℕ → Bool
-chosen true a b = steps_of a
-chosen false a b = lags_of a b
 
 -- the part of f from `low` on
 abbrev pub from : ℕ → (ℕ → Bool) → ℕ → Bool
@@ -83,16 +78,18 @@ pub record Found (f : ℕ → Bool) (x end next : ℕ) : Type 0 where
 
 -- ---- one turn
 
--- the set in `words` with the members of f from x up to before `next`, which is a member or the end of the axis, is in `after` or has too many runs
-pub record Extends (f : ℕ → Bool) (x next : ℕ) (words after : List ℕ) (over : Bool) : Type 0 where
+-- the set in `words` with the members of f from x up to before `next`, which is a member or the end of the axis: it is in `after`,
+-- and r is `next`; or it has too many runs
+pub record Extends (f : ℕ → Bool) (x : ℕ) (words after : List ℕ) (r : Result ℕ TooManyRuns) : Type 0 where
+  pub next : ℕ
+  pub is : IfOk r (λ n. n ≡ next)
   pub on : x < next
   pub stop : next ≤ axis
   pub here : next < axis → f next ≡ true
-  pub made : Makes (λ v. member words v || (leb x v && (ltb v next && f v))) after over
+  pub made : Makes (λ v. member words v || (leb x v && (ltb v next && f v))) after r
 
--- no member of f lies from `low` up to before x, which, if all pairs are taken, is a member or the end of the axis
-pub record Begins (near : Bool) (f : ℕ → Bool) (low x : ℕ) : Type 0 where
+-- no member of f lies from `low` up to before x
+pub record Begins (f : ℕ → Bool) (low x : ℕ) : Type 0 where
   pub begun : low ≤ x
   pub end : x ≤ axis
   pub gap : (v : ℕ) → low ≤ v → v < x → f v ≡ false
-  pub here : near ≡ false → x < axis → f x ≡ true

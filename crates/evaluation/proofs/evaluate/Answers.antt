@@ -1,7 +1,6 @@
 -- A text of one node by its leaf; else the rows are copied, and then the walk for a text with F, G, X, U or W, and the first record for any other.
 use native.Mathlib.Omega.{arith}
 use mathlib.Core.Path.{◌∙◌}
-use borrow.Author.Rules.{rules}
 use Rattle.parser.proofs.laws.Rows.{laid_above}
 use Rattle.evaluation.proofs.laws.Alone.{alone_asked, alone_evaluates}
 use Rattle.evaluation.proofs.laws.Rows.{same_asking, same_temporal, same_child, same_evaluates}

@@ -1,5 +1,7 @@
 -- A text of one node: its set is the leaf's, and 8 judges it alone.
-use Rattle.std.specs.Prelude.{ℕ, ◌-◌, ◌<◌, ◌≡◌, refl, Bool, true, List}
+use Rattle.std.specs.Prelude.{ℕ, ◌-◌, ◌<◌, ◌≡◌, refl, true, List}
+use Rattle.std.specs.Prelude.{Result}
+use Rattle.runs.specs.declared.TooManyRuns.{TooManyRuns}
 use Rattle.std.proofs.Common.{arith, sym, ap, subst, ◌∙◌}
 use Rattle.std.proofs.lemmas.Bool.{false≢true}
 use Rattle.runs.specs.Set.{Makes}
@@ -40,7 +42,7 @@ module _ (table : List ℕ) (count : ℕ) (rec : List ℕ) (asking : Asking tabl
     few_tops = ap (refused9 (coded rec)) root_text ∙ asking.few_tops;
   }
 
-  pub alone_evaluates : (words : List ℕ) (over : Bool) → Makes (λ v. val (coded rec) v (leaf_of root) 0) words over → Evaluates (coded rec) (text_of table count) words over
+  pub alone_evaluates : (words : List ℕ) (over : Result (Unit {0}) TooManyRuns) → Makes (λ v. val (coded rec) v (leaf_of root) 0) words over → Evaluates (coded rec) (text_of table count) words over
   alone_evaluates words over m = subst (λ (p : Text). Evaluates (coded rec) p words over) root_text (record {
     flag = m.flag ∙ sym (alone_eight (coded rec) (leaf_of root) (row_leaf root));
     holds = m.holds;

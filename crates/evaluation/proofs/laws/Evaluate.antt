@@ -1,5 +1,8 @@
 -- One node is evaluated: from the sets of its children, and the sets of the next record.
 use Rattle.std.specs.Prelude.{ℕ, suc, ◌+◌, ◌-◌, ◌/◌, ◌<◌, ◌≤◌, ◌≡◌, Bool, ◌||◌, List, length, eqb, ltb}
+use Rattle.std.specs.Prelude.{Result}
+use Rattle.std.specs.Result.{is_err}
+use Rattle.runs.specs.declared.TooManyRuns.{TooManyRuns}
 use Rattle.std.proofs.Common.{arith, ◌∙◌, eqb-true}
 use Rattle.std.proofs.Math.Decide.{ℕ_discrete, dec_lt}
 use Rattle.std.proofs.Math.Path.{refl, sym, ap, subst}
@@ -156,7 +159,7 @@ module _ (table : List ℕ) (rec : List ℕ) (i : ℕ) where
 
   -- ---- the outcome
 
-  over_is : (t : Text) (f : ℕ → Bool) → ((v : ℕ) → v < axis → f v ≡ val r v t i) → (over : Bool) → over ≡ ltb most_runs (run_count f) → over ≡ large_at r t i
+  over_is : (t : Text) (f : ℕ → Bool) → ((v : ℕ) → v < axis → f v ≡ val r v t i) → (over : Result (Unit {0}) TooManyRuns) → is_err over ≡ ltb most_runs (run_count f) → is_err over ≡ large_at r t i
   over_is t f e over h = h ∙ ap (ltb most_runs) (run_count_ext f (λ v. val r v t i) e)
 
   right_is : (t : Text) (f : ℕ → Bool) (n : ℕ) (sets : List ℕ) → ((v : ℕ) → v < axis → f v ≡ val r v t i) → Holds f (slot sets n) → SlotHolds r i t n sets
@@ -180,14 +183,14 @@ module _ (table : List ℕ) (rec : List ℕ) (i : ℕ) where
     pub child_valid : Valid (slot other₁ (m - 1))
     child_valid = (stand_root r i child other₁ own₁ done.stand).valid
 
-    module _ (own₂ : List ℕ) (over : Bool)
+    module _ (own₂ : List ℕ) (over : Result (Unit {0}) TooManyRuns)
         (puts : Puts (λ v. unary_of k is_last (member (slot other₁ (m - 1)) v) (member (slot other₁ m) v) (member (slot own₁ (m - 1)) v)) own₁ own₂ m over) where
       one_step : (v : ℕ) → v < axis → unary_of k is_last (member (slot other₁ (m - 1)) v) (member (slot other₁ m) v) (member (slot own₁ (m - 1)) v) ≡ val r v (node k p p) i
       one_step v a =
           step_one k p v _ _ _ l h fit.index ((stand_root r i child other₁ own₁ done.stand).members v a)
           (λ z g. let s = child_next z g in (s.0.members v a, s.1.members v a))
 
-      one_flag : over ≡ large_at r (node k p p) i
+      one_flag : is_err over ≡ large_at r (node k p p) i
       one_flag = over_is (node k p p) _ one_step over puts.flag
 
       one_some : over_at r (node k p p) i ≡ (large_at r (node k p p) i || over_at r p i)
@@ -234,14 +237,14 @@ module _ (table : List ℕ) (rec : List ℕ) (i : ℕ) where
     pub second_valid : Valid (slot other₂ (n - 1))
     second_valid = (stand_root r i second other₂ own₂ done₂.stand).valid
 
-    module _ (own₃ : List ℕ) (over : Bool)
+    module _ (own₃ : List ℕ) (over : Result (Unit {0}) TooManyRuns)
         (puts : Puts (λ v. binary_of k is_last (member (slot other₂ (m - 1)) v) (member (slot other₂ (n - 1)) v) (member (slot other₂ n) v)) own₂ own₃ n over) where
       two_step : (v : ℕ) → v < axis → binary_of k is_last (member (slot other₂ (m - 1)) v) (member (slot other₂ (n - 1)) v) (member (slot other₂ n) v) ≡ val r v (node k p q) i
       two_step v a =
           step_two k p q v _ _ _ l h fit.index ((stand_root r i first other₂ own₂ first_still).members v a) ((stand_root r i second other₂ own₂ done₂.stand).members v a)
           (λ z g. (own_next z g).members v a)
 
-      two_flag : over ≡ large_at r (node k p q) i
+      two_flag : is_err over ≡ large_at r (node k p q) i
       two_flag = over_is (node k p q) _ two_step over puts.flag
 
       two_some : over_at r (node k p q) i ≡ (large_at r (node k p q) i || (over_at r p i || over_at r q i))

@@ -1,5 +1,8 @@
 -- One node is evaluated, for the row and the children as the code has read them.
-use Rattle.std.specs.Prelude.{ℕ, ◌+◌, ◌-◌, ◌/◌, ◌<◌, ◌≤◌, ◌≡◌, refl, Bool, true, false, ◌||◌, List, length, eqb}
+use Rattle.std.specs.Prelude.{ℕ, ◌+◌, ◌-◌, ◌/◌, ◌<◌, ◌≤◌, ◌≡◌, refl, true, false, ◌||◌, List, length, eqb}
+use Rattle.std.specs.Prelude.{Result}
+use Rattle.std.specs.Result.{is_err}
+use Rattle.runs.specs.declared.TooManyRuns.{TooManyRuns}
 use native.Mathlib.Omega.{arith}
 use Rattle.std.proofs.Math.Path.{sym, ap, subst}
 use Rattle.std.proofs.Common.{◌∙◌}
@@ -38,12 +41,12 @@ module _ (table : List ℕ) (rec : List ℕ) (i n : ℕ) (line : Row) (is-line :
         few_tops = ap (refused9 r) (leaf_text table n line is-line laid is h) ∙ fit.few_tops;
       }
 
-  pub line_leaf : (own other own' : List ℕ) (over : Bool) → line.kind < unary_from → Puts (λ v. val r v (leaf_of line) i) own own' n over → NodePromise table rec i n own other own' other over
+  pub line_leaf : (own other own' : List ℕ) (over : Result (Unit {0}) TooManyRuns) → line.kind < unary_from → Puts (λ v. val r v (leaf_of line) i) own own' n over → NodePromise table rec i n own other own' other over
   unfolding Stand
   line_leaf own other own' over h puts b m t (leaf l e) is fit =
       let x : n ≡ b = omega arith in
       let text = leaf_text table n line is-line (leaf l e) is h in
-      let some : over_at r t i ≡ over = ap (λ (u : Text). over_at r u i) (sym text) ∙ some_leaf (λ u. large_at r u i) line ∙ sym puts.flag in
+      let some : over_at r t i ≡ is_err over = ap (λ (u : Text). over_at r u i) (sym text) ∙ some_leaf (λ u. large_at r u i) line ∙ sym puts.flag in
       record {
         good = λ z. record {
           stand = subst (λ (j : ℕ). SlotHolds r i t j own') x (subst (λ (u : Text). SlotHolds r i u n own') text (puts.here z));
@@ -84,25 +87,25 @@ module _ (table : List ℕ) (rec : List ℕ) (i n : ℕ) (line : Row) (is-line :
     kind_fits (unary {b} {m} k u h child e) is = let x = laid_kind table n line is-line m k (m - 1) 0 is e in omega arith
     kind_fits (binary {b} {m} {n = j} k u h first second e) is = let x = laid_kind table n line is-line j k (m - 1) (j - 1) is e in omega arith
 
-    module _ (own other own₁ other₁ : List ℕ) (over : Bool) (o : NodePromise table rec i a other own other₁ own₁ over) where
-      pub first-over : (own₂ other₂ : List ℕ) → over ≡ true → NodePromise table rec i n own other own₂ other₂ true
-      first-over own₂ other₂ z b m t (leaf u e) is fit = let x = leaf_kind table n line is-line b is u in absurd (omega arith)
-      first-over own₂ other₂ z b m t (unary {m = j} {p} k u h child e) is fit =
+    module _ (own other own₁ other₁ : List ℕ) (over : Result (Unit {0}) TooManyRuns) (o : NodePromise table rec i a other own other₁ own₁ over) where
+      pub first-over : (own₂ other₂ : List ℕ) → is_err over ≡ true → (res : Result (Unit {0}) TooManyRuns) → is_err res ≡ true → NodePromise table rec i n own other own₂ other₂ res
+      first-over own₂ other₂ z res over₀ b m t (leaf u e) is fit = let x = leaf_kind table n line is-line b is u in absurd (omega arith)
+      first-over own₂ other₂ z res over₀ b m t (unary {m = j} {p} k u h child e) is fit =
           let w = laid_above child in
           let x = at_first j k (j - 1) 0 is e in
           record {
-            good = λ y. absurd (false≢true (sym y));
+            good = λ y. absurd (false≢true (sym y ∙ over₀));
             bad = λ y. some_one (λ s. large_at r s i) k 0 0 0 p p u h ∙ or_right (large_at r (node k p p) i) (over_at r p i) ((o b j p child (omega arith) (fit_child table rec i k u h child e fit)).bad z);
           }
-      first-over own₂ other₂ z b m t (binary {m = d} {n = j} {p} {q} k u h first second e) is fit =
+      first-over own₂ other₂ z res over₀ b m t (binary {m = d} {n = j} {p} {q} k u h first second e) is fit =
           let w = laid_above first in
           let x = at_first j k (d - 1) (j - 1) is e in
           record {
-            good = λ y. absurd (false≢true (sym y));
+            good = λ y. absurd (false≢true (sym y ∙ over₀));
             bad = λ y. some_two (λ s. large_at r s i) k 0 0 0 p q u h ∙ or_right (large_at r (node k p q) i) (over_at r p i || over_at r q i) (or_left (over_at r p i) (over_at r q i) ((o b d p first (omega arith) (fit_first table rec i k u h first second e fit)).bad z));
           }
 
-      module _ (z : over ≡ false) where
+      module _ (z : is_err over ≡ false) where
         -- ---- one child
 
         module _ (g : line.kind < binary_from) where
@@ -125,7 +128,7 @@ module _ (table : List ℕ) (rec : List ℕ) (i n : ℕ) (line : Row) (is-line :
           line-one_valid (binary {b} {m} {n = j} k u h first second e) is fit =
               let x = laid_kind table n line is-line j k (m - 1) (j - 1) is e in absurd (omega (arith, x, u, g))
 
-          pub line-one : (own₂ : List ℕ) (out : Bool)
+          pub line-one : (own₂ : List ℕ) (out : Result (Unit {0}) TooManyRuns)
               → Puts (λ v. unary_of line.kind (eqb (i + 1) (length rec / 16)) (member (slot other₁ a) v) (member (slot other₁ n) v) (member (slot own₁ a) v)) own₁ own₂ n out
               → NodePromise table rec i n own other own₂ other₁ out
           line-one own₂ out puts b m t (leaf u e) is fit = let x = leaf_kind table n line is-line b is u in absurd (omega arith)
@@ -164,23 +167,23 @@ module _ (table : List ℕ) (rec : List ℕ) (i n : ℕ) (line : Row) (is-line :
           second-falls (unary {b} {m} k u h child e) is = let x = laid_kind table n line is-line m k (m - 1) 0 is e in absurd (omega (arith, x, h, g))
           second-falls (binary {b} {m} {n = j} k u h first second e) is = let w = laid_above first in let v = laid_above second in let y = at_second j k (m - 1) (j - 1) is e in omega arith
 
-          module _ (own₂ other₂ : List ℕ) (over₂ : Bool) (o₂ : NodePromise table rec i c other₁ own₁ other₂ own₂ over₂) where
-            pub second-over : (own₃ other₃ : List ℕ) → over₂ ≡ true → NodePromise table rec i n own other own₃ other₃ true
-            second-over own₃ other₃ y b m t (leaf u e) is fit = let x = leaf_kind table n line is-line b is u in absurd (omega arith)
-            second-over own₃ other₃ y b m t (unary {m = j} k u h child e) is fit = let x = laid_kind table n line is-line j k (j - 1) 0 is e in absurd (omega (arith, x, h, g))
-            second-over own₃ other₃ y b m t (binary {m = d} {n = j} {p} {q} k u h first second e) is fit =
+          module _ (own₂ other₂ : List ℕ) (over₂ : Result (Unit {0}) TooManyRuns) (o₂ : NodePromise table rec i c other₁ own₁ other₂ own₂ over₂) where
+            pub second-over : (own₃ other₃ : List ℕ) → is_err over₂ ≡ true → (res : Result (Unit {0}) TooManyRuns) → is_err res ≡ true → NodePromise table rec i n own other own₃ other₃ res
+            second-over own₃ other₃ y res over₀ b m t (leaf u e) is fit = let x = leaf_kind table n line is-line b is u in absurd (omega arith)
+            second-over own₃ other₃ y res over₀ b m t (unary {m = j} k u h child e) is fit = let x = laid_kind table n line is-line j k (j - 1) 0 is e in absurd (omega (arith, x, h, g))
+            second-over own₃ other₃ y res over₀ b m t (binary {m = d} {n = j} {p} {q} k u h first second e) is fit =
                 let w = laid_above first in
                 let v = laid_above second in
                 let x = at_first j k (d - 1) (j - 1) is e in
                 let s = at_second j k (d - 1) (j - 1) is e in
                 let done = (o b d p first (omega arith) (fit_first table rec i k u h first second e fit)).good z in
                 record {
-                  good = λ f. absurd (false≢true (sym f));
+                  good = λ f. absurd (false≢true (sym f ∙ over₀));
                   bad = λ f. some_two (λ s. large_at r s i) k 0 0 0 p q u h
                       ∙ or_right (large_at r (node k p q) i) (over_at r p i || over_at r q i) (or_right (over_at r p i) (over_at r q i) ((o₂ d j q second (omega arith) (fit_second table rec i k u h first second e fit eo et done)).bad y));
                 }
 
-            module _ (z₂ : over₂ ≡ false) where
+            module _ (z₂ : is_err over₂ ≡ false) where
               abbrev Children : Type 0
               Children = Valid (slot other₂ a) × Valid (slot other₂ c) × (eqb (i + 1) (length rec / 16) ≡ false → AND < line.kind → Valid (slot other₂ n))
 
@@ -201,7 +204,7 @@ module _ (table : List ℕ) (rec : List ℕ) (i n : ℕ) (line : Row) (is-line :
                     (λ f d. subst (λ (f : ℕ). Valid (slot other₂ f)) y (two_valid table rec i k u h first second e fit done₁ done₂ f (omega (arith, same, d)))),
                   )
 
-              pub line-two : (own₃ : List ℕ) (out : Bool)
+              pub line-two : (own₃ : List ℕ) (out : Result (Unit {0}) TooManyRuns)
                   → Puts (λ v. binary_of line.kind (eqb (i + 1) (length rec / 16)) (member (slot other₂ a) v) (member (slot other₂ c) v) (member (slot other₂ n) v)) own₂ own₃ n out
                   → NodePromise table rec i n own other own₃ other₂ out
               line-two own₃ out puts b m t (leaf u e) is fit = let x = leaf_kind table n line is-line b is u in absurd (omega arith)

@@ -1,5 +1,7 @@
 -- Rows in another table: the same text, which can be evaluated there as well.
 use Rattle.std.specs.Prelude.{ℕ, ◌-◌, ◌*◌, ◌≤◌, ◌≡◌, Bool, List, length}
+use Rattle.std.specs.Prelude.{Result}
+use Rattle.runs.specs.declared.TooManyRuns.{TooManyRuns}
 use Rattle.std.proofs.Common.{arith, sym, ap, subst, ◌∙◌}
 use Rattle.grammar.specs.declared.Row.{Row}
 use Rattle.grammar.specs.Syntax.{Text}
@@ -38,5 +40,5 @@ module _ (table rows : List ℕ) (count : ℕ) (rec : List ℕ) (same : Same cou
       let some = laid_above asking.laid in
       subst (λ (r : Row). unary_from ≤ r.kind) (is ∙ sym (same.row-at (count - 1) (omega arith))) h
 
-  pub same_evaluates : (r : List Coded) (words : List ℕ) (over : Bool) → Evaluates r (text_of rows count) words over → Evaluates r (text_of table count) words over
+  pub same_evaluates : (r : List Coded) (words : List ℕ) (over : Result (Unit {0}) TooManyRuns) → Evaluates r (text_of rows count) words over → Evaluates r (text_of table count) words over
   same_evaluates r words over = subst (λ (p : Text). Evaluates r p words over) same_text

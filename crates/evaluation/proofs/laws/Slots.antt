@@ -1,5 +1,7 @@
 -- A slot after a set is put into it: by the elements of the table.
 use Rattle.std.specs.Prelude.{ℕ, ◌+◌, ◌-◌, ◌*◌, ◌≤◌, ◌<◌, min, ◌≡◌, Bool, List, ◌++◌, ltb, length, get_or, take, drop}
+use Rattle.std.specs.Prelude.{Result}
+use Rattle.runs.specs.declared.TooManyRuns.{TooManyRuns}
 use Rattle.std.proofs.Common.{arith, sym, ◌∙◌, subst, ⊎_elim, length-take, length-drop, length-append, ext_get_or, get_or-drop, get_or-take, get_or-append-add, length-take-le, drop_at}
 use Rattle.std.proofs.Math.Path.{ap}
 use Rattle.std.proofs.Math.ListN.{get_or-append}
@@ -65,7 +67,7 @@ module _ (before words : List ℕ) (m : ℕ) (sized : Sized before) (hm : m < mo
       (λ j h. ⊎_elim (λ l. below (slot_words * k + j) (omega arith)) (λ l. let t : m < k = omega arith in above (slot_words * k + j) (omega arith)) (less_or_not k m))
 
   -- what an operation made, in the place of slot m
-  pub made_in : (f : ℕ → Bool) (over : Bool) → Makes f words over → Puts f before after m over
+  pub made_in : (f : ℕ → Bool) (over : Result (Unit {0}) TooManyRuns) → Makes f words over → Puts f before after m over
   made_in f over w = record { flag = w.flag; here = λ o. subst (Holds f) (sym here) (w.holds o); elsewhere = λ o. elsewhere }
 
 -- from the first word of slot m to the first behind it
@@ -81,11 +83,11 @@ unfolding slot
 slot_is sets m w e = ap (λ (k : ℕ). take k (drop (slot_words * m) sets)) e
 
 -- the same members, said in another way
-pub puts_ext : (f g : ℕ → Bool) (before after : List ℕ) (m : ℕ) (over : Bool) → ((v : ℕ) → v < axis → f v ≡ g v) → Puts f before after m over → Puts g before after m over
+pub puts_ext : (f g : ℕ → Bool) (before after : List ℕ) (m : ℕ) (over : Result (Unit {0}) TooManyRuns) → ((v : ℕ) → v < axis → f v ≡ g v) → Puts f before after m over → Puts g before after m over
 puts_ext f g before after m over e p =
     record { flag = p.flag ∙ ap (ltb most_runs) (run_count_ext f g e); here = λ o. holds_ext f g (slot after m) e (p.here o); elsewhere = p.elsewhere }
 
 -- the same sets, named by equal words
-pub puts_lists : (F : List ℕ → List ℕ → List ℕ → ℕ → Bool) (before after : List ℕ) (m : ℕ) (over : Bool) {a a' b b' c c' : List ℕ}
+pub puts_lists : (F : List ℕ → List ℕ → List ℕ → ℕ → Bool) (before after : List ℕ) (m : ℕ) (over : Result (Unit {0}) TooManyRuns) {a a' b b' c c' : List ℕ}
     → a ≡ a' → b ≡ b' → c ≡ c' → Puts (F a b c) before after m over → Puts (F a' b' c') before after m over
 puts_lists F before after m over e f g p = subst (λ (h : ℕ → Bool). Puts h before after m over) (λ i. F (e i) (f i) (g i)) p

@@ -1,5 +1,8 @@
 -- The walk from the last record to the first.
 use Rattle.std.specs.Prelude.{ℕ, suc, ◌+◌, ◌-◌, ◌<◌, ◌≤◌, ◌≡◌, Bool, true, false, List, length}
+use Rattle.std.specs.Prelude.{Result, Ok}
+use Rattle.std.specs.Result.{is_err}
+use Rattle.runs.specs.declared.TooManyRuns.{TooManyRuns}
 use Rattle.std.proofs.Common.{arith, eq-or-lt_of_le, sym, subst, ◌∙◌, ⊎_elim}
 use Rattle.std.proofs.Math.Path.{ap}
 use Rattle.std.proofs.lemmas.Bool.{false≢true}
@@ -82,21 +85,21 @@ module _ (table : List ℕ) (count : ℕ) (rec : List ℕ) (asking : Asking tabl
   root_of : (i : ℕ) (own other : List ℕ) → Sets table count rec i own other → Root i own
   root_of i own other s = stand_root r i asking.laid own other (s asking.laid)
 
-  handed : (sets words : List ℕ) → Root 0 sets → Holds (member (slot sets (count - 1))) words → refused8 r text ≡ false → Evaluates r text words false
+  handed : (sets words : List ℕ) → Root 0 sets → Holds (member (slot sets (count - 1))) words → refused8 r text ≡ false → Evaluates r text words (Ok (tt {0}))
   handed sets words h w e =
       record { flag = sym e; holds = λ z. holds_ext (member (slot sets (count - 1))) (λ v. val r v text 0) words h.members w }
 
   -- what an evaluation of the root leaves
   module _ (i : ℕ) (own other own' other' : List ℕ) (h : i < length r) (so : Sized own) (st : Sized other)
-      (ready : i < last_coded r → temporal text ≡ true → Sets table count rec (suc i) other own) (over : Bool)
+      (ready : i < last_coded r → temporal text ≡ true → Sets table count rec (suc i) other own) (over : Result (Unit {0}) TooManyRuns)
       (o : NodePromise table rec i (count - 1) own other own' other' over) where
-    sets-of : over ≡ false → Sets table count rec i own' other'
+    sets-of : is_err over ≡ false → Sets table count rec i own' other'
     sets-of z laid = ((o 0 count text laid root_is (fit_at i own other laid h so st (λ j t. ready j t laid))).good z).stand
 
-    small_of : over ≡ false → over_at r text i ≡ false
+    small_of : is_err over ≡ false → over_at r text i ≡ false
     small_of z = ((o 0 count text asking.laid root_is (fit_at i own other asking.laid h so st (λ j t. ready j t asking.laid))).good z).small
 
-    large_of : over ≡ true → over_at r text i ≡ true
+    large_of : is_err over ≡ true → over_at r text i ≡ true
     large_of z = (o 0 count text asking.laid root_is (fit_at i own other asking.laid h so st (λ j t. ready j t asking.laid))).bad z
 
   -- ---- a text without F, G, X, U and W: the first record alone
@@ -112,21 +115,21 @@ module _ (table : List ℕ) (count : ℕ) (rec : List ℕ) (asking : Asking tabl
     pub flat_node : (own other : List ℕ) → Sized own → Sized other → Evaluable table rec 0 (count - 1) own other
     flat_node own other so st = node_at 0 own other asking.record_there so st (λ j t. none_ahead t)
 
-    module _ (own other own' other' : List ℕ) (so : Sized own) (st : Sized other) (over : Bool) (o : NodePromise table rec 0 (count - 1) own other own' other' over) where
-      pub flat_over : (out : List ℕ) → over ≡ true → Evaluates r text out true
-      flat_over out e =
+    module _ (own other own' other' : List ℕ) (so : Sized own) (st : Sized other) (over : Result (Unit {0}) TooManyRuns) (o : NodePromise table rec 0 (count - 1) own other own' other' over) where
+      pub flat_over : (out : List ℕ) → is_err over ≡ true → (res : Result (Unit {0}) TooManyRuns) → is_err res ≡ true → Evaluates r text out res
+      flat_over out e res q =
           record {
-            flag = sym (flat_eight ∙ large_of 0 own other own' other' asking.record_there so st (λ j t. none_ahead t) over o e);
-            holds = λ z. absurd (false≢true (sym z));
+            flag = q ∙ sym (flat_eight ∙ large_of 0 own other own' other' asking.record_there so st (λ j t. none_ahead t) over o e);
+            holds = λ z. absurd (false≢true (sym z ∙ q));
           }
 
-      flat_root : over ≡ false → Root 0 own'
+      flat_root : is_err over ≡ false → Root 0 own'
       flat_root e = root_of 0 own' other' (sets-of 0 own other own' other' asking.record_there so st (λ j t. none_ahead t) over o e)
 
-      pub flat_valid : over ≡ false → Valid (slot own' (count - 1))
+      pub flat_valid : is_err over ≡ false → Valid (slot own' (count - 1))
       flat_valid e = (flat_root e).valid
 
-      pub flat_done : (out : List ℕ) → over ≡ false → Holds (member (slot own' (count - 1))) out → Evaluates r text out false
+      pub flat_done : (out : List ℕ) → is_err over ≡ false → Holds (member (slot own' (count - 1))) out → Evaluates r text out (Ok (tt {0}))
       flat_done out e w =
           handed own' out (flat_root e) w (flat_eight ∙ small_of 0 own other own' other' asking.record_there so st (λ j t. none_ahead t) over o e)
 
@@ -167,8 +170,8 @@ module _ (table : List ℕ) (count : ℕ) (rec : List ℕ) (asking : Asking tabl
     pub into_a : flip ≡ false → Evaluable table rec (i - 1) (count - 1) a b
     into_a e = node_at (i - 1) a b inside w.size_a w.size_b (ready_b e)
 
-    module _ (a' b' : List ℕ) (over : Bool) where
-      pub walked_b : flip ≡ true → NodePromise table rec (i - 1) (count - 1) b a b' a' over → length a' ≡ length a → length b' ≡ length b → over ≡ false
+    module _ (a' b' : List ℕ) (over : Result (Unit {0}) TooManyRuns) where
+      pub walked_b : flip ≡ true → NodePromise table rec (i - 1) (count - 1) b a b' a' over → length a' ≡ length a → length b' ≡ length b → is_err over ≡ false
           → Walked table count rec (i - 1) a' b' false
       walked_b e o ea eb z =
           record {
@@ -180,7 +183,7 @@ module _ (table : List ℕ) (count : ℕ) (rec : List ℕ) (asking : Asking tabl
             small = small_more i p (small_of (i - 1) b a b' a' inside w.size_b w.size_a (ready_a e) over o z) w.small;
           }
 
-      pub walked_a : flip ≡ false → NodePromise table rec (i - 1) (count - 1) a b a' b' over → length a' ≡ length a → length b' ≡ length b → over ≡ false
+      pub walked_a : flip ≡ false → NodePromise table rec (i - 1) (count - 1) a b a' b' over → length a' ≡ length a → length b' ≡ length b → is_err over ≡ false
           → Walked table count rec (i - 1) a' b' true
       walked_a e o ea eb z =
           record {
@@ -193,14 +196,14 @@ module _ (table : List ℕ) (count : ℕ) (rec : List ℕ) (asking : Asking tabl
           }
 
       module _ (ahead : temporal text ≡ true) (out : List ℕ) where
-        large-eight : over_at r text (i - 1) ≡ true → Evaluates r text out true
-        large-eight e =
-            record { flag = sym (eight_ahead ahead ∙ below_at (over_at r text) (length r) (i - 1) inside e); holds = λ z. absurd (false≢true (sym z)) }
+        large-eight : over_at r text (i - 1) ≡ true → (res : Result (Unit {0}) TooManyRuns) → is_err res ≡ true → Evaluates r text out res
+        large-eight e res q =
+            record { flag = q ∙ sym (eight_ahead ahead ∙ below_at (over_at r text) (length r) (i - 1) inside e); holds = λ z. absurd (false≢true (sym z ∙ q)) }
 
-        pub over_b : flip ≡ true → NodePromise table rec (i - 1) (count - 1) b a b' a' over → over ≡ true → Evaluates r text out true
+        pub over_b : flip ≡ true → NodePromise table rec (i - 1) (count - 1) b a b' a' over → is_err over ≡ true → (res : Result (Unit {0}) TooManyRuns) → is_err res ≡ true → Evaluates r text out res
         over_b e o z = large-eight (large_of (i - 1) b a b' a' inside w.size_b w.size_a (ready_a e) over o z)
 
-        pub over_a : flip ≡ false → NodePromise table rec (i - 1) (count - 1) a b a' b' over → over ≡ true → Evaluates r text out true
+        pub over_a : flip ≡ false → NodePromise table rec (i - 1) (count - 1) a b a' b' over → is_err over ≡ true → (res : Result (Unit {0}) TooManyRuns) → is_err res ≡ true → Evaluates r text out res
         over_a e o z = large-eight (large_of (i - 1) a b a' b' inside w.size_a w.size_b (ready_b e) over o z)
 
   -- the walk is over
@@ -221,8 +224,8 @@ module _ (table : List ℕ) (count : ℕ) (rec : List ℕ) (asking : Asking tabl
     valid_b e = (root_b e).valid
 
     module _ (ahead : temporal text ≡ true) (out : List ℕ) where
-      pub done_a : flip ≡ true → Holds (member (slot a (count - 1))) out → Evaluates r text out false
+      pub done_a : flip ≡ true → Holds (member (slot a (count - 1))) out → Evaluates r text out (Ok (tt {0}))
       done_a e h = handed a out (root_a e) h (none_over ahead)
 
-      pub done_b : flip ≡ false → Holds (member (slot b (count - 1))) out → Evaluates r text out false
+      pub done_b : flip ≡ false → Holds (member (slot b (count - 1))) out → Evaluates r text out (Ok (tt {0}))
       done_b e h = handed b out (root_b e) h (none_over ahead)

@@ -1,14 +1,11 @@
 -- Record by record from the last to the first, the two tables by turns.
-use Prim.Native.Nat.{ℕ, ◌*◌}
+use Prim.Native.Nat.{ℕ}
 use mathlib.Core.Path.{◌≡◌, refl, sym, subst, ◌∙◌}
 use native.Mathlib.Omega.{arith}
-use lib.ListN.{length}
-use Rattle.runs.specs.Runs.{most_runs}
 use Rattle.runs.specs.Set.{Valid}
 use Rattle.parser.proofs.laws.Rows.{laid_above}
 use Rattle.leaves.proofs.laws.Coding.{length-coded}
 use Rattle.evaluation.proofs.laws.Walk.{Walked, walk_start, into_a, into_b, walked_a, walked_b, over_a, over_b, valid_a, valid_b, done_a, done_b, holds_same}
-use borrow.Author.Rules.{rules}
 use Rattle.evaluation.proofs.walk.Goals as goal
 
 pub overflow_sub-root : goal.overflow_sub-root
@@ -23,25 +20,25 @@ pub eval-requires : goal.eval-requires
 eval-requires c =
     (into_b c.args.table.now c.args.count c.args.rec.now c.requires.0 c.loop-i.i c.loop-i.a c.loop-i.b c.loop-i.flip c.loop-i.invariant.0 c.loop-i-test.true c.if-flip.true, c.loop-i.invariant.1, c.requires.3)
 
-pub returns-then-eval : goal.returns-then-eval
-returns-then-eval c =
-    over_b c.args.table.now c.args.count c.args.rec.now c.requires.0 c.loop-i.i c.loop-i.a c.loop-i.b c.loop-i.flip c.loop-i.invariant.0 c.loop-i-test.true _ _ _ c.requires.1 _ c.if-flip.true c.eval.ensures.0 c.if-eval.true
+pub returns-in_err-eval : goal.returns-in_err-eval
+returns-in_err-eval c =
+    over_b c.args.table.now c.args.count c.args.rec.now c.requires.0 c.loop-i.i c.loop-i.a c.loop-i.b c.loop-i.flip c.loop-i.invariant.0 c.loop-i-test.true _ _ _ c.requires.1 _ c.if-flip.true c.in_err-eval.ensures.0 refl _ c.from_residual.ensures.0
 
 pub loop-i-preserved-then-flip : goal.loop-i-preserved-then-flip
 loop-i-preserved-then-flip c =
-    (walked_b c.args.table.now c.args.count c.args.rec.now c.requires.0 c.loop-i.i c.loop-i.a c.loop-i.b c.loop-i.flip c.loop-i.invariant.0 c.loop-i-test.true _ _ _ c.if-flip.true c.eval.ensures.0 (c.eval.ensures.2 ∙ sym c.loop-i.invariant.0.size_a) (c.eval.ensures.1 ∙ sym c.loop-i.invariant.0.size_b) c.if-eval.false, c.eval.ensures.3)
+    (walked_b c.args.table.now c.args.count c.args.rec.now c.requires.0 c.loop-i.i c.loop-i.a c.loop-i.b c.loop-i.flip c.loop-i.invariant.0 c.loop-i-test.true _ _ _ c.if-flip.true c.in_ok-eval.ensures.0 (c.in_ok-eval.ensures.2 ∙ sym c.loop-i.invariant.0.size_a) (c.in_ok-eval.ensures.1 ∙ sym c.loop-i.invariant.0.size_b) refl, c.in_ok-eval.ensures.3)
 
 pub eval-requires-else-flip : goal.eval-requires-else-flip
 eval-requires-else-flip c =
     (into_a c.args.table.now c.args.count c.args.rec.now c.requires.0 c.loop-i.i c.loop-i.a c.loop-i.b c.loop-i.flip c.loop-i.invariant.0 c.loop-i-test.true c.if-flip.false, c.loop-i.invariant.1, c.requires.3)
 
-pub returns-then-eval-2 : goal.returns-then-eval-2
-returns-then-eval-2 c =
-    over_a c.args.table.now c.args.count c.args.rec.now c.requires.0 c.loop-i.i c.loop-i.a c.loop-i.b c.loop-i.flip c.loop-i.invariant.0 c.loop-i-test.true _ _ _ c.requires.1 _ c.if-flip.false c.eval-else-flip.ensures.0 c.if-eval-2.true
+pub returns-in_err-eval-2 : goal.returns-in_err-eval-2
+returns-in_err-eval-2 c =
+    over_a c.args.table.now c.args.count c.args.rec.now c.requires.0 c.loop-i.i c.loop-i.a c.loop-i.b c.loop-i.flip c.loop-i.invariant.0 c.loop-i-test.true _ _ _ c.requires.1 _ c.if-flip.false c.in_err-eval-2.ensures.0 refl _ c.from_residual-in_err-eval-2.ensures.0
 
 pub loop-i-preserved : goal.loop-i-preserved
 loop-i-preserved c =
-    (walked_a c.args.table.now c.args.count c.args.rec.now c.requires.0 c.loop-i.i c.loop-i.a c.loop-i.b c.loop-i.flip c.loop-i.invariant.0 c.loop-i-test.true _ _ _ c.if-flip.false c.eval-else-flip.ensures.0 (c.eval-else-flip.ensures.1 ∙ sym c.loop-i.invariant.0.size_a) (c.eval-else-flip.ensures.2 ∙ sym c.loop-i.invariant.0.size_b) c.if-eval-2.false, c.eval-else-flip.ensures.3)
+    (walked_a c.args.table.now c.args.count c.args.rec.now c.requires.0 c.loop-i.i c.loop-i.a c.loop-i.b c.loop-i.flip c.loop-i.invariant.0 c.loop-i-test.true _ _ _ c.if-flip.false c.in_ok-eval-2.ensures.0 (c.in_ok-eval-2.ensures.1 ∙ sym c.loop-i.invariant.0.size_a) (c.in_ok-eval-2.ensures.2 ∙ sym c.loop-i.invariant.0.size_b) refl, c.in_ok-eval-2.ensures.3)
 
 pub set_in-requires : goal.set_in-requires
 set_in-requires c =

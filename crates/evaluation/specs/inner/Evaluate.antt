@@ -1,6 +1,8 @@
 -- What an evaluation asks and leaves: the sets of a node, and of the nodes under it, at one record. Two tables have a slot to each node. A node's set lies in one of
 -- them, its children's sets in the other; its own set at the next record lies in the other too, for there the two tables have changed places.
-use Rattle.std.specs.Prelude.{ℕ, suc, ◌+◌, ◌*◌, ◌<◌, ◌≤◌, ◌≡◌, Bool, true, false, List, length}
+use Rattle.std.specs.Prelude.{ℕ, suc, ◌+◌, ◌*◌, ◌<◌, ◌≤◌, ◌≡◌, true, false, List, length, Result}
+use Rattle.std.specs.Result.{is_err}
+use Rattle.runs.specs.declared.TooManyRuns.{TooManyRuns}
 use Rattle.recording.specs.Recording.{Accepted}
 use Rattle.runs.specs.Set.{Holds}
 use Rattle.grammar.specs.Syntax.{Text}
@@ -47,18 +49,18 @@ pub record Evaluable (table rec : List ℕ) (i n : ℕ) (own other : List ℕ) :
 abbrev pub HasChild : List ℕ → ℕ → Type 0
 HasChild table n = unary_from ≤ (row_at table n).kind
 
--- what is left where nothing is over: the sets of the text; every slot of another node, and the root's in `other`, is as it was
+-- what is left where nothing has too many runs: the sets of the text; every slot of another node, and the root's in `other`, is as it was
 pub record Evaluated {table : List ℕ} {b m : ℕ} {t : Text} (r : List Coded) (i : ℕ) (laid : Laid table b m t) (own other own' other' : List ℕ) : Type 0 where
   pub stand : Stand r i laid own' other'
   pub small : over_at r t i ≡ false
   pub own_kept : (k : ℕ) → (b ≤ k → m ≤ k) → slot own' k ≡ slot own k
   pub other-kept : (k : ℕ) → (b ≤ k → m ≤ k + 1) → slot other' k ≡ slot other k
 
-pub record NodeOutcome {table : List ℕ} {b m : ℕ} {t : Text} (r : List Coded) (i : ℕ) (laid : Laid table b m t) (own other own' other' : List ℕ) (over : Bool) : Type 0 where
-  pub good : over ≡ false → Evaluated r i laid own other own' other'
-  pub bad : over ≡ true → over_at r t i ≡ true
+pub record NodeOutcome {table : List ℕ} {b m : ℕ} {t : Text} (r : List Coded) (i : ℕ) (laid : Laid table b m t) (own other own' other' : List ℕ) (over : Result (Unit {0}) TooManyRuns) : Type 0 where
+  pub good : is_err over ≡ false → Evaluated r i laid own other own' other'
+  pub bad : is_err over ≡ true → over_at r t i ≡ true
 
 -- WHAT THE EVALUATION OF NODE n PROMISES
-abbrev pub NodePromise : List ℕ → List ℕ → ℕ → ℕ → List ℕ → List ℕ → List ℕ → List ℕ → Bool → Type 0
+abbrev pub NodePromise : List ℕ → List ℕ → ℕ → ℕ → List ℕ → List ℕ → List ℕ → List ℕ → Result (Unit {0}) TooManyRuns → Type 0
 NodePromise table rec i n own other own' other' over =
     (b m : ℕ) (t : Text) (laid : Laid table b m t) → m ≡ n + 1 → Fit rec i laid own other → NodeOutcome (coded rec) i laid own other own' other' over

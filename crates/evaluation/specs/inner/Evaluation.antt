@@ -1,5 +1,7 @@
 -- What the evaluation of a text asks, and what it promises: the set of the text at the first record, or refusal 8.
-use Rattle.std.specs.Prelude.{ℕ, ◌-◌, ◌*◌, ◌≤◌, ◌<◌, ◌≡◌, Bool, false, List, length}
+use Rattle.std.specs.Prelude.{ℕ, ◌-◌, ◌*◌, ◌≤◌, ◌<◌, ◌≡◌, false, List, length, Result}
+use Rattle.std.specs.Result.{is_err}
+use Rattle.runs.specs.declared.TooManyRuns.{TooManyRuns}
 use Rattle.recording.specs.Recording.{Accepted}
 use Rattle.runs.specs.Set.{Holds}
 use Rattle.grammar.specs.Syntax.{Text}
@@ -22,7 +24,7 @@ pub record Asking (table : List ℕ) (count : ℕ) (rec : List ℕ) : Type 0 whe
   pub record_there : 0 < length (coded rec)
   pub few_tops : refused9 (coded rec) (text_of table count) ≡ false
 
--- THE SET OF p AT THE FIRST RECORD: over if and only if 8 refuses the text; else the words hold the set
-pub record Evaluates (r : List Coded) (p : Text) (words : List ℕ) (over : Bool) : Type 0 where
-  pub flag : over ≡ refused8 r p
-  pub holds : over ≡ false → Holds (λ v. val r v p 0) words
+-- THE SET OF p AT THE FIRST RECORD: an error if and only if 8 refuses the text; else the words hold the set
+pub record Evaluates (r : List Coded) (p : Text) (words : List ℕ) (over : Result (Unit {0}) TooManyRuns) : Type 0 where
+  pub flag : is_err over ≡ refused8 r p
+  pub holds : is_err over ≡ false → Holds (λ v. val r v p 0) words

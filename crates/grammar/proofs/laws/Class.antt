@@ -184,7 +184,7 @@ clean_reads (a_listed q) = clean-listed q
 -- what stands in a word without a foreign byte is not foreign
 clean-among : (s : List ℕ) (b : ℕ) → clean s ≡ true → among b s ≡ true → known (class_of b) ≡ true
 unfolding clean
-clean-among [] b e h = let z : ◌≡◌ {A = ℕ} 0 1 = cc in absurd (omega arith)
+clean-among [] b e h = cc
 clean-among (x ∷ s) b e h = go (eqb x b) refl h (clean-among s b (and_right (known (class_of x)) (clean s) e))
   where
     go : (t : Bool) → eqb x b ≡ t → (t || among b s) ≡ true → (among b s ≡ true → known (class_of b) ≡ true) → known (class_of b) ≡ true
@@ -196,5 +196,4 @@ pub foreign_unread : (s : List ℕ) (t : Text) (b : ℕ) → among b s ≡ true 
 foreign_unread s t b h f r =
     let e : known (class_of b) ≡ true = clean-among s b (clean_reads r.0) h in
     let g : false ≡ true = sym (ap known f) ∙ e in
-    let z : ◌≡◌ {A = ℕ} 0 1 = cc in
-    omega arith
+    cc

@@ -1,7 +1,7 @@
 -- The leaf or the opening that computing finds at a position is the one that the rules have there.
 use Rattle.std.proofs.Math.Path.{◌≡◌, refl, sym, subst}
 use Rattle.std.proofs.Common.{ap, ◌∙◌}
-use Rattle.std.specs.Prelude.{Bool, ◌&&◌, List, [], ◌∷◌, ◌++◌, ltb}
+use Rattle.std.specs.Prelude.{Bool, ◌&&◌, Option, Some, None, List, [], ◌∷◌, ◌++◌, ltb}
 use Rattle.std.proofs.Math.Bool.{true, false, cond}
 use Prim.Native.Nat.{ℕ, ◌+◌, ◌≤◌, ◌<◌}
 use native.Mathlib.Omega.{arith}
@@ -12,16 +12,15 @@ use Rattle.number.proofs.laws.Boolean.{none_left}
 use Rattle.recording.specs.Reading.{Curve, A, B, curve_of}
 use Rattle.grammar.specs.declared.Row.{Row}
 use Rattle.grammar.specs.declared.Found.{Found}
-use Rattle.grammar.specs.declared.Found.TheVariants.{At, Missing}
 use Rattle.grammar.specs.declared.Leaf.{Leaf}
-use Rattle.grammar.specs.declared.Leaf.TheVariants.{Node, Open, Nothing}
+use Rattle.grammar.specs.declared.Leaf.TheVariants.{Node, Open}
 use Rattle.grammar.specs.Bytes.{bytes}
 use Rattle.grammar.specs.Classes.{is_digit, is_letter}
 use Rattle.grammar.specs.Syntax.{Field, of, T, Relation, ge, le, gt, lt, eq, Operand, v, number, Atom, compare, A-to-B, fall, rise, Listed, high, low, lowafter, capafter, peaks, dips, ampl, gaps, steps, Text, atom, listed}
 use Rattle.grammar.specs.Grammar.{Numeral, curve_word, field_word, relation_word, OperandWord, the_v, a_number, AtomWord, compared, curves as A-with-B, falling, rising, pigment_is, ListedWord, a_high, a_low, a_lowafter, a_capafter, a_peaks, a_dips, a_cross, a_crossup, a_dose, an_ampl, a_gaps, a_steps, a_lag, Level, alternation, primary, Reads, an_F, a_G, an_X, a_U, a_W, an_atom, a_listed}
 use Rattle.grammar.specs.inner.Kinds.{COMPARE-V, COMPARE, A-TO-B, FALL, RISE, PIGMENT, HIGH, LOW, LOWAFTER, CAPAFTER, PEAKS, DIPS, CROSS, CROSSUP, DOSE, AMPL, GAPS, STEPS, LAG, NEXT, FINALLY, GLOBALLY, UNTIL, WEAK-UNTIL, BRACKET}
 use Rattle.grammar.specs.inner.Table.{row, field_of, relation_of, unary_from, binary_from, kinds}
-use Rattle.grammar.specs.inner.Lexer.{byte, first_of, curves, relations, fields, level_names, top_names, difference_names, pigment_names, openings, heads, number_at, pigment_at, when_found, closed_by, operand_at, comparison_at, timed_at, is_timed, arguments_at, takes_pigment, pigment_leaf_at, is_bare, named_at, headed_at, leaf_at}
+use Rattle.grammar.specs.inner.Lexer.{byte, found_upto, first_of, curves, relations, fields, level_names, top_names, difference_names, pigment_names, openings, heads, number_at, pigment_at, when_found, closed_by, operand_at, comparison_at, timed_at, is_timed, arguments_at, takes_pigment, pigment_leaf_at, is_bare, named_at, headed_at, leaf_at}
 use Rattle.grammar.specs.inner.Parse.{row_text, node}
 use Rattle.grammar.proofs.laws.Word.{Stands, Spelt, Each, each_of_both, no_byte, equals_sign, letter_or_digit, tellable, before, behind, together, one_byte, found, found_is}
 use Rattle.grammar.proofs.laws.Number.{number_sound, number_complete, numeral_first, PigmentWord, labelled, pigment_sound, pigment_complete}
@@ -108,40 +107,37 @@ Curving n w = curve_word (curve_of n) ≡ w
 curves_mean : Each Curving curves
 curves_mean = (refl, refl, (refl, refl, tt))
 
-absurd_leaf : {X : Type 0} (r : Row) (j : ℕ) → Nothing ≡ Node r j → X
-absurd_leaf r j e = let z : ◌≡◌ {A = ℕ} 0 1 = cc in absurd (omega arith)
-
 module _ (s : List ℕ) where
-  relation_run : (i n j : ℕ) → first_of relations s i ≡ At n j → Run s i j (relation_word (relation_of n))
+  relation_run : (i n j : ℕ) → first_of relations s i ≡ found_upto n j → Run s i j (relation_word (relation_of n))
   relation_run i n j e =
       let f = found_is s Relating relations i n j relations_mean e in
       record { here = rw f.holds f.here; upto = rw f.holds f.upto }
 
-  curve_run : (i n j : ℕ) → first_of curves s i ≡ At n j → Run s i j (curve_word (curve_of n))
+  curve_run : (i n j : ℕ) → first_of curves s i ≡ found_upto n j → Run s i j (curve_word (curve_of n))
   curve_run i n j e =
       let f = found_is s Curving curves i n j curves_mean e in
       record { here = rw f.holds f.here; upto = rw f.holds f.upto }
 
   -- a run that is taken for another end and another tree
-  held : {i : ℕ} {w : List ℕ} (j e : ℕ) (r q : Row) → Node r j ≡ Node q e → Run s i j w → Reads primary w (row_text r) → Held s primary i e (row_text q)
+  held : {i : ℕ} {w : List ℕ} (j e : ℕ) (r q : Row) → Some (Node r j) ≡ Some (Node q e) → Run s i j w → Reads primary w (row_text r) → Held s primary i e (row_text q)
   held {i} {w} j e r q h a b =
       let x : r ≡ q = cc in
       let y : j ≡ e = cc in
       record { spelling = w; run = subst (λ (k : ℕ). Run s i k w) y a; reads = subst (λ (t : Row). Reads primary w (row_text t)) x b }
 
-  closed-held : {i : ℕ} {w : List ℕ} (j e : ℕ) (r q : Row) → closed_by s 41 r j ≡ Node q e → Run s i j w → Reads primary (w ++ bytes ")") (row_text r) → Held s primary i e (row_text q)
+  closed-held : {i : ℕ} {w : List ℕ} (j e : ℕ) (r q : Row) → closed_by s 41 r j ≡ Some (Node q e) → Run s i j w → Reads primary (w ++ bytes ")") (row_text r) → Held s primary i e (row_text q)
   closed-held {i} {w} j e r q h a b = go (eqb (byte s j) 41) refl h
     where
-      go : (t : Bool) → eqb (byte s j) 41 ≡ t → cond t (Node r (j + 1)) Nothing ≡ Node q e → Held s primary i e (row_text q)
+      go : (t : Bool) → eqb (byte s j) 41 ≡ t → cond t (Some (Node r (j + 1))) None ≡ Some (Node q e) → Held s primary i e (row_text q)
       go true p g = held (j + 1) e r q g (run_then s w (bytes ")") a (run-byte s j 41 (omega arith) (eqb-true (byte s j) 41 p))) b
-      go false p g = absurd_leaf q e g
+      go false p g = cc
 
-  operand-held : {i : ℕ} (f n j e : ℕ) (q : Row) → operand_at s f n j ≡ Node q e → Run s i j (field_word (field_of f) ++ relation_word (relation_of n)) → Held s primary i e (row_text q)
+  operand-held : {i : ℕ} (f n j e : ℕ) (q : Row) → operand_at s f n j ≡ Some (Node q e) → Run s i j (field_word (field_of f) ++ relation_word (relation_of n)) → Held s primary i e (row_text q)
   unfolding operand_at
   operand-held {i} f n j e q h a = go (eqb (byte s j) 118) (eqb (byte s j) 66) (eqb f 0) (number_at s j) refl refl refl refl h
     where
-      go : (x y z : Bool) (u : Found) → eqb (byte s j) 118 ≡ x → eqb (byte s j) 66 ≡ y → eqb f 0 ≡ z → number_at s j ≡ u
-          → cond x (Node (row COMPARE-V f n 0) (j + 1)) (cond (y && z) (Node (row A-TO-B 0 n 0) (j + 1)) (when_found u (λ m k. Node (row COMPARE f n m) k))) ≡ Node q e → Held s primary i e (row_text q)
+      go : (x y z : Bool) (u : Option Found) → eqb (byte s j) 118 ≡ x → eqb (byte s j) 66 ≡ y → eqb f 0 ≡ z → number_at s j ≡ u
+          → cond x (Some (Node (row COMPARE-V f n 0) (j + 1))) (cond (y && z) (Some (Node (row A-TO-B 0 n 0) (j + 1))) (when_found u (λ m k. Some (Node (row COMPARE f n m) k)))) ≡ Some (Node q e) → Held s primary i e (row_text q)
       go true y z u ex ey ez eu g =
           held (j + 1) e (row COMPARE-V f n 0) q g (run_then s (field_word (field_of f) ++ relation_word (relation_of n)) (bytes "v") a (run-byte s j 118 (omega arith) (eqb-true (byte s j) 118 ex)))
           (an_atom (compared (field_of f) (relation_of n) the_v))
@@ -149,81 +145,81 @@ module _ (s : List ℕ) where
           let b : Run s i j (bytes "A" ++ relation_word (relation_of n)) = subst (λ (m : ℕ). Run s i j (field_word (field_of m) ++ relation_word (relation_of n))) (eqb-true f 0 ez) a in
           held (j + 1) e (row A-TO-B 0 n 0) q g (run_then s (bytes "A" ++ relation_word (relation_of n)) (bytes "B") b (run-byte s j 66 (omega arith) (eqb-true (byte s j) 66 ey)))
           (an_atom (A-with-B (relation_of n)))
-      go false true false (At m k) ex ey ez eu g =
-          let c = number_sound s j m k eu in
-          held k e (row COMPARE f n m) q g (run_then s (field_word (field_of f) ++ relation_word (relation_of n)) c.spelling a (record { here = c.here; upto = c.upto }))
+      go false true false (Some u) ex ey ez eu g =
+          let c = number_sound s j u.code u.end eu in
+          held u.end e (row COMPARE f n u.code) q g (run_then s (field_word (field_of f) ++ relation_word (relation_of n)) c.spelling a (record { here = c.here; upto = c.upto }))
           (an_atom (compared (field_of f) (relation_of n) (a_number c.holds)))
-      go false false z (At m k) ex ey ez eu g =
-          let c = number_sound s j m k eu in
-          held k e (row COMPARE f n m) q g (run_then s (field_word (field_of f) ++ relation_word (relation_of n)) c.spelling a (record { here = c.here; upto = c.upto }))
+      go false false z (Some u) ex ey ez eu g =
+          let c = number_sound s j u.code u.end eu in
+          held u.end e (row COMPARE f n u.code) q g (run_then s (field_word (field_of f) ++ relation_word (relation_of n)) c.spelling a (record { here = c.here; upto = c.upto }))
           (an_atom (compared (field_of f) (relation_of n) (a_number c.holds)))
-      go false true false Missing ex ey ez eu g = absurd_leaf q e g
-      go false false z Missing ex ey ez eu g = absurd_leaf q e g
+      go false true false None ex ey ez eu g = cc
+      go false false z None ex ey ez eu g = cc
 
-  comparison_held : {i : ℕ} (f j e : ℕ) (q : Row) → comparison_at s f j ≡ Node q e → Run s i j (field_word (field_of f)) → Held s primary i e (row_text q)
+  comparison_held : {i : ℕ} (f j e : ℕ) (q : Row) → comparison_at s f j ≡ Some (Node q e) → Run s i j (field_word (field_of f)) → Held s primary i e (row_text q)
   unfolding comparison_at
   comparison_held {i} f j e q h a = go (first_of relations s j) refl h
     where
-      go : (u : Found) → first_of relations s j ≡ u → when_found u (operand_at s f) ≡ Node q e → Held s primary i e (row_text q)
-      go (At n k) eu g = operand-held f n k e q g (run_then s (field_word (field_of f)) (relation_word (relation_of n)) a (relation_run j n k eu))
-      go Missing eu g = absurd_leaf q e g
+      go : (u : Option Found) → first_of relations s j ≡ u → when_found u (operand_at s f) ≡ Some (Node q e) → Held s primary i e (row_text q)
+      go (Some u) eu g = operand-held f u.code u.end e q g (run_then s (field_word (field_of f)) (relation_word (relation_of u.code)) a (relation_run j u.code u.end eu))
+      go None eu g = cc
 
-  timed_held : {i : ℕ} {w : List ℕ} (k c j e : ℕ) (q : Row) → timed_at s k c j ≡ Node q e → Run s i j w
+  timed_held : {i : ℕ} {w : List ℕ} (k c j e : ℕ) (q : Row) → timed_at s k c j ≡ Some (Node q e) → Run s i j w
       → ((n : ℕ) (x : List ℕ) → Numeral x n → Reads primary (w ++ bytes "," ++ x ++ bytes ")") (row_text (row k c 0 n))) → Held s primary i e (row_text q)
   unfolding timed_at
   timed_held {i} {w} k c j e q h a b = go (eqb (byte s j) 44) (number_at s (j + 1)) refl refl h
     where
-      go : (x : Bool) (u : Found) → eqb (byte s j) 44 ≡ x → number_at s (j + 1) ≡ u
-          → cond x (when_found u (λ n m. closed_by s 41 (row k c 0 n) m)) Nothing ≡ Node q e → Held s primary i e (row_text q)
-      go true (At n m) ex eu g =
-          let d = number_sound s (j + 1) n m eu in
-          closed-held m e (row k c 0 n) q g
+      go : (x : Bool) (u : Option Found) → eqb (byte s j) 44 ≡ x → number_at s (j + 1) ≡ u
+          → cond x (when_found u (λ n m. closed_by s 41 (row k c 0 n) m)) None ≡ Some (Node q e) → Held s primary i e (row_text q)
+      go true (Some u) ex eu g =
+          let d = number_sound s (j + 1) u.code u.end eu in
+          closed-held u.end e (row k c 0 u.code) q g
           (run_then s (w ++ bytes ",") d.spelling (run_then s w (bytes ",") a (run-byte s j 44 (omega arith) (eqb-true (byte s j) 44 ex))) (record { here = d.here; upto = d.upto }))
-          (b n d.spelling d.holds)
-      go true Missing ex eu g = absurd_leaf q e g
-      go false u ex eu g = absurd_leaf q e g
+          (b u.code d.spelling d.holds)
+      go true None ex eu g = cc
+      go false u ex eu g = cc
 
-  curved_held : {i : ℕ} {w : List ℕ} (k j e : ℕ) (q : Row) → arguments_at s k j ≡ Node q e → Run s i j w → is_timed k ≡ false
+  curved_held : {i : ℕ} {w : List ℕ} (k j e : ℕ) (q : Row) → arguments_at s k j ≡ Some (Node q e) → Run s i j w → is_timed k ≡ false
       → ((c : ℕ) → Reads primary (w ++ curve_word (curve_of c) ++ bytes ")") (row_text (row k c 0 0))) → Held s primary i e (row_text q)
   unfolding arguments_at
   curved_held {i} {w} k j e q h a t b = go (first_of curves s j) refl (rw t at h)
     where
-      go : (u : Found) → first_of curves s j ≡ u → when_found u (λ c m. closed_by s 41 (row k c 0 0) m) ≡ Node q e → Held s primary i e (row_text q)
-      go (At c m) eu g = closed-held m e (row k c 0 0) q g (run_then s w (curve_word (curve_of c)) a (curve_run j c m eu)) (b c)
-      go Missing eu g = absurd_leaf q e g
+      go : (u : Option Found) → first_of curves s j ≡ u → when_found u (λ c m. closed_by s 41 (row k c 0 0) m) ≡ Some (Node q e) → Held s primary i e (row_text q)
+      go (Some u) eu g = closed-held u.end e (row k u.code 0 0) q g (run_then s w (curve_word (curve_of u.code)) a (curve_run j u.code u.end eu)) (b u.code)
+      go None eu g = cc
 
-  aftertime_held : {i : ℕ} {w : List ℕ} (k j e : ℕ) (q : Row) → arguments_at s k j ≡ Node q e → Run s i j w → is_timed k ≡ true
+  aftertime_held : {i : ℕ} {w : List ℕ} (k j e : ℕ) (q : Row) → arguments_at s k j ≡ Some (Node q e) → Run s i j w → is_timed k ≡ true
       → ((c n : ℕ) (x : List ℕ) → Numeral x n → Reads primary (w ++ curve_word (curve_of c) ++ bytes "," ++ x ++ bytes ")") (row_text (row k c 0 n))) → Held s primary i e (row_text q)
   unfolding arguments_at
   aftertime_held {i} {w} k j e q h a t b = go (first_of curves s j) refl (rw t at h)
     where
-      go : (u : Found) → first_of curves s j ≡ u → when_found u (λ c m. timed_at s k c m) ≡ Node q e → Held s primary i e (row_text q)
-      go (At c m) eu g = timed_held k c m e q g (run_then s w (curve_word (curve_of c)) a (curve_run j c m eu)) (b c)
-      go Missing eu g = absurd_leaf q e g
+      go : (u : Option Found) → first_of curves s j ≡ u → when_found u (λ c m. timed_at s k c m) ≡ Some (Node q e) → Held s primary i e (row_text q)
+      go (Some u) eu g = timed_held k u.code u.end e q g (run_then s w (curve_word (curve_of u.code)) a (curve_run j u.code u.end eu)) (b u.code)
+      go None eu g = cc
 
-  labelled_held : {i : ℕ} {w : List ℕ} (k j e : ℕ) (q : Row) → pigment_leaf_at s k j ≡ Node q e → Run s i j w → eqb k DOSE ≡ false
+  labelled_held : {i : ℕ} {w : List ℕ} (k j e : ℕ) (q : Row) → pigment_leaf_at s k j ≡ Some (Node q e) → Run s i j w → eqb k DOSE ≡ false
       → ((n : ℕ) (x : List ℕ) → PigmentWord x n → Reads primary (w ++ x) (row_text (row k 0 0 n))) → Held s primary i e (row_text q)
   unfolding pigment_leaf_at
   labelled_held {i} {w} k j e q h a t b = go (pigment_at s j) refl (rw t at h)
     where
-      go : (u : Found) → pigment_at s j ≡ u → when_found u (λ n m. Node (row k 0 0 n) m) ≡ Node q e → Held s primary i e (row_text q)
-      go (At n m) eu g =
-          let d = pigment_sound s j n m eu in
-          held m e (row k 0 0 n) q g (run_then s w d.spelling a (record { here = d.here; upto = d.upto })) (b n d.spelling d.holds)
-      go Missing eu g = absurd_leaf q e g
+      go : (u : Option Found) → pigment_at s j ≡ u → when_found u (λ n m. Some (Node (row k 0 0 n) m)) ≡ Some (Node q e) → Held s primary i e (row_text q)
+      go (Some u) eu g =
+          let d = pigment_sound s j u.code u.end eu in
+          held u.end e (row k 0 0 u.code) q g (run_then s w d.spelling a (record { here = d.here; upto = d.upto })) (b u.code d.spelling d.holds)
+      go None eu g = cc
 
-  labelled_closed_held : {i : ℕ} {w : List ℕ} (k j e : ℕ) (q : Row) → pigment_leaf_at s k j ≡ Node q e → Run s i j w → eqb k DOSE ≡ true
+  labelled_closed_held : {i : ℕ} {w : List ℕ} (k j e : ℕ) (q : Row) → pigment_leaf_at s k j ≡ Some (Node q e) → Run s i j w → eqb k DOSE ≡ true
       → ((n : ℕ) (x : List ℕ) → PigmentWord x n → Reads primary (w ++ x ++ bytes ")") (row_text (row k 0 0 n))) → Held s primary i e (row_text q)
   unfolding pigment_leaf_at
   labelled_closed_held {i} {w} k j e q h a t b = go (pigment_at s j) refl (rw t at h)
     where
-      go : (u : Found) → pigment_at s j ≡ u → when_found u (λ n m. closed_by s 41 (row k 0 0 n) m) ≡ Node q e → Held s primary i e (row_text q)
-      go (At n m) eu g =
-          let d = pigment_sound s j n m eu in
-          closed-held m e (row k 0 0 n) q g (run_then s w d.spelling a (record { here = d.here; upto = d.upto })) (b n d.spelling d.holds)
-      go Missing eu g = absurd_leaf q e g
+      go : (u : Option Found) → pigment_at s j ≡ u → when_found u (λ n m. closed_by s 41 (row k 0 0 n) m) ≡ Some (Node q e) → Held s primary i e (row_text q)
+      go (Some u) eu g =
+          let d = pigment_sound s j u.code u.end eu in
+          closed-held u.end e (row k 0 0 u.code) q g (run_then s w d.spelling a (record { here = d.here; upto = d.upto })) (b u.code d.spelling d.holds)
+      go None eu g = cc
 
-  headed_held : {i : ℕ} {w : List ℕ} (k j e : ℕ) (q : Row) → Head k w → Run s i j w → headed_at s k j ≡ Node q e → Held s primary i e (row_text q)
+  headed_held : {i : ℕ} {w : List ℕ} (k j e : ℕ) (q : Row) → Head k w → Run s i j w → headed_at s k j ≡ Some (Node q e) → Held s primary i e (row_text q)
   unfolding headed_at named_at
   headed_held k j e q (field l) a h = comparison_held k j e q (rw (lt-ltb k FALL l) at h) a
   headed_held k j e q (with_curve l m x p y b) a h = curved_held k j e q (rw (le-ltb k FALL l, lt-ltb k unary_from m, x, p) at h) a y b
@@ -233,40 +229,40 @@ module _ (s : List ℕ) where
   headed_held k j e q (bare l m x b) a h = held j e (row k 0 0 0) q (rw (le-ltb k FALL l, lt-ltb k unary_from m, x) at h) a b
   headed_held k j e q (opening l o) a h =
       let g = rw (le-ltb k FALL (omega arith), le-ltb k unary_from l) at h in
-      let z : ◌≡◌ {A = ℕ} 0 1 = cc in absurd (omega arith)
+      cc
 
-  pub leaf_held : (i j : ℕ) (q : Row) → leaf_at s i ≡ Node q j → Held s primary i j (row_text q)
+  pub leaf_held : (i j : ℕ) (q : Row) → leaf_at s i ≡ Some (Node q j) → Held s primary i j (row_text q)
   unfolding leaf_at
   leaf_held i j q h = go (first_of heads s i) refl h
     where
-      go : (u : Found) → first_of heads s i ≡ u → when_found u (headed_at s) ≡ Node q j → Held s primary i j (row_text q)
-      go (At k m) eu g = let f = found_is s Head heads i k m heads_mean eu in headed_held k m j q f.holds (record { here = f.here; upto = f.upto }) g
-      go Missing eu g = absurd_leaf q j g
+      go : (u : Option Found) → first_of heads s i ≡ u → when_found u (headed_at s) ≡ Some (Node q j) → Held s primary i j (row_text q)
+      go (Some u) eu g = let f = found_is s Head heads i u.code u.end heads_mean eu in headed_held u.code u.end j q f.holds (record { here = f.here; upto = f.upto }) g
+      go None eu g = cc
 
 -- only an opening is an opening
-abbrev Shut : Leaf → Type 0
-Shut (Node r j) = Unit {0}
-Shut (Open k j) = ⊥
-Shut Nothing = Unit {0}
+abbrev Shut : Option Leaf → Type 0
+Shut (Some (Node r j)) = Unit {0}
+Shut (Some (Open k j)) = ⊥
+Shut None = Unit {0}
 
-cond_shut : (b : Bool) (x y : Leaf) → Shut x → Shut y → Shut (cond b x y)
+cond_shut : (b : Bool) (x y : Option Leaf) → Shut x → Shut y → Shut (cond b x y)
 cond_shut true x y h g = h
 cond_shut false x y h g = g
 
-when_shut : (u : Found) (k : ℕ → ℕ → Leaf) → ((n j : ℕ) → Shut (k n j)) → Shut (when_found u k)
-when_shut (At n j) k h = h n j
-when_shut Missing k h = tt
+when_shut : (u : Option Found) (k : ℕ → ℕ → Option Leaf) → ((n j : ℕ) → Shut (k n j)) → Shut (when_found u k)
+when_shut (Some f) k h = h f.code f.end
+when_shut None k h = tt
 
 module _ (s : List ℕ) where
   closed_shut : (r : Row) (j : ℕ) → Shut (closed_by s 41 r j)
-  closed_shut r j = cond_shut (eqb (byte s j) 41) (Node r (j + 1)) Nothing tt tt
+  closed_shut r j = cond_shut (eqb (byte s j) 41) (Some (Node r (j + 1))) None tt tt
 
   operand_shut : (f n j : ℕ) → Shut (operand_at s f n j)
   unfolding operand_at
   operand_shut f n j =
-      cond_shut (eqb (byte s j) 118) (Node (row COMPARE-V f n 0) (j + 1)) _ tt
-      (cond_shut (eqb (byte s j) 66 && eqb f 0) (Node (row A-TO-B 0 n 0) (j + 1)) _ tt
-      (when_shut (number_at s j) (λ m k. Node (row COMPARE f n m) k) (λ m k. tt)))
+      cond_shut (eqb (byte s j) 118) (Some (Node (row COMPARE-V f n 0) (j + 1))) _ tt
+      (cond_shut (eqb (byte s j) 66 && eqb f 0) (Some (Node (row A-TO-B 0 n 0) (j + 1))) _ tt
+      (when_shut (number_at s j) (λ m k. Some (Node (row COMPARE f n m) k)) (λ m k. tt)))
 
   comparison_shut : (f j : ℕ) → Shut (comparison_at s f j)
   unfolding comparison_at
@@ -275,7 +271,7 @@ module _ (s : List ℕ) where
   timed_shut : (k c j : ℕ) → Shut (timed_at s k c j)
   unfolding timed_at
   timed_shut k c j =
-      cond_shut (eqb (byte s j) 44) _ Nothing
+      cond_shut (eqb (byte s j) 44) _ None
       (when_shut (number_at s (j + 1)) (λ n e. closed_by s 41 (row k c 0 n) e) (λ n e. closed_shut (row k c 0 n) e)) tt
 
   arguments_shut : (k j : ℕ) → Shut (arguments_at s k j)
@@ -287,16 +283,16 @@ module _ (s : List ℕ) where
   pigment_shut : (k j : ℕ) → Shut (pigment_leaf_at s k j)
   unfolding pigment_leaf_at
   pigment_shut k j =
-      when_shut (pigment_at s j) (λ n m. cond (eqb k DOSE) (closed_by s 41 (row k 0 0 n) m) (Node (row k 0 0 n) m))
-      (λ n m. cond_shut (eqb k DOSE) (closed_by s 41 (row k 0 0 n) m) (Node (row k 0 0 n) m) (closed_shut (row k 0 0 n) m) tt)
+      when_shut (pigment_at s j) (λ n m. cond (eqb k DOSE) (closed_by s 41 (row k 0 0 n) m) (Some (Node (row k 0 0 n) m)))
+      (λ n m. cond_shut (eqb k DOSE) (closed_by s 41 (row k 0 0 n) m) (Some (Node (row k 0 0 n) m)) (closed_shut (row k 0 0 n) m) tt)
 
   named_shut : (k j : ℕ) → Shut (named_at s k j)
   unfolding named_at
   named_shut k j =
-      cond_shut (is_bare k) (Node (row k 0 0 0) j) _ tt
+      cond_shut (is_bare k) (Some (Node (row k 0 0 0) j)) _ tt
       (cond_shut (takes_pigment k) (pigment_leaf_at s k j) (arguments_at s k j) (pigment_shut k j) (arguments_shut k j))
 
-  headed_open : {i : ℕ} {w : List ℕ} (k j n e : ℕ) → Head k w → Run s i j w → headed_at s k j ≡ Open n e → Spelt s Opening i n e
+  headed_open : {i : ℕ} {w : List ℕ} (k j n e : ℕ) → Head k w → Run s i j w → headed_at s k j ≡ Some (Open n e) → Spelt s Opening i n e
   unfolding headed_at
   headed_open k j n e (field l) a h = absurd (subst Shut (rw (lt-ltb k FALL l) at h) (comparison_shut k j))
   headed_open k j n e (with_curve l m x p y b) a h = absurd (subst Shut (rw (le-ltb k FALL l, lt-ltb k unary_from m) at h) (named_shut k j))
@@ -310,13 +306,13 @@ module _ (s : List ℕ) where
       let y : j ≡ e = cc in
       record { spelling = w; holds = subst (λ (m : ℕ). Opening m w) x o; here = a.here; upto = sym y ∙ a.upto }
 
-  pub open_held : (i n e : ℕ) → leaf_at s i ≡ Open n e → Spelt s Opening i n e
+  pub open_held : (i n e : ℕ) → leaf_at s i ≡ Some (Open n e) → Spelt s Opening i n e
   unfolding leaf_at
   open_held i n e h = go (first_of heads s i) refl h
     where
-      go : (u : Found) → first_of heads s i ≡ u → when_found u (headed_at s) ≡ Open n e → Spelt s Opening i n e
-      go (At k m) eu g = let f = found_is s Head heads i k m heads_mean eu in headed_open k m n e f.holds (record { here = f.here; upto = f.upto }) g
-      go Missing eu g = let z : ◌≡◌ {A = ℕ} 0 1 = cc in absurd (omega arith)
+      go : (u : Option Found) → first_of heads s i ≡ u → when_found u (headed_at s) ≡ Some (Open n e) → Spelt s Opening i n e
+      go (Some u) eu g = let f = found_is s Head heads i u.code u.end heads_mean eu in headed_open u.code u.end n e f.holds (record { here = f.here; upto = f.upto }) g
+      go None eu g = cc
 
 -- COMPLETENESS. The codes of what is written
 abbrev pub curve_code : Curve → ℕ
@@ -357,20 +353,20 @@ WordEnds s j = letter_or_digit (byte s j) ≡ false
 -- the leaf that is found at i, and where it stops
 pub record Lexed (s : List ℕ) (i j : ℕ) (t : Text) : Type 0 where
   pub made : Row
-  pub at_once : leaf_at s i ≡ Node made j
+  pub at_once : leaf_at s i ≡ Some (Node made j)
   pub stands_for : row_text made ≡ t
 
 module _ (s : List ℕ) where
-  curve_found : (i : ℕ) (c : Curve) → Stands s i (curve_word c) → first_of curves s i ≡ At (curve_code c) (i + 1)
+  curve_found : (i : ℕ) (c : Curve) → Stands s i (curve_word c) → first_of curves s i ≡ found_upto (curve_code c) (i + 1)
   curve_found i A st = found s no_byte curves 0 (bytes "A") i refl st refl
   curve_found i B st = found s no_byte curves 1 (bytes "B") i refl st refl
 
-  field_found : (i : ℕ) (f : Field) → Stands s i (field_word f) → first_of heads s i ≡ At (field_code f) (i + 1)
+  field_found : (i : ℕ) (f : Field) → Stands s i (field_word f) → first_of heads s i ≡ found_upto (field_code f) (i + 1)
   field_found i (of A) st = found s no_byte heads 0 (bytes "A") i refl st refl
   field_found i (of B) st = found s no_byte heads 1 (bytes "B") i refl st refl
   field_found i T st = found s no_byte heads 2 (bytes "T") i refl st refl
 
-  relation_found : (i : ℕ) (r : Relation) → Stands s i (relation_word r) → (byte s (i + length (relation_word r)) ≡ 61 → ⊥) → first_of relations s i ≡ At (relation_code r) (i + length (relation_word r))
+  relation_found : (i : ℕ) (r : Relation) → Stands s i (relation_word r) → (byte s (i + length (relation_word r)) ≡ 61 → ⊥) → first_of relations s i ≡ found_upto (relation_code r) (i + length (relation_word r))
   relation_found i r st n = found s equals_sign relations (relation_code r) (relation_word r) i (relation_tellable r) st (ne_eqb (byte s (i + length (relation_word r))) 61 n)
     where
       relation_tellable : (r : Relation) → tellable equals_sign relations (relation_code r) (relation_word r) ≡ true
@@ -410,7 +406,7 @@ module _ (s : List ℕ) where
   operand_row f r v = row COMPARE-V f r 0
   operand_row f r (number n) = row COMPARE f r n
 
-  operand-found : {w : List ℕ} {o : Operand} (f r j : ℕ) → OperandWord w o → Stands s j w → is_digit (byte s (j + length w)) ≡ false → operand_at s f r j ≡ Node (operand_row f r o) (j + length w)
+  operand-found : {w : List ℕ} {o : Operand} (f r j : ℕ) → OperandWord w o → Stands s j w → is_digit (byte s (j + length w)) ≡ false → operand_at s f r j ≡ Some (Node (operand_row f r o) (j + length w))
   unfolding operand_at
   operand-found f r j the_v st e = rw st.0
   operand-found f r j (a_number m) st e =
@@ -421,8 +417,8 @@ module _ (s : List ℕ) where
   operand_is f r v = let x = field-code f in let y = relation-code r in cc
   operand_is f r (number n) = let x = field-code f in let y = relation-code r in cc
 
-  lexed : {i : ℕ} {t : Text} (j k : ℕ) (q : Row) → leaf_at s i ≡ Node q j → row_text q ≡ t → j ≡ k → Lexed s i k t
-  lexed j k q e h l = record { made = q; at_once = e ∙ ap (λ (n : ℕ). Node q n) l; stands_for = h }
+  lexed : {i : ℕ} {t : Text} (j k : ℕ) (q : Row) → leaf_at s i ≡ Some (Node q j) → row_text q ≡ t → j ≡ k → Lexed s i k t
+  lexed j k q e h l = record { made = q; at_once = e ∙ ap (λ (n : ℕ). Some (Node q n)) l; stands_for = h }
 
   compared_lexed : {w : List ℕ} {o : Operand} (i : ℕ) (f : Field) (r : Relation) → OperandWord w o → Stands s i (field_word f ++ relation_word r ++ w)
       → is_digit (byte s (i + length (field_word f ++ relation_word r ++ w))) ≡ false → Lexed s i (i + length (field_word f ++ relation_word r ++ w)) (atom (compare f r o))
@@ -454,7 +450,7 @@ module _ (s : List ℕ) where
       (ap (λ (q : Relation). atom (A-to-B q)) (relation-code r)) (omega arith)
 
   -- a name is found by its place in the table
-  closed_at : (r : Row) (j : ℕ) → byte s j ≡ 41 → closed_by s 41 r j ≡ Node r (j + 1)
+  closed_at : (r : Row) (j : ℕ) → byte s j ≡ 41 → closed_by s 41 r j ≡ Some (Node r (j + 1))
   closed_at r j e = rw (eq-eqb (byte s j) 41 e)
 
   curved_lexed : {t : Text} (k : ℕ) (w : List ℕ) (c : Curve) (i : ℕ) → tellable no_byte heads k w ≡ true → FALL ≤ k → k < unary_from
@@ -554,62 +550,62 @@ module _ (s : List ℕ) where
   listed_lexed i a_lag st e = bare_lexed LAG (bytes "lag") i refl (lit< tt) (lit< tt) refl refl st e
 
   -- `crossup` IS NEVER READ AS `cross`, wherever it stands and whatever follows
-  pub crossup_whole : (i : ℕ) → Stands s i (bytes "crossup") → leaf_at s i ≡ Node (row CROSSUP 0 0 0) (i + 7)
+  pub crossup_whole : (i : ℕ) → Stands s i (bytes "crossup") → leaf_at s i ≡ Some (Node (row CROSSUP 0 0 0) (i + 7))
   unfolding leaf_at headed_at named_at
   crossup_whole i st = rw (found s no_byte heads CROSSUP (bytes "crossup") i refl st refl)
 
   -- the openings
-  opened_at : (k : ℕ) (w : List ℕ) (i : ℕ) → tellable no_byte heads k w ≡ true → unary_from ≤ k → Stands s i w → leaf_at s i ≡ Open k (i + length w)
+  opened_at : (k : ℕ) (w : List ℕ) (i : ℕ) → tellable no_byte heads k w ≡ true → unary_from ≤ k → Stands s i w → leaf_at s i ≡ Some (Open k (i + length w))
   unfolding leaf_at headed_at
   opened_at k w i find l st = rw (found s no_byte heads k w i find st refl, le-ltb k FALL (omega arith), le-ltb k unary_from l)
 
-  pub X-opens : (i : ℕ) → Stands s i (bytes "X(") → leaf_at s i ≡ Open NEXT (i + 2)
+  pub X-opens : (i : ℕ) → Stands s i (bytes "X(") → leaf_at s i ≡ Some (Open NEXT (i + 2))
   X-opens i st = opened_at NEXT (bytes "X(") i refl (lit< tt) st
 
-  pub F-opens : (i : ℕ) → Stands s i (bytes "F(") → leaf_at s i ≡ Open FINALLY (i + 2)
+  pub F-opens : (i : ℕ) → Stands s i (bytes "F(") → leaf_at s i ≡ Some (Open FINALLY (i + 2))
   F-opens i st = opened_at FINALLY (bytes "F(") i refl (lit< tt) st
 
-  pub G-opens : (i : ℕ) → Stands s i (bytes "G(") → leaf_at s i ≡ Open GLOBALLY (i + 2)
+  pub G-opens : (i : ℕ) → Stands s i (bytes "G(") → leaf_at s i ≡ Some (Open GLOBALLY (i + 2))
   G-opens i st = opened_at GLOBALLY (bytes "G(") i refl (lit< tt) st
 
-  pub U-opens : (i : ℕ) → Stands s i (bytes "U(") → leaf_at s i ≡ Open UNTIL (i + 2)
+  pub U-opens : (i : ℕ) → Stands s i (bytes "U(") → leaf_at s i ≡ Some (Open UNTIL (i + 2))
   U-opens i st = opened_at UNTIL (bytes "U(") i refl (lit< tt) st
 
-  pub W-opens : (i : ℕ) → Stands s i (bytes "W(") → leaf_at s i ≡ Open WEAK-UNTIL (i + 2)
+  pub W-opens : (i : ℕ) → Stands s i (bytes "W(") → leaf_at s i ≡ Some (Open WEAK-UNTIL (i + 2))
   W-opens i st = opened_at WEAK-UNTIL (bytes "W(") i refl (lit< tt) st
 
-  pub round_opens : (i : ℕ) → Stands s i (bytes "(") → leaf_at s i ≡ Open BRACKET (i + 1)
+  pub round_opens : (i : ℕ) → Stands s i (bytes "(") → leaf_at s i ≡ Some (Open BRACKET (i + 1))
   round_opens i st = opened_at BRACKET (bytes "(") i refl (lit< tt) st
 
 -- the kind of a leaf is one of the kinds of leaves
-abbrev Low : Leaf → Type 0
-Low (Node r j) = r.kind < unary_from
-Low (Open k j) = Unit {0}
-Low Nothing = Unit {0}
+abbrev Low : Option Leaf → Type 0
+Low (Some (Node r j)) = r.kind < unary_from
+Low (Some (Open k j)) = Unit {0}
+Low None = Unit {0}
 
-cond_low : (b : Bool) (x y : Leaf) → (b ≡ true → Low x) → (b ≡ false → Low y) → Low (cond b x y)
+cond_low : (b : Bool) (x y : Option Leaf) → (b ≡ true → Low x) → (b ≡ false → Low y) → Low (cond b x y)
 cond_low true x y h g = h refl
 cond_low false x y h g = g refl
 
-when-low : (u : Found) (k : ℕ → ℕ → Leaf) → ((n j : ℕ) → Low (k n j)) → Low (when_found u k)
-when-low (At n j) k h = h n j
-when-low Missing k h = tt
+when-low : (u : Option Found) (k : ℕ → ℕ → Option Leaf) → ((n j : ℕ) → Low (k n j)) → Low (when_found u k)
+when-low (Some f) k h = h f.code f.end
+when-low None k h = tt
 
 module _ (s : List ℕ) where
   closed-low : (r : Row) (j : ℕ) → r.kind < unary_from → Low (closed_by s 41 r j)
-  closed-low r j h = cond_low (eqb (byte s j) 41) (Node r (j + 1)) Nothing (λ e. h) (λ e. tt)
+  closed-low r j h = cond_low (eqb (byte s j) 41) (Some (Node r (j + 1))) None (λ e. h) (λ e. tt)
 
   operand_low : (f n j : ℕ) → Low (operand_at s f n j)
   unfolding operand_at
   operand_low f n j =
-      cond_low (eqb (byte s j) 118) (Node (row COMPARE-V f n 0) (j + 1)) _ (λ e. lit< tt)
-      (λ e. cond_low (eqb (byte s j) 66 && eqb f 0) (Node (row A-TO-B 0 n 0) (j + 1)) _ (λ q. lit< tt)
-      (λ q. when-low (number_at s j) (λ m k. Node (row COMPARE f n m) k) (λ m k. lit< tt)))
+      cond_low (eqb (byte s j) 118) (Some (Node (row COMPARE-V f n 0) (j + 1))) _ (λ e. lit< tt)
+      (λ e. cond_low (eqb (byte s j) 66 && eqb f 0) (Some (Node (row A-TO-B 0 n 0) (j + 1))) _ (λ q. lit< tt)
+      (λ q. when-low (number_at s j) (λ m k. Some (Node (row COMPARE f n m) k)) (λ m k. lit< tt)))
 
   timed_low : (k c j : ℕ) → k < unary_from → Low (timed_at s k c j)
   unfolding timed_at
   timed_low k c j h =
-      cond_low (eqb (byte s j) 44) _ Nothing
+      cond_low (eqb (byte s j) 44) _ None
       (λ e. when-low (number_at s (j + 1)) (λ n m. closed_by s 41 (row k c 0 n) m) (λ n m. closed-low (row k c 0 n) m h)) (λ e. tt)
 
   arguments_low : (k j : ℕ) → k < unary_from → Low (arguments_at s k j)
@@ -621,21 +617,21 @@ module _ (s : List ℕ) where
   pigment_low : (k j : ℕ) → k < unary_from → Low (pigment_leaf_at s k j)
   unfolding pigment_leaf_at
   pigment_low k j h =
-      when-low (pigment_at s j) (λ n m. cond (eqb k DOSE) (closed_by s 41 (row k 0 0 n) m) (Node (row k 0 0 n) m))
-      (λ n m. cond_low (eqb k DOSE) (closed_by s 41 (row k 0 0 n) m) (Node (row k 0 0 n) m) (λ q. closed-low (row k 0 0 n) m h) (λ q. h))
+      when-low (pigment_at s j) (λ n m. cond (eqb k DOSE) (closed_by s 41 (row k 0 0 n) m) (Some (Node (row k 0 0 n) m)))
+      (λ n m. cond_low (eqb k DOSE) (closed_by s 41 (row k 0 0 n) m) (Some (Node (row k 0 0 n) m)) (λ q. closed-low (row k 0 0 n) m h) (λ q. h))
 
   named-low : (k j : ℕ) → k < unary_from → Low (named_at s k j)
   unfolding named_at
   named-low k j h =
-      cond_low (is_bare k) (Node (row k 0 0 0) j) _ (λ e. h)
+      cond_low (is_bare k) (Some (Node (row k 0 0 0) j)) _ (λ e. h)
       (λ e. cond_low (takes_pigment k) (pigment_leaf_at s k j) (arguments_at s k j) (λ q. pigment_low k j h) (λ q. arguments_low k j h))
 
   headed_low : (k j : ℕ) → Low (headed_at s k j)
   unfolding headed_at comparison_at
   headed_low k j =
       cond_low (ltb k FALL) _ _ (λ e. when-low (first_of relations s j) (operand_at s k) (operand_low k))
-      (λ e. cond_low (ltb k unary_from) (named_at s k j) (Open k j) (λ q. named-low k j (ltb-true k unary_from q)) (λ q. tt))
+      (λ e. cond_low (ltb k unary_from) (named_at s k j) (Some (Open k j)) (λ q. named-low k j (ltb-true k unary_from q)) (λ q. tt))
 
-  pub leaf_low : (i j : ℕ) (r : Row) → leaf_at s i ≡ Node r j → r.kind < unary_from
+  pub leaf_low : (i j : ℕ) (r : Row) → leaf_at s i ≡ Some (Node r j) → r.kind < unary_from
   unfolding leaf_at
   leaf_low i j r e = subst Low e (when-low (first_of heads s i) (headed_at s) headed_low)

@@ -1,9 +1,9 @@
 -- The number that computing finds at a position is the one numeral that stands there.
 use Rattle.std.proofs.Math.Path.{◌≡◌, refl, sym, ap, subst}
 use Rattle.std.proofs.Common.{◌∙◌, add-one, drop_of_length-le, length-drop, drop-cons}
-use Rattle.std.specs.Prelude.{Bool, List, [], ◌∷◌, ltb, leb, get_or, drop}
+use Rattle.std.specs.Prelude.{Bool, Option, Some, None, List, [], ◌∷◌, ltb, leb, get_or, drop}
 use Rattle.std.proofs.Math.Bool.{true, false, cond}
-use Prim.Native.Nat.{ℕ, zero, suc, ◌+◌, ◌-◌, ◌*◌, ◌≤◌, ◌<◌}
+use Prim.Native.Nat.{ℕ, suc, ◌+◌, ◌-◌, ◌*◌, ◌≤◌, ◌<◌}
 use native.Mathlib.Omega.{arith}
 use Rattle.std.proofs.Math.Dec.{eqb}
 use Rattle.std.proofs.Math.ListN.{length}
@@ -12,12 +12,11 @@ use Rattle.number.specs.Axis.{origin}
 use Rattle.number.proofs.laws.Boolean.{and_left, and_right}
 use Rattle.recording.specs.Recording.{most_pigments}
 use Rattle.grammar.specs.declared.Found.{Found}
-use Rattle.grammar.specs.declared.Found.TheVariants.{At, Missing}
 use Rattle.grammar.specs.Bytes.{bytes}
 use Rattle.grammar.specs.Classes.{is_digit}
 use Rattle.grammar.specs.Grammar.{decimal, decimal_from, AllDigits, Positive, Numeral, zero_itself, plain, minus, PigmentNumber}
-use Rattle.grammar.specs.inner.Lexer.{byte, digit_run, bounded, unsigned_at, negated, shifted, number_at, of_pigment, pigment_at}
-use Rattle.grammar.proofs.laws.Word.{Stands, Spelt, inside, bound, one_byte}
+use Rattle.grammar.specs.inner.Lexer.{byte, found_upto, digit_run, bounded, unsigned_at, negated, shifted, number_at, of_pigment, pigment_at}
+use Rattle.grammar.proofs.laws.Word.{Stands, Spelt, same_found, inside, bound, one_byte}
 
 pub digit_low : (b : ℕ) → is_digit b ≡ true → 48 ≤ b
 digit_low b e = leb-true 48 b (and_left (leb 48 b) (leb b 57) e)
@@ -72,14 +71,14 @@ module _ (s : List ℕ) where
     counted : (d : ℕ) (w : List ℕ) → Positive origin d w → Stands s i (d ∷ w) → Unsigned i (decimal (d ∷ w)) (i + length (d ∷ w))
 
 module _ (s : List ℕ) (i : ℕ) where
-  bounded_is : (w : List ℕ) (n j m e : ℕ) → bounded m e ≡ At n j → (m ≡ n) × (e ≡ j) × (m ≤ origin)
+  bounded_is : (w : List ℕ) (n j m e : ℕ) → bounded m e ≡ found_upto n j → (m ≡ n) × (e ≡ j) × (m ≤ origin)
   bounded_is w n j m e h = go (leb m origin) refl h
     where
-      go : (b : Bool) → leb m origin ≡ b → cond b (At m e) Missing ≡ At n j → (m ≡ n) × (e ≡ j) × (m ≤ origin)
-      go true q g = (cc, cc, leb-true m origin q)
-      go false q g = let z : ◌≡◌ {A = ℕ} 0 1 = cc in absurd (omega arith)
+      go : (b : Bool) → leb m origin ≡ b → cond b (found_upto m e) None ≡ found_upto n j → (m ≡ n) × (e ≡ j) × (m ≤ origin)
+      go true q g = let f = same_found g in (f.0, f.1, leb-true m origin q)
+      go false q g = cc
 
-  digits_sound : (n j : ℕ) → is_digit (byte s i) ≡ true → (byte s i ≡ 48 → ⊥) → bounded (decimal (digit_run (drop i s))) (i + length (digit_run (drop i s))) ≡ At n j → Unsigned s i n j
+  digits_sound : (n j : ℕ) → is_digit (byte s i) ≡ true → (byte s i ≡ 48 → ⊥) → bounded (decimal (digit_run (drop i s))) (i + length (digit_run (drop i s))) ≡ found_upto n j → Unsigned s i n j
   digits_sound n j e ne h =
       let low = digit_low (byte s i) e in
       let l = inside s i (omega arith) in
@@ -93,19 +92,18 @@ module _ (s : List ℕ) (i : ℕ) where
       (rw r at st.0) in
       subst (λ (m : ℕ). Unsigned s i m j) (rw r at b.0) (subst (λ (k : ℕ). Unsigned s i (decimal (byte s i ∷ w)) k) (rw r at b.1) x)
 
-  pub unsigned_sound : (n j : ℕ) → unsigned_at s i ≡ At n j → Unsigned s i n j
+  pub unsigned_sound : (n j : ℕ) → unsigned_at s i ≡ found_upto n j → Unsigned s i n j
   unfolding unsigned_at
   unsigned_sound n j h = go (eqb (byte s i) 48) (is_digit (byte s i)) refl refl h
     where
-      go : (a b : Bool) → eqb (byte s i) 48 ≡ a → is_digit (byte s i) ≡ b → cond a (At 0 (i + 1)) (cond b (bounded (decimal (digit_run (drop i s))) (i + length (digit_run (drop i s)))) Missing) ≡ At n j → Unsigned s i n j
+      go : (a b : Bool) → eqb (byte s i) 48 ≡ a → is_digit (byte s i) ≡ b → cond a (found_upto 0 (i + 1)) (cond b (bounded (decimal (digit_run (drop i s))) (i + length (digit_run (drop i s)))) None) ≡ found_upto n j → Unsigned s i n j
       go true b p q g =
-          let x : 0 ≡ n = cc in
-          let y : i + 1 ≡ j = cc in
-          subst (λ (m : ℕ). Unsigned s i m j) x (subst (λ (k : ℕ). Unsigned s i 0 k) y (naught (eqb-true (byte s i) 48 p)))
+          let f = same_found g in
+          subst (λ (m : ℕ). Unsigned s i m j) f.0 (subst (λ (k : ℕ). Unsigned s i 0 k) f.1 (naught (eqb-true (byte s i) 48 p)))
       go false true p q g = digits_sound n j q (eqb-false (byte s i) 48 p) g
-      go false false p q g = let z : ◌≡◌ {A = ℕ} 0 1 = cc in absurd (omega arith)
+      go false false p q g = cc
 
-  pub unsigned_counted : (d : ℕ) (w : List ℕ) → Positive origin d w → Stands s i (d ∷ w) → is_digit (byte s (i + length (d ∷ w))) ≡ false → unsigned_at s i ≡ At (decimal (d ∷ w)) (i + length (d ∷ w))
+  pub unsigned_counted : (d : ℕ) (w : List ℕ) → Positive origin d w → Stands s i (d ∷ w) → is_digit (byte s (i + length (d ∷ w))) ≡ false → unsigned_at s i ≡ found_upto (decimal (d ∷ w)) (i + length (d ∷ w))
   unfolding unsigned_at
   unsigned_counted d w p st e =
       let f = p.first in
@@ -118,29 +116,35 @@ module _ (s : List ℕ) (i : ℕ) where
 positive_first : (d : ℕ) (w : List ℕ) → Positive origin d w → (49 ≤ d) × (d ≤ 57)
 positive_first d w p = (p.first, digit_high d p.digits.0)
 
+negated_some : (f : Found) (n j : ℕ) → negated (Some f) ≡ found_upto n j → (0 < f.code) × (origin - f.code ≡ n) × (f.end ≡ j)
+negated_some f n j h = go (eqb f.code 0) refl h
+  where
+    go : (b : Bool) → eqb f.code 0 ≡ b → cond b None (found_upto (origin - f.code) f.end) ≡ found_upto n j → (0 < f.code) × (origin - f.code ≡ n) × (f.end ≡ j)
+    go true q g = cc
+    go false q g = let z : f.code ≡ 0 → ⊥ = eqb-false f.code 0 q in let x = same_found g in (omega arith, x.0, x.1)
+
 module _ (s : List ℕ) where
-  pub number_sound : (i n j : ℕ) → number_at s i ≡ At n j → Spelt s (λ m w. Numeral w m) i n j
+  pub number_sound : (i n j : ℕ) → number_at s i ≡ found_upto n j → Spelt s (λ m w. Numeral w m) i n j
   unfolding number_at
   number_sound i n j h = go (eqb (byte s i) 45) refl h
     where
-      shift : (f : Found) → unsigned_at s i ≡ f → shifted f ≡ At n j → Spelt s (λ m w. Numeral w m) i n j
-      shift (At m k) e g = made m k (unsigned_sound s i m k e) (cc) (cc)
+      shift : (f : Option Found) → unsigned_at s i ≡ f → shifted f ≡ found_upto n j → Spelt s (λ m w. Numeral w m) i n j
+      shift (Some f) e g = let x = same_found g in made f.code f.end (unsigned_sound s i f.code f.end e) x.0 x.1
         where
           made : (m k : ℕ) → Unsigned s i m k → origin + m ≡ n → k ≡ j → Spelt s (λ m w. Numeral w m) i n j
           made m k (naught b) x y = record { spelling = bytes "0"; holds = subst (λ (q : ℕ). Numeral (bytes "0") q) x zero_itself; here = one_byte s i 48 (omega arith) b; upto = sym y }
           made m k (counted d w p st) x y = record { spelling = d ∷ w; holds = subst (λ (q : ℕ). Numeral (d ∷ w) q) x (plain p); here = st; upto = sym y }
-      shift Missing e g = let z : ◌≡◌ {A = ℕ} 0 1 = cc in absurd (omega arith)
+      shift None e g = cc
 
-      negate : (f : Found) → byte s i ≡ 45 → unsigned_at s (i + 1) ≡ f → negated f ≡ At n j → Spelt s (λ m w. Numeral w m) i n j
-      negate (At zero k) b e g = let z : ◌≡◌ {A = ℕ} 0 1 = cc in absurd (omega arith)
-      negate (At (suc m) k) b e g = made (suc m) k (unsigned_sound s (i + 1) (suc m) k e) (omega arith) (cc) (cc)
+      negate : (f : Option Found) → byte s i ≡ 45 → unsigned_at s (i + 1) ≡ f → negated f ≡ found_upto n j → Spelt s (λ m w. Numeral w m) i n j
+      negate (Some f) b e g = let x = negated_some f n j g in made f.code f.end (unsigned_sound s (i + 1) f.code f.end e) x.0 x.1 x.2
         where
           made : (m k : ℕ) → Unsigned s (i + 1) m k → 0 < m → origin - m ≡ n → k ≡ j → Spelt s (λ m w. Numeral w m) i n j
           made m k (naught b) l x y = absurd (omega arith)
           made m k (counted d w p st) l x y = record { spelling = 45 ∷ d ∷ w; holds = subst (λ (q : ℕ). Numeral (45 ∷ d ∷ w) q) x (minus p); here = (b, st); upto = omega arith }
-      negate Missing b e g = let z : ◌≡◌ {A = ℕ} 0 1 = cc in absurd (omega arith)
+      negate None b e g = cc
 
-      go : (a : Bool) → eqb (byte s i) 45 ≡ a → cond a (negated (unsigned_at s (i + 1))) (shifted (unsigned_at s i)) ≡ At n j → Spelt s (λ m w. Numeral w m) i n j
+      go : (a : Bool) → eqb (byte s i) 45 ≡ a → cond a (negated (unsigned_at s (i + 1))) (shifted (unsigned_at s i)) ≡ found_upto n j → Spelt s (λ m w. Numeral w m) i n j
       go true p g = negate (unsigned_at s (i + 1)) (eqb-true (byte s i) 45 p) refl g
       go false p g = shift (unsigned_at s i) refl g
 
@@ -148,12 +152,11 @@ decimal_grows : (w : List ℕ) (n : ℕ) → n ≤ decimal_from n w
 decimal_grows [] n = omega arith
 decimal_grows (d ∷ w) n = let r = decimal_grows w (10 * n + (d - 48)) in omega arith
 
-negated_is : (m k : ℕ) → 0 < m → negated (At m k) ≡ At (origin - m) k
-negated_is zero k h = absurd (omega arith)
-negated_is (suc m) k h = refl
+negated_is : (m k : ℕ) → 0 < m → negated (found_upto m k) ≡ found_upto (origin - m) k
+negated_is m k h = rw (ne_eqb m 0 (λ e. omega arith))
 
 module _ (s : List ℕ) (i : ℕ) where
-  pub number_complete : {w : List ℕ} {n : ℕ} → Numeral w n → Stands s i w → is_digit (byte s (i + length w)) ≡ false → number_at s i ≡ At n (i + length w)
+  pub number_complete : {w : List ℕ} {n : ℕ} → Numeral w n → Stands s i w → is_digit (byte s (i + length w)) ≡ false → number_at s i ≡ found_upto n (i + length w)
   unfolding number_at unsigned_at
   number_complete zero_itself st e = rw st.0
   number_complete (plain {d} {w} p) st e =
@@ -165,7 +168,7 @@ module _ (s : List ℕ) (i : ℕ) where
       let c = unsigned_counted s (i + 1) d w p st.1 (subst (λ (j : ℕ). is_digit (byte s j) ≡ false) k e) in
       let g = decimal_grows w (10 * 0 + (d - 48)) in
       rw (eq-eqb (byte s i) 45 st.0)
-      (ap negated c ∙ negated_is (decimal (d ∷ w)) (i + 1 + suc (length w)) (omega arith) ∙ ap (λ (j : ℕ). At (origin - decimal (d ∷ w)) j) (sym k))
+      (ap negated c ∙ negated_is (decimal (d ∷ w)) (i + 1 + suc (length w)) (omega arith) ∙ ap (λ (j : ℕ). found_upto (origin - decimal (d ∷ w)) j) (sym k))
 
   -- a numeral begins with a digit or with `-`
   pub numeral_first : {w : List ℕ} {n : ℕ} → Numeral w n → Stands s i w → byte s i < 58
@@ -181,20 +184,19 @@ pub data PigmentWord : List ℕ → ℕ → Type 0 where
 pub pigment_range : {w : List ℕ} {n : ℕ} → PigmentWord w n → (1 ≤ n) × (n ≤ most_pigments)
 pigment_range (labelled {d} {w} p) = let f = p.first in let g = decimal_grows w (10 * 0 + (d - 48)) in (omega arith, p.within)
 
-of_pigment_is : (m j n e : ℕ) → of_pigment (At m j) ≡ At n e → (m ≡ n) × (j ≡ e) × (0 < m) × (m ≤ most_pigments)
-of_pigment_is zero j n e h = let z : ◌≡◌ {A = ℕ} 0 1 = cc in absurd (omega arith)
-of_pigment_is (suc m) j n e h = go (leb (suc m) most_pigments) refl h
+of_pigment_is : (m j n e : ℕ) → of_pigment (found_upto m j) ≡ found_upto n e → (m ≡ n) × (j ≡ e) × (0 < m) × (m ≤ most_pigments)
+of_pigment_is m j n e h = go (eqb m 0) (leb m most_pigments) refl refl h
   where
-    go : (b : Bool) → leb (suc m) most_pigments ≡ b → cond b (At (suc m) j) Missing ≡ At n e → (suc m ≡ n) × (j ≡ e) × (0 < suc m) × (suc m ≤ most_pigments)
-    go true q g = (cc, cc, omega arith, leb-true (suc m) most_pigments q)
-    go false q g = let z : ◌≡◌ {A = ℕ} 0 1 = cc in absurd (omega arith)
+    go : (a b : Bool) → eqb m 0 ≡ a → leb m most_pigments ≡ b → cond a None (cond b (found_upto m j) None) ≡ found_upto n e → (m ≡ n) × (j ≡ e) × (0 < m) × (m ≤ most_pigments)
+    go true b p q g = cc
+    go false true p q g = let z : m ≡ 0 → ⊥ = eqb-false m 0 p in let x = same_found g in (x.0, x.1, omega arith, leb-true m most_pigments q)
+    go false false p q g = cc
 
-of_pigment_at : (m j : ℕ) → 0 < m → m ≤ most_pigments → of_pigment (At m j) ≡ At m j
-of_pigment_at zero j l h = absurd (omega arith)
-of_pigment_at (suc m) j l h = rw (le-leb (suc m) most_pigments h)
+of_pigment_at : (m j : ℕ) → 0 < m → m ≤ most_pigments → of_pigment (found_upto m j) ≡ found_upto m j
+of_pigment_at m j l h = rw (ne_eqb m 0 (λ e. omega arith), le-leb m most_pigments h)
 
 module _ (s : List ℕ) (i : ℕ) where
-  pub pigment_sound : (n j : ℕ) → pigment_at s i ≡ At n j → Spelt s (λ m w. PigmentWord w m) i n j
+  pub pigment_sound : (n j : ℕ) → pigment_at s i ≡ found_upto n j → Spelt s (λ m w. PigmentWord w m) i n j
   unfolding pigment_at
   pigment_sound n j h = go (unsigned_at s i) refl h
     where
@@ -208,11 +210,11 @@ module _ (s : List ℕ) (i : ℕ) where
             upto = sym y;
           }
 
-      go : (f : Found) → unsigned_at s i ≡ f → of_pigment f ≡ At n j → Spelt s (λ m w. PigmentWord w m) i n j
-      go (At m k) e g = let x = of_pigment_is m k n j g in made m k (unsigned_sound s i m k e) x.2 x.3 x.0 x.1
-      go Missing e g = let z : ◌≡◌ {A = ℕ} 0 1 = cc in absurd (omega arith)
+      go : (f : Option Found) → unsigned_at s i ≡ f → of_pigment f ≡ found_upto n j → Spelt s (λ m w. PigmentWord w m) i n j
+      go (Some f) e g = let x = of_pigment_is f.code f.end n j g in made f.code f.end (unsigned_sound s i f.code f.end e) x.2 x.3 x.0 x.1
+      go None e g = cc
 
-  pub pigment_complete : {w : List ℕ} {n : ℕ} → PigmentWord w n → Stands s i w → is_digit (byte s (i + length w)) ≡ false → pigment_at s i ≡ At n (i + length w)
+  pub pigment_complete : {w : List ℕ} {n : ℕ} → PigmentWord w n → Stands s i w → is_digit (byte s (i + length w)) ≡ false → pigment_at s i ≡ found_upto n (i + length w)
   unfolding pigment_at
   pigment_complete (labelled {d} {w} p) st e =
       let r = pigment_range (labelled p) in

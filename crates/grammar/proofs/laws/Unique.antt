@@ -1,5 +1,5 @@
 -- The computed reading is the reading by the printed rules, and there is no other.
-use Rattle.std.specs.Prelude.{◌↔◌, Bool, eqb}
+use Rattle.std.specs.Prelude.{◌↔◌, Bool, Option, Some, None, eqb}
 use Rattle.std.proofs.Math.Path.{◌≡◌, refl, subst}
 use Rattle.std.proofs.Common.{sym, ap, ◌∙◌, arith, lit<, length-append}
 use Rattle.std.proofs.Math.Bool.{true, false}
@@ -9,7 +9,7 @@ use Rattle.std.proofs.Math.ListN.{length, get_or-eq_default}
 use borrow.Author.Tests.{eq-eqb, ne_eqb, eqb-true, lt-ltb, le-ltb}
 use Rattle.recording.specs.Reading.{A, B}
 use Rattle.grammar.specs.declared.Leaf.{Leaf}
-use Rattle.grammar.specs.declared.Leaf.TheVariants.{Node, Open, Nothing}
+use Rattle.grammar.specs.declared.Leaf.TheVariants.{Node, Open}
 use Rattle.grammar.specs.Bytes.{bytes}
 use Rattle.grammar.specs.Syntax.{of, T, Atom, Listed, Text, atom, listed}
 use Rattle.grammar.specs.Size.{mixed}
@@ -145,10 +145,10 @@ module _ (s : List ℕ) where
   opened_sound {j = j} k w arg (single h l n r) a f = rw (ne_eqb k BRACKET (omega arith), lt-ltb k binary_from l) (single_sound k w (arg 41 j) a r (f 41 j))
   opened_sound {j = j} k w arg (double l m n r) a f = rw (ne_eqb k BRACKET (omega arith), le-ltb k binary_from l) (double_sound k w (arg 44 j) arg a r f (f 44 j))
 
-  prim_sound : (i : ℕ) (l : Leaf) (arg : ℕ → ℕ → Out) → leaf_at s i ≡ l → ((b m : ℕ) → Sound s (argument b m) (arg b m)) → Sound s (prim_at i) (begun l arg)
-  prim_sound i (Node r j) arg e f = leaf_held s i j r e
-  prim_sound i (Open k j) arg e f = let o = open_held s i k j e in opened_sound k o.spelling arg o.holds (record { here = o.here; upto = o.upto }) f
-  prim_sound i Nothing arg e f = tt
+  prim_sound : (i : ℕ) (l : Option Leaf) (arg : ℕ → ℕ → Out) → leaf_at s i ≡ l → ((b m : ℕ) → Sound s (argument b m) (arg b m)) → Sound s (prim_at i) (begun l arg)
+  prim_sound i (Some (Node r j)) arg e f = leaf_held s i j r e
+  prim_sound i (Some (Open k j)) arg e f = let o = open_held s i k j e in opened_sound k o.spelling arg o.holds (record { here = o.here; upto = o.upto }) f
+  prim_sound i None arg e f = tt
 
   sound : (f : ℕ) (g : Task) → Sound s g (parse s f g)
   unfolding parse
@@ -266,17 +266,17 @@ module _ (s : List ℕ) where
   leaf_finds i j t l zero r = absurd (omega arith)
   leaf_finds i j t l (suc f) r = rw l.at_once (ap (λ (u : Text). got u j) l.stands_for)
 
-  round_finds : (i j e : ℕ) (t : Text) → i < j → j ≤ length s → leaf_at s i ≡ Open BRACKET j → Finds s (argument 41 j) (got t e) → Finds s (prim_at i) (got t e)
+  round_finds : (i j e : ℕ) (t : Text) → i < j → j ≤ length s → leaf_at s i ≡ Some (Open BRACKET j) → Finds s (argument 41 j) (got t e) → Finds s (prim_at i) (got t e)
   unfolding parse
   round_finds i j e t a b l h zero r = absurd (omega arith)
   round_finds i j e t a b l h (suc f) r = rw l (h f (omega arith))
 
-  single_finds : (k i j e : ℕ) (t : Text) → k < binary_from → i < j → j ≤ length s → leaf_at s i ≡ Open k j → Finds s (argument 41 j) (got t e) → Finds s (prim_at i) (got (node k t t) e)
+  single_finds : (k i j e : ℕ) (t : Text) → k < binary_from → i < j → j ≤ length s → leaf_at s i ≡ Some (Open k j) → Finds s (argument 41 j) (got t e) → Finds s (prim_at i) (got (node k t t) e)
   unfolding parse
   single_finds k i j e t c a b l h zero r = absurd (omega arith)
   single_finds k i j e t c a b l h (suc f) r = rw (l, ne_eqb k BRACKET (omega arith), lt-ltb k binary_from c, h f (omega arith))
 
-  double_finds : (k i j m e : ℕ) (t u : Text) → binary_from ≤ k → k < kinds → i < j → j ≤ m → m ≤ length s → leaf_at s i ≡ Open k j
+  double_finds : (k i j m e : ℕ) (t u : Text) → binary_from ≤ k → k < kinds → i < j → j ≤ m → m ≤ length s → leaf_at s i ≡ Some (Open k j)
       → Finds s (argument 44 j) (got t m) → Finds s (argument 41 m) (got u e) → Finds s (prim_at i) (got (node k t u) e)
   unfolding parse
   double_finds k i j m e t u c d a b q l h g zero r = absurd (omega arith)
@@ -322,7 +322,7 @@ module _ (s : List ℕ) where
   whole_finds b i j t d n m e c =
       argument_finds b i j t e (c (got t j) (rw e d) (λ q. n (sym e ∙ q)) (stop_finds bars t j (λ q. m (sym e ∙ q))))
 
-  single_complete : {w : List ℕ} {t : Text} (k i e : ℕ) (o : List ℕ) → k < binary_from → Reads alternation w t → (Stands s i o → leaf_at s i ≡ Open k (i + length o)) → 0 < length o
+  single_complete : {w : List ℕ} {t : Text} (k i e : ℕ) (o : List ℕ) → k < binary_from → Reads alternation w t → (Stands s i o → leaf_at s i ≡ Some (Open k (i + length o))) → 0 < length o
       → Stands s i (o ++ w ++ bytes ")") → e ≡ i + length (o ++ w ++ bytes ")") → ((j : ℕ) → Stands s (i + length o) w → j ≡ i + length o + length w → Complete s alternation (i + length o) j t)
       → Finds s (prim_at i) (got (node k t t) e)
   single_complete {w} {t} k i e o l r opens n st q c =
@@ -337,7 +337,7 @@ module _ (s : List ℕ) where
       (single_finds k i (i + length o) (j + 1) t l (omega arith) (omega arith) (opens (before s o w i s1))
       (whole_finds 41 (i + length o) j t refl (λ x. omega arith) (λ x. omega arith) close.0 (c j sw refl)))
 
-  double_complete : (w x : List ℕ) (t u : Text) (k i e : ℕ) (o : List ℕ) → binary_from ≤ k → k < kinds → (Stands s i o → leaf_at s i ≡ Open k (i + length o)) → 0 < length o
+  double_complete : (w x : List ℕ) (t u : Text) (k i e : ℕ) (o : List ℕ) → binary_from ≤ k → k < kinds → (Stands s i o → leaf_at s i ≡ Some (Open k (i + length o))) → 0 < length o
       → Stands s i (o ++ w ++ bytes "," ++ x ++ bytes ")") → e ≡ i + length (o ++ w ++ bytes "," ++ x ++ bytes ")")
       → ((h j : ℕ) → Stands s h w → j ≡ h + length w → Complete s alternation h j t) → ((h j : ℕ) → Stands s h x → j ≡ h + length x → Complete s alternation h j u)
       → Finds s (prim_at i) (got (node k t u) e)
@@ -434,18 +434,18 @@ module _ (s : List ℕ) where
   computed_reads t h = whole (parse s (5 * length s + 5) (chain bars 0)) (sound s (5 * length s + 5) (chain bars 0)) h
     where
       clear : (u : Text) (b : Bool) → mixed u ≡ b → Reads alternation s u → pick b (λ _. none) (λ _. one u) ≡ one t → ReadsWhole s t
-      clear u true q r g = let z : ◌≡◌ {A = ℕ} 0 1 = cc in absurd (omega arith)
+      clear u true q r g = cc
       clear u false q r g = let x : u ≡ t = cc in subst (ReadsWhole s) x (r, q)
 
       ended : (u : Text) (j : ℕ) (b : Bool) → eqb j (length s) ≡ b → Held s alternation 0 j u → pick b (λ _. unmixed u) (λ _. none) ≡ one t → ReadsWhole s t
       ended u j true q r g =
           let w = same-word s r.spelling s 0 r.run.here (stands_self [] s) (let x = r.run.upto in let y = eqb-true j (length s) q in omega arith) in
           clear u (mixed u) refl (subst (λ (x : List ℕ). Reads alternation x u) w r.reads) g
-      ended u j false q r g = let z : ◌≡◌ {A = ℕ} 0 1 = cc in absurd (omega arith)
+      ended u j false q r g = cc
 
       whole : (p : Out) → Sound s (chain bars 0) p → at_end s p ≡ one t → ReadsWhole s t
       whole (got u j) r g = ended u j (eqb j (length s)) refl r g
-      whole unread r g = let z : ◌≡◌ {A = ℕ} 0 1 = cc in absurd (omega arith)
+      whole unread r g = cc
 
   -- THE READER IS SOUND AND COMPLETE for the printed rules
   pub reading_is : (t : Text) → (parsed s ≡ one t) ↔ ReadsWhole s t
@@ -457,7 +457,7 @@ module _ (s : List ℕ) where
 
   -- that there is none is computed too
   pub reading_none : (parsed s ≡ none) ↔ ((t : Text) → ReadsWhole s t → ⊥)
-  reading_none = (λ e t r. (let a = reads_computed t r in let z : ◌≡◌ {A = ℕ} 0 1 = cc in omega arith), λ n. go (parsed s) refl n)
+  reading_none = (λ e t r. (let a = reads_computed t r in cc), λ n. go (parsed s) refl n)
     where
       go : (r : Parsed) → parsed s ≡ r → ((t : Text) → ReadsWhole s t → ⊥) → parsed s ≡ none
       go (one t) e n = absurd (n t (computed_reads t e))

@@ -4,9 +4,9 @@ use Rattle.std.proofs.Common.{sym, ap, subst, ◌∙◌, true≢false, arith, le
 use Rattle.std.proofs.Math.ListN.{get_or-eq_default}
 use Rattle.std.proofs.Math.Seq.{get_or-append_seam, append_snoc}
 use Rattle.number.proofs.laws.Boolean.{and_left, and_right}
-use Rattle.grammar.specs.declared.Found.TheVariants.{At}
 use Rattle.grammar.specs.Classes.{is_digit, is_letter}
-use Rattle.grammar.specs.inner.Lexer.{byte, spelled_at, Word, first_of}
+use Rattle.grammar.specs.declared.Found.{Found}
+use Rattle.grammar.specs.inner.Lexer.{byte, spelled_at, Word, found_upto, first_of}
 
 -- the word w stands in s from i on
 abbrev pub Stands : List ℕ → ℕ → List ℕ → Type 0
@@ -104,18 +104,18 @@ module _ (s : List ℕ) where
       (e, stands w (i + 1) (and_right (ltb 0 b) (plain w) p) (omega arith) (and_right (eqb (byte s i) b) (spelled_at s (i + 1) w) h))
 
   pub stands_solid : (w : List ℕ) (i : ℕ) → solid w ≡ true → spelled_at s i w ≡ true → Stands s i w
-  stands_solid [] i p h = let z : ◌≡◌ {A = ℕ} 0 1 = cc in absurd (omega arith)
+  stands_solid [] i p h = cc
   stands_solid (b ∷ w) i p h =
       let e = eqb-true (byte s i) b (and_left (eqb (byte s i) b) (spelled_at s (i + 1) w) h) in
       let z = inside s i (omega (arith, ltb-true 0 b (and_left (ltb 0 b) (plain w) p))) in
       stands (b ∷ w) i p (omega arith) h
 
   pub unspelled : (on : Carrier) (x y : List ℕ) (i : ℕ) → Stands s i x → on (byte s (i + length x)) ≡ false → told_apart on x y ≡ true → spelled_at s i y ≡ false
-  unspelled on [] [] i h n e = let z : ◌≡◌ {A = ℕ} 0 1 = cc in absurd (omega arith)
+  unspelled on [] [] i h n e = cc
   unspelled on [] (b ∷ y) i h n e =
       let k : i + 0 ≡ i = omega arith in
       rw (ne_eqb (byte s i) b (λ q. true≢false (sym e ∙ ap on (sym (ap (byte s) k ∙ q)) ∙ n)))
-  unspelled on (a ∷ x) [] i h n e = let z : ◌≡◌ {A = ℕ} 0 1 = cc in absurd (omega arith)
+  unspelled on (a ∷ x) [] i h n e = cc
   unspelled on (a ∷ x) (b ∷ y) i h n e =
       let k : i + suc (length x) ≡ i + 1 + length x = omega arith in
       rw h.0 (go (eqb a b) e (unspelled on x y (i + 1) h.1 (rw k at n)))
@@ -150,11 +150,11 @@ tellable on (x ∷ ws) k w = is_word x k w || (told_apart on w x.spelling && tel
 
 module _ (s : List ℕ) where
   -- THE WORD THAT STANDS IS FOUND where no carrier follows, also where it begins another word of the table
-  pub found : (on : Carrier) (ws : List Word) (k : ℕ) (w : List ℕ) (i : ℕ) → tellable on ws k w ≡ true → Stands s i w → on (byte s (i + length w)) ≡ false → first_of ws s i ≡ At k (i + length w)
+  pub found : (on : Carrier) (ws : List Word) (k : ℕ) (w : List ℕ) (i : ℕ) → tellable on ws k w ≡ true → Stands s i w → on (byte s (i + length w)) ≡ false → first_of ws s i ≡ found_upto k (i + length w)
   found on [] k w i e st n = absurd (true≢false (sym e))
   found on (x ∷ ws) k w i e st n = go (is_word x k w) refl e (λ h. found on ws k w i h st n)
     where
-      go : (b : Bool) → is_word x k w ≡ b → (b || (told_apart on w x.spelling && tellable on ws k w)) ≡ true → (tellable on ws k w ≡ true → first_of ws s i ≡ At k (i + length w)) → first_of (x ∷ ws) s i ≡ At k (i + length w)
+      go : (b : Bool) → is_word x k w ≡ b → (b || (told_apart on w x.spelling && tellable on ws k w)) ≡ true → (tellable on ws k w ≡ true → first_of ws s i ≡ found_upto k (i + length w)) → first_of (x ∷ ws) s i ≡ found_upto k (i + length w)
       go true q h r =
           let c = eqb-true x.code k (and_left (eqb x.code k) (same_word x.spelling w) q) in
           let y = same_word_is x.spelling w (and_right (eqb x.code k) (same_word x.spelling w) q) in
@@ -171,6 +171,10 @@ pub each_of_both : (P : ℕ → List ℕ → Type 0) (v w : List Word) → Each 
 each_of_both P [] w h g = g
 each_of_both P (x ∷ v) w h g = (h.0, h.1, each_of_both P v w h.2 g)
 
+-- one answer has one code and one end
+pub same_found : {m e n j : ℕ} → found_upto m e ≡ found_upto n j → (m ≡ n) × (e ≡ j)
+same_found {m} {e} {n} {j} h = let x : record { code = m; end = e } ≡ record { code = n; end = j } = cc in (ap (λ (f : Found). f.code) x, ap (λ (f : Found). f.end) x)
+
 -- the word that was found, from i up to j
 pub record Spelt (s : List ℕ) (P : ℕ → List ℕ → Type 0) (i n j : ℕ) : Type 0 where
   pub spelling : List ℕ
@@ -179,13 +183,12 @@ pub record Spelt (s : List ℕ) (P : ℕ → List ℕ → Type 0) (i n j : ℕ) 
   pub upto : j ≡ i + length spelling
 
 module _ (s : List ℕ) (P : ℕ → List ℕ → Type 0) where
-  pub found_is : (ws : List Word) (i n j : ℕ) → Each P ws → first_of ws s i ≡ At n j → Spelt s P i n j
-  found_is [] i n j e h = let z : ◌≡◌ {A = ℕ} 0 1 = cc in absurd (omega arith)
+  pub found_is : (ws : List Word) (i n j : ℕ) → Each P ws → first_of ws s i ≡ found_upto n j → Spelt s P i n j
+  found_is [] i n j e h = cc
   found_is (w ∷ ws) i n j e h = go (spelled_at s i w.spelling) refl h (found_is ws i n j e.2)
     where
-      go : (b : Bool) → spelled_at s i w.spelling ≡ b → cond b (At w.code (i + length w.spelling)) (first_of ws s i) ≡ At n j → (first_of ws s i ≡ At n j → Spelt s P i n j) → Spelt s P i n j
+      go : (b : Bool) → spelled_at s i w.spelling ≡ b → cond b (found_upto w.code (i + length w.spelling)) (first_of ws s i) ≡ found_upto n j → (first_of ws s i ≡ found_upto n j → Spelt s P i n j) → Spelt s P i n j
       go true q g k =
-          let c : w.code ≡ n = cc in
-          let d : i + length w.spelling ≡ j = cc in
-          record { spelling = w.spelling; holds = subst (λ (m : ℕ). P m w.spelling) c e.0; here = stands_solid s w.spelling i e.1 q; upto = sym d }
+          let f = same_found g in
+          record { spelling = w.spelling; holds = subst (λ (m : ℕ). P m w.spelling) f.0 e.0; here = stands_solid s w.spelling i e.1 q; upto = sym f.1 }
       go false q g k = k g

@@ -1,12 +1,11 @@
 -- Words and leaves of a text, found by computing.
-use Rattle.std.specs.Prelude.{ℕ, zero, suc, ◌+◌, ◌-◌, Bool, true, cond, ◌&&◌, ◌||◌, List, [], ◌∷◌, ◌++◌, eqb, leb, ltb, length, get_or, drop}
+use Rattle.std.specs.Prelude.{ℕ, ◌+◌, ◌-◌, Bool, true, cond, Option, Some, None, ◌&&◌, ◌||◌, List, [], ◌∷◌, ◌++◌, eqb, leb, ltb, length, get_or, drop}
 use Rattle.number.specs.Axis.{origin}
 use Rattle.recording.specs.Recording.{most_pigments}
 use Rattle.grammar.specs.declared.Row.{Row}
 use Rattle.grammar.specs.declared.Found.{Found}
-use Rattle.grammar.specs.declared.Found.TheVariants.{At, Missing}
 use Rattle.grammar.specs.declared.Leaf.{Leaf}
-use Rattle.grammar.specs.declared.Leaf.TheVariants.{Node, Open, Nothing}
+use Rattle.grammar.specs.declared.Leaf.TheVariants.{Node, Open}
 use Rattle.grammar.specs.Bytes.{bytes}
 use Rattle.grammar.specs.Classes.{is_digit}
 use Rattle.grammar.specs.Grammar.{decimal}
@@ -30,10 +29,14 @@ pub record Word : Type 0 where
 abbrev pub word : ℕ → List ℕ → Word
 word n w = record { spelling = w; code = n }
 
+-- the code n was read, and reading stopped at j
+abbrev pub found_upto : ℕ → ℕ → Option Found
+found_upto n j = Some (record { code = n; end = j })
+
 -- the code of the first of the words that stands in s from i on, and where it stops
-abbrev pub first_of : List Word → List ℕ → ℕ → Found
-first_of [] s i = Missing
-first_of (w ∷ ws) s i = cond (spelled_at s i w.spelling) (At w.code (i + length w.spelling)) (first_of ws s i)
+abbrev pub first_of : List Word → List ℕ → ℕ → Option Found
+first_of [] s i = None
+first_of (w ∷ ws) s i = cond (spelled_at s i w.spelling) (found_upto w.code (i + length w.spelling)) (first_of ws s i)
 
 -- the curves, by their codes
 abbrev pub curves : List Word
@@ -98,69 +101,67 @@ digit_run [] = []
 digit_run (b ∷ s) = cond (is_digit b) (b ∷ digit_run s) []
 
 -- the number n of digits that stop at j, if it is on the axis
-abbrev pub bounded : ℕ → ℕ → Found
-bounded n j = cond (leb n origin) (At n j) Missing
+abbrev pub bounded : ℕ → ℕ → Option Found
+bounded n j = cond (leb n origin) (found_upto n j) None
 
 -- the digits at i as a number: `0` alone, or digits without a leading zero
-unfoldable pub unsigned_at : List ℕ → ℕ → Found
+unfoldable pub unsigned_at : List ℕ → ℕ → Option Found
 unsigned_at s i =
-    cond (eqb (byte s i) 48) (At 0 (i + 1))
-    (cond (is_digit (byte s i)) (bounded (decimal (digit_run (drop i s))) (i + length (digit_run (drop i s)))) Missing)
+    cond (eqb (byte s i) 48) (found_upto 0 (i + 1))
+    (cond (is_digit (byte s i)) (bounded (decimal (digit_run (drop i s))) (i + length (digit_run (drop i s)))) None)
 
-abbrev pub negated : Found → Found
-negated (At zero j) = Missing
-negated (At (suc n) j) = At (origin - suc n) j
-negated Missing = Missing
+abbrev pub negated : Option Found → Option Found
+negated (Some f) = cond (eqb f.code 0) None (found_upto (origin - f.code) f.end)
+negated None = None
 
-abbrev pub shifted : Found → Found
-shifted (At n j) = At (origin + n) j
-shifted Missing = Missing
+abbrev pub shifted : Option Found → Option Found
+shifted (Some f) = found_upto (origin + f.code) f.end
+shifted None = None
 
 -- the number at i, as its index on the axis
-unfoldable pub number_at : List ℕ → ℕ → Found
+unfoldable pub number_at : List ℕ → ℕ → Option Found
 number_at s i = cond (eqb (byte s i) 45) (negated (unsigned_at s (i + 1))) (shifted (unsigned_at s i))
 
 -- a number that was found, if it is a pigment's
-abbrev pub of_pigment : Found → Found
-of_pigment (At zero j) = Missing
-of_pigment (At (suc n) j) = cond (leb (suc n) most_pigments) (At (suc n) j) Missing
-of_pigment Missing = Missing
+abbrev pub of_pigment : Option Found → Option Found
+of_pigment (Some f) = cond (eqb f.code 0) None (cond (leb f.code most_pigments) (Some f) None)
+of_pigment None = None
 
 -- the number of a pigment at i
-unfoldable pub pigment_at : List ℕ → ℕ → Found
+unfoldable pub pigment_at : List ℕ → ℕ → Option Found
 pigment_at s i = of_pigment (unsigned_at s i)
 
 -- LEAVES
-abbrev pub when_found : Found → (ℕ → ℕ → Leaf) → Leaf
-when_found (At n j) k = k n j
-when_found Missing k = Nothing
+abbrev pub when_found : Option Found → (ℕ → ℕ → Option Leaf) → Option Leaf
+when_found (Some f) k = k f.code f.end
+when_found None k = None
 
 -- the leaf, if the byte b closes it at j
-abbrev pub closed_by : List ℕ → ℕ → Row → ℕ → Leaf
-closed_by s b r j = cond (eqb (byte s j) b) (Node r (j + 1)) Nothing
+abbrev pub closed_by : List ℕ → ℕ → Row → ℕ → Option Leaf
+closed_by s b r j = cond (eqb (byte s j) b) (Some (Node r (j + 1))) None
 
 -- what stands at j, behind the field f and the relation r
-unfoldable pub operand_at : List ℕ → ℕ → ℕ → ℕ → Leaf
+unfoldable pub operand_at : List ℕ → ℕ → ℕ → ℕ → Option Leaf
 operand_at s f r j =
-    cond (eqb (byte s j) 118) (Node (row COMPARE-V f r 0) (j + 1))
-    (cond (eqb (byte s j) 66 && eqb f 0) (Node (row A-TO-B 0 r 0) (j + 1))
-    (when_found (number_at s j) (λ n e. Node (row COMPARE f r n) e)))
+    cond (eqb (byte s j) 118) (Some (Node (row COMPARE-V f r 0) (j + 1)))
+    (cond (eqb (byte s j) 66 && eqb f 0) (Some (Node (row A-TO-B 0 r 0) (j + 1)))
+    (when_found (number_at s j) (λ n e. Some (Node (row COMPARE f r n) e))))
 
 -- what stands at i, behind the field f
-unfoldable pub comparison_at : List ℕ → ℕ → ℕ → Leaf
+unfoldable pub comparison_at : List ℕ → ℕ → ℕ → Option Leaf
 comparison_at s f i = when_found (first_of relations s i) (operand_at s f)
 
 -- a name with a curve and a number, from the comma on
-unfoldable pub timed_at : List ℕ → ℕ → ℕ → ℕ → Leaf
+unfoldable pub timed_at : List ℕ → ℕ → ℕ → ℕ → Option Leaf
 timed_at s k c j =
-    cond (eqb (byte s j) 44) (when_found (number_at s (j + 1)) (λ n e. closed_by s 41 (row k c 0 n) e)) Nothing
+    cond (eqb (byte s j) 44) (when_found (number_at s (j + 1)) (λ n e. closed_by s 41 (row k c 0 n) e)) None
 
 -- `lowafter` and `capafter` have a number
 abbrev pub is_timed : ℕ → Bool
 is_timed k = eqb k LOWAFTER || eqb k CAPAFTER
 
 -- the arguments of the name of kind k, from i on
-unfoldable pub arguments_at : List ℕ → ℕ → ℕ → Leaf
+unfoldable pub arguments_at : List ℕ → ℕ → ℕ → Option Leaf
 arguments_at s k i =
     when_found (first_of curves s i) (λ c j. cond (is_timed k) (timed_at s k c j) (closed_by s 41 (row k c 0 0) j))
 
@@ -169,20 +170,20 @@ abbrev pub takes_pigment : ℕ → Bool
 takes_pigment k = eqb k PIGMENT || eqb k DOSE
 
 -- the number of a pigment behind the word of kind k, from i on; `dose(` is closed
-unfoldable pub pigment_leaf_at : List ℕ → ℕ → ℕ → Leaf
+unfoldable pub pigment_leaf_at : List ℕ → ℕ → ℕ → Option Leaf
 pigment_leaf_at s k i =
-    when_found (pigment_at s i) (λ n e. cond (eqb k DOSE) (closed_by s 41 (row k 0 0 n) e) (Node (row k 0 0 n) e))
+    when_found (pigment_at s i) (λ n e. cond (eqb k DOSE) (closed_by s 41 (row k 0 0 n) e) (Some (Node (row k 0 0 n) e)))
 
 -- `cross`, `crossup` and `lag` have no arguments
 abbrev pub is_bare : ℕ → Bool
 is_bare k = eqb k CROSS || (eqb k CROSSUP || eqb k LAG)
 
-unfoldable pub named_at : List ℕ → ℕ → ℕ → Leaf
-named_at s k i = cond (is_bare k) (Node (row k 0 0 0) i) (cond (takes_pigment k) (pigment_leaf_at s k i) (arguments_at s k i))
+unfoldable pub named_at : List ℕ → ℕ → ℕ → Option Leaf
+named_at s k i = cond (is_bare k) (Some (Node (row k 0 0 0) i)) (cond (takes_pigment k) (pigment_leaf_at s k i) (arguments_at s k i))
 
-unfoldable pub headed_at : List ℕ → ℕ → ℕ → Leaf
-headed_at s k i = cond (ltb k FALL) (comparison_at s k i) (cond (ltb k unary_from) (named_at s k i) (Open k i))
+unfoldable pub headed_at : List ℕ → ℕ → ℕ → Option Leaf
+headed_at s k i = cond (ltb k FALL) (comparison_at s k i) (cond (ltb k unary_from) (named_at s k i) (Some (Open k i)))
 
 -- what stands at i: a leaf, or an opening
-unfoldable pub leaf_at : List ℕ → ℕ → Leaf
+unfoldable pub leaf_at : List ℕ → ℕ → Option Leaf
 leaf_at s i = when_found (first_of heads s i) (headed_at s)

@@ -1,8 +1,8 @@
 -- The reading of a text, found by computing: one function over what is to be read, with fuel.
-use Rattle.std.specs.Prelude.{ℕ, zero, suc, ◌+◌, ◌*◌, ◌-◌, Bool, true, false, List, eqb, ltb, length}
+use Rattle.std.specs.Prelude.{ℕ, zero, suc, ◌+◌, ◌*◌, ◌-◌, Bool, true, false, Option, Some, None, List, eqb, ltb, length}
 use Rattle.grammar.specs.declared.Row.{Row}
 use Rattle.grammar.specs.declared.Leaf.{Leaf}
-use Rattle.grammar.specs.declared.Leaf.TheVariants.{Node, Open, Nothing}
+use Rattle.grammar.specs.declared.Leaf.TheVariants.{Node, Open}
 use Rattle.grammar.specs.Syntax.{Text, listed, lag}
 use Rattle.grammar.specs.Size.{mixed}
 use Rattle.grammar.specs.inner.Kinds.{NOT, OR, AND, BRACKET}
@@ -68,10 +68,10 @@ opened k arg i =
     (λ _. after (arg 44 i) (λ p j. after (arg 41 j) (λ q e. got (node k p q) e))))
 
 -- what was read of a leaf, or behind an opening
-abbrev pub begun : Leaf → (ℕ → ℕ → Out) → Out
-begun (Node r j) arg = got (row_text r) j
-begun (Open k j) arg = opened k arg j
-begun Nothing arg = unread
+abbrev pub begun : Option Leaf → (ℕ → ℕ → Out) → Out
+begun (Some (Node r j)) arg = got (row_text r) j
+begun (Some (Open k j)) arg = opened k arg j
+begun None arg = unread
 
 -- the text, if the byte b stands behind it
 abbrev pub closed : List ℕ → ℕ → Text → ℕ → Out

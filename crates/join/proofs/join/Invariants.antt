@@ -1,10 +1,8 @@
 -- The invariant: the runs before the open one are stored, those behind it are still in the lists.
 use Prim.Native.Nat.{◌+◌, ◌-◌}
-use mathlib.Core.Path.{◌≡◌, refl, sym, ◌∙◌}
-use native.Mathlib.Omega.{arith}
+use mathlib.Core.Path.{◌≡◌}
 use lib.ListN.{length}
-use Rattle.join.proofs.laws.Join.{Joining, whole-rest, joining_start, joins_none, place_right, left_any, right_any, open_left, open_right, joins_left, joins_right, joining_meet, joining_full, joining_room, joining_apart}
-use borrow.Author.Rules.{rules}
+use Rattle.join.proofs.laws.Join.{Joining}
 use Rattle.join.proofs.join.Given as goal
 
 abbrev pub invariant-loop-run : goal.invariant-loop-run

@@ -1,5 +1,5 @@
 -- Joining two sets run by run: the run at hand is open, those before it are stored, those behind it are still in the lists.
-use Rattle.std.specs.Prelude.{ℕ, ◌+◌, ◌*◌, ◌≤◌, ◌<◌, max, ◌≡◌, refl, Bool, true, false, ◌||◌, ◌&&◌, List, [], ◌∷◌, ◌++◌, ◌⊎◌, leb, ltb, length, take, drop, get_or, set}
+use Rattle.std.specs.Prelude.{ℕ, ◌+◌, ◌*◌, ◌≤◌, ◌<◌, max, ◌≡◌, refl, Bool, true, false, ◌||◌, ◌&&◌, List, [], ◌∷◌, ◌++◌, ◌⊎◌, leb, ltb, length, take, drop, get_or, set, Result, Ok, Err}
 use Rattle.std.proofs.Common.{arith, sym, ap, ap₂, subst, ◌∙◌, true≢false, inl, inr, ⊎_elim, length-append, length-set, length-take-le, get_or-set_same, le-leb, lt-ltb, le-ltb, ltb-true, leb-true}
 use Rattle.std.proofs.Math.Decide.{dec_lt}
 use Rattle.std.proofs.lemmas.Bool.{false≢true, lt-leb}
@@ -16,7 +16,7 @@ use Rattle.runs.proofs.laws.Runs.{cuts-count, fewer_below}
 use Rattle.runs.proofs.laws.Set.{holds_makes, nothing-held}
 use Rattle.runs.proofs.laws.Added.{put_two, grown_behind}
 use Rattle.join.specs.declared.Head.{Head}
-use Rattle.join.specs.declared.Joined.{Joined}
+use Rattle.runs.specs.declared.TooManyRuns.{TooManyRuns}
 
 -- ---- the run that begins first
 
@@ -115,7 +115,7 @@ module _ (a : List ℕ) (i : ℕ) (b : List ℕ) (j : ℕ) (wa : Rest 0 a i) (wb
 
 -- ---- the joining
 
-joins_ext : (f g : ℕ → Bool) (words : List ℕ) (r : Joined) → ((v : ℕ) → f v ≡ g v) → Joins f words r → Joins g words r
+joins_ext : (f g : ℕ → Bool) (words : List ℕ) (r : Result ℕ TooManyRuns) → ((v : ℕ) → f v ≡ g v) → Joins f words r → Joins g words r
 joins_ext f g words r e w = subst (λ (h : ℕ → Bool). Joins h words r) (λ i v. e v i) w
 
 -- the first n runs are stored in the words, the run is open, and the others are left in the lists
@@ -154,13 +154,13 @@ module _ (a b words : List ℕ) (size : length words ≡ slot_words) where
   }
 
   -- both lists are empty
-  pub joins_none : length a + length b ≡ 0 → Joins (λ v. inside a v || inside b v) (set words (2 * most_runs) 0) (record { over = false; stores = 0 })
+  pub joins_none : length a + length b ≡ 0 → Joins (λ v. inside a v || inside b v) (set words (2 * most_runs) 0) (Ok 0)
   joins_none e =
       let m = nothing-held (set words (2 * most_runs) 0) (length-set words (2 * most_runs) 0 ∙ size) (get_or-set_same words (2 * most_runs) 0 0 (omega arith)) in
       let f : (v : ℕ) → (inside a v || inside b v) ≡ false = λ v. ap₂ (λ (x y : List ℕ). inside x v || inside y v) (nil a (omega arith)) (nil b (omega arith)) ∙ ap₂ ◌||◌ (none v) (none v) in
       record {
         makes = holds_makes (λ v. inside a v || inside b v) _ (record { valid = m.valid; members = λ v h. m.members v h ∙ sym (f v) });
-        stores = λ z. let c = cuts-count (λ v. inside a v || inside b v) [] nil_canonical (λ v h. none v ∙ sym (f v)) in omega arith;
+        stores = let c = cuts-count (λ v. inside a v || inside b v) [] nil_canonical (λ v h. none v ∙ sym (f v)) in omega arith;
       }
     where
       nil : (l : List ℕ) → length l ≡ 0 → l ≡ []
@@ -225,10 +225,10 @@ module _ (a b words : List ℕ) (n : ℕ) (r : Head) (w : Joining a b words n r)
   abbrev held_so_far : ℕ → Bool → Bool
   held_so_far v x = inside stored_cuts v || (within r.low r.end v || x)
 
-  pub joins_right : length a ≤ r.i → (o : List ℕ) (j : Joined) → Joins (opened words n r.low r.end b r.j) o j → Joins f o j
+  pub joins_right : length a ≤ r.i → (o : List ℕ) (j : Result ℕ TooManyRuns) → Joins (opened words n r.low r.end b r.j) o j → Joins f o j
   joins_right h o j = joins_ext _ f o j (λ v. sym (w.members v ∙ ap (λ (x : Bool). held_so_far v (x || inside (drop r.j b) v)) (rest_none a r.i (omega (arith, place_left)) v)))
 
-  pub joins_left : r.j ≡ length b → (o : List ℕ) (j : Joined) → Joins (opened words n r.low r.end a r.i) o j → Joins f o j
+  pub joins_left : r.j ≡ length b → (o : List ℕ) (j : Result ℕ TooManyRuns) → Joins (opened words n r.low r.end a r.i) o j → Joins f o j
   joins_left h o j = joins_ext _ f o j (λ v. sym (w.members v ∙ ap (λ (x : Bool). held_so_far v (inside (drop r.i a) v || x)) (rest_none b r.j h v) ∙ ap (held_so_far v) (or_false (inside (drop r.i a) v))))
     where
       or_false : (x : Bool) → (x || false) ≡ x
@@ -269,10 +269,10 @@ module _ (a b words : List ℕ) (n : ℕ) (r : Head) (w : Joining a b words n r)
       part v = ltb v q.low && f v
 
       -- there is no room for it: the part of f below the next run has too many runs already
-      pub joining_full : n ≡ most_runs → (k : ℕ) → Joins f words (record { over = true; stores = k })
-      joining_full e k = record {
+      pub joining_full : n ≡ most_runs → {y : TooManyRuns} → Joins f words (Err y)
+      joining_full e = record {
         makes = record { flag = sym (lt-ltb most_runs (run_count f) (omega (arith, closed-length, cuts-count part closed closed_canonical part-members, fewer_below f q.low))); holds = λ z. absurd (true≢false z) };
-        stores = λ z. absurd (true≢false z);
+        stores = tt;
       }
         where
           part-members : (v : ℕ) → v < axis → inside closed v ≡ part v
@@ -318,6 +318,6 @@ module _ (a b words : List ℕ) (n : ℕ) (r : Head) (w : Joining a b words n r)
           }
 
 -- the same lists
-pub joins_lists : (words : List ℕ) (r : Joined) {a a' b b' : List ℕ} → a ≡ a' → b ≡ b'
+pub joins_lists : (words : List ℕ) (r : Result ℕ TooManyRuns) {a a' b b' : List ℕ} → a ≡ a' → b ≡ b'
     → Joins (λ v. inside a v || inside b v) words r → Joins (λ v. inside a' v || inside b' v) words r
 joins_lists words r e g w = subst (λ (h : ℕ → Bool). Joins h words r) (λ i v. inside (e i) v || inside (g i) v) w

@@ -1,6 +1,6 @@
 -- What is left of one list when the other is at its end: the runs that meet the open one are joined with it, the others are stored as they are.
-use Rattle.std.specs.Prelude.{ℕ, ◌+◌, ◌-◌, ◌*◌, ◌≤◌, ◌<◌, max, ◌≡◌, refl, Bool, true, false, ◌||◌, List, [], ◌∷◌, ◌++◌, leb, ltb, length, take, drop, get_or, set}
-use Rattle.std.proofs.Common.{arith, sym, ap, ap₂, subst, ◌∙◌, true≢false, append_assoc, append-nil, inl, inr, length-append, length-set, length-drop, length-take-le, get_or-set_same, ltb-true}
+use Rattle.std.specs.Prelude.{ℕ, ◌+◌, ◌-◌, ◌*◌, ◌≤◌, ◌<◌, max, ◌≡◌, refl, Bool, true, false, ◌||◌, List, [], ◌∷◌, ◌++◌, leb, ltb, length, take, drop, get_or, set, Ok, Err}
+use Rattle.std.proofs.Common.{arith, sym, ap, ap₂, subst, ◌∙◌, append_assoc, append-nil, inl, inr, length-append, length-set, length-drop, length-take-le, get_or-set_same, ltb-true}
 use Rattle.std.proofs.Math.Seq.{drop-length}
 use Rattle.std.proofs.lemmas.List.{take-set-le}
 use Rattle.number.specs.Axis.{axis}
@@ -16,6 +16,7 @@ use Rattle.join.specs.inner.Join.{Rest, within, Reached, with_run, Appended, Ope
 use Rattle.join.proofs.laws.Join.{run_split, one-run, whole_runs, run_on_axis, behind, split, first_cut, rest_from, or_assoc, rest_weak, Joining, right_any, place_right, open_right, joins_right}
 use Rattle.join.specs.declared.Head.{Head}
 use Rattle.join.specs.declared.Reach.{Reach}
+use Rattle.runs.specs.declared.TooManyRuns.{TooManyRuns}
 
 -- ---- how far the open run goes
 
@@ -149,14 +150,14 @@ module _ (words : List ℕ) (n low end : ℕ) (l : List ℕ) (i : ℕ) (w : Open
   all-length =
       length-append closed (drop r.i l) ∙ ap₂ ◌+◌ (length-append (take (2 * n) words) (low ∷ r.end ∷ []) ∙ ap (λ (k : ℕ). k + 2) (length-take-le (2 * n) words (omega (arith, w.size, w.few)))) (length-drop r.i l)
 
-  pub finish_over : 2 * most_runs < 2 * n + 2 + (length l - r.i) → (k : ℕ) → Joins f words (record { over = true; stores = k })
-  finish_over h k = record { makes = too_many f cuts words ordered.0 (λ v g. all-members v) (omega (arith, all-length)); stores = λ z. absurd (true≢false z) }
+  pub finish_over : 2 * most_runs < 2 * n + 2 + (length l - r.i) → {x : TooManyRuns} → Joins f words (Err x)
+  finish_over h = record { makes = too_many f cuts words ordered.0 (λ v g. all-members v) (omega (arith, all-length)); stores = tt }
 
   pub run_size : (o : List ℕ) → o ≡ with_run words n low r.end → length o ≡ slot_words
   run_size o e = ap length e ∙ length-set (set words (2 * n) low) (2 * n + 1) r.end ∙ length-set words (2 * n) low ∙ w.size
 
   pub finish_all : (all : ℕ) → all ≡ 2 * n + 2 + (length l - r.i) → all ≤ 2 * most_runs → (o : List ℕ) → o ≡ with_run words n low r.end
-      → (p : List ℕ) (k : ℕ) → Appended l r.i o (n + 1) p k → Joins f (set p (2 * most_runs) all) (record { over = false; stores = k })
+      → (p : List ℕ) (k : ℕ) → Appended l r.i o (n + 1) p k → Joins f (set p (2 * most_runs) all) (Ok k)
   finish_all all is few o e p k x =
       let two : 2 * (n + 1) ≡ 2 * n + 2 = omega arith in
       let s : length p ≡ slot_words = x.size ∙ run_size o e in
@@ -169,12 +170,12 @@ module _ (words : List ℕ) (n low end : ℕ) (l : List ℕ) (i : ℕ) (w : Open
             (ap (λ (m : ℕ). take m (set p (2 * most_runs) all)) (all-length ∙ sym is) ∙ take-set-le all p (2 * most_runs) all few
             ∙ ap (λ (m : ℕ). take m p) (sym c) ∙ x.cuts ∙ ap (λ (m : List ℕ). m ++ drop r.i l) t)
             f (λ v h. all-members v));
-        stores = λ z. omega (arith, all-length, cuts-count f cuts ordered.0 (λ v h. all-members v));
+        stores = omega (arith, all-length, cuts-count f cuts ordered.0 (λ v h. all-members v));
       }
 
 -- nothing is left: the open run is the last
 pub joins_last : (a b words : List ℕ) (n : ℕ) (r : Head) (w : Joining a b words n r) → length a ≤ r.i → length b ≤ r.j → n < most_runs
-    → (o : List ℕ) → o ≡ with_run words n r.low r.end → (k : ℕ) → k ≡ n + 1 → Joins (λ v. inside a v || inside b v) (set o (2 * most_runs) (2 * n + 2)) (record { over = false; stores = k })
+    → (o : List ℕ) → o ≡ with_run words n r.low r.end → (k : ℕ) → k ≡ n + 1 → Joins (λ v. inside a v || inside b v) (set o (2 * most_runs) (2 * n + 2)) (Ok k)
 joins_last a b words n r w ha hb few o e k is =
     let q = reached-end b r.j r.end r.j r.end (reaching_start b r.j r.end (right_any a b words n r w) w.on-axis) hb in
     let x = appended b r.j o (n + 1) r.j (n + 1) o (appending_start b r.j o (n + 1) (right_any a b words n r w)) hb in

@@ -1,14 +1,8 @@
 -- The run that begins first, and the other: they meet, or both are stored.
-use mathlib.Core.Path.{◌∙◌}
 use native.Mathlib.Omega.{arith}
-use lib.ListN.{length-set}
-use Rattle.join.proofs.laws.Join.{whole-rest, rest-any, joining_start, joining_meet, joining_apart}
+use Rattle.join.proofs.laws.Join.{rest-any, joining_start, joining_meet, joining_apart}
 use Rattle.join.proofs.laws.Remainder.{joins_last}
-use borrow.Author.Rules.{rules}
 use Rattle.join.proofs.of_two.Goals as goal
-
-pub next-run-requires : goal.next-run-requires
-next-run-requires c = let s = c in (whole-rest s.args.a.now s.requires.0, whole-rest s.args.b.now s.requires.1, omega (arith, s.requires.2, s.requires.3), omega (arith, s.requires.2), omega (arith, s.requires.3))
 
 pub next-r-requires : goal.next-r-requires
 next-r-requires c =
@@ -18,9 +12,6 @@ pub returns-then-r-run : goal.returns-then-r-run
 returns-then-r-run c =
     let w = joining_start c.args.a.now c.args.b.now c.args.set.now c.requires.4 _ c.next-run.ensures in
     joins_last c.args.a.now c.args.b.now c.args.set.now 0 _ (joining_meet c.args.a.now c.args.b.now c.args.set.now 0 _ w _ c.next-r.ensures c.if-r-run.true _ c.greater.ensures) (omega (arith, c.requires.2, c.requires.3, c.next-r.ensures.step, c.next-run.ensures.step, c.next-r.ensures.left.place, c.next-r.ensures.right.place)) (omega (arith, c.requires.2, c.requires.3, c.next-r.ensures.step, c.next-run.ensures.step, c.next-r.ensures.left.place, c.next-r.ensures.right.place)) (omega arith) _ c.store.ensures.0 _ c.store.ensures.1
-
-pub shape_of-set : goal.shape_of-set
-shape_of-set c = let s = c in simp length-set (c.set-3-1.given ∙ c.set-2-1.given)
 
 pub returns : goal.returns
 returns c =

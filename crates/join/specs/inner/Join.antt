@@ -1,11 +1,12 @@
 -- What the functions of the joining promise.
-use Rattle.std.specs.Prelude.{ℕ, ◌+◌, ◌*◌, ◌≤◌, ◌<◌, ◌≡◌, Bool, true, false, ◌||◌, ◌&&◌, List, ◌++◌, leb, ltb, length, take, drop, set}
+use Rattle.std.specs.Prelude.{ℕ, ◌+◌, ◌*◌, ◌≤◌, ◌<◌, ◌≡◌, Bool, true, false, ◌||◌, ◌&&◌, List, ◌++◌, leb, ltb, length, take, drop, set, Result}
+use Rattle.std.specs.Result.{IfOk}
 use Rattle.number.specs.Axis.{axis}
 use Rattle.runs.specs.Runs.{most_runs, run_count}
 use Rattle.runs.specs.Set.{slot_words, inside, Ascending, Canonical, Makes}
 use Rattle.join.specs.declared.Head.{Head}
 use Rattle.join.specs.declared.Reach.{Reach}
-use Rattle.join.specs.declared.Joined.{Joined}
+use Rattle.runs.specs.declared.TooManyRuns.{TooManyRuns}
 
 -- the cuts from place i on are whole runs, none below `low`
 pub record Rest (low : ℕ) (cuts : List ℕ) (i : ℕ) : Type 0 where
@@ -59,6 +60,6 @@ abbrev pub opened : List ℕ → ℕ → ℕ → ℕ → List ℕ → ℕ → �
 opened words n low end l i v = inside (take (2 * n) words) v || (within low end v || inside (drop i l) v)
 
 -- THE JOINING: the set with the members f, unless it has too many runs; AS MANY STORES AS IT HAS RUNS
-pub record Joins (f : ℕ → Bool) (words : List ℕ) (r : Joined) : Type 0 where
-  pub makes : Makes f words r.over
-  pub stores : r.over ≡ false → r.stores ≡ run_count f
+pub record Joins (f : ℕ → Bool) (words : List ℕ) (r : Result ℕ TooManyRuns) : Type 0 where
+  pub makes : Makes f words r
+  pub stores : IfOk r (λ stores. stores ≡ run_count f)

@@ -1,24 +1,25 @@
 -- `lab::lab_question` meets its contract: refused, or answered as a text that was read.
 use native.Mathlib.Omega.{arith}
 use mathlib.Core.Path.{refl}
-use borrow.Author.Rules.{rules}
+use Rattle.std.proofs.lemmas.Result.{err_from_is_err_and}
 use Rattle.question.proofs.laws.Call.{prepared_ready}
 use Rattle.lab.proofs.laws.Call.{question_refused, plainly, question_answered}
 use Rattle.lab.proofs.lab_question.Goals as goal
 
-pub prepare-prepared-requires : goal.prepare-prepared-requires
-prepare-prepared-requires c = omega arith
+pub prepare-requires : goal.prepare-requires
+prepare-requires c = omega arith
 
 pub answer-requires : goal.answer-requires
 answer-requires c =
-    prepared_ready c.args.rec.now c.args.text.now _ _ _ (plainly c.args.rec.now c.args.marks.now c.args.text.now _ _ c.prepare-prepared.ensures _ c.in-Nodes.is) refl
-    (omega (arith, c.prepare-prepared.auto.table))
+    prepared_ready c.args.rec.now c.args.text.now _ _ _ (plainly c.args.rec.now c.args.marks.now c.args.text.now _ _ c.prepare.ensures _ c.in_ok-count.was) refl
+    (omega (arith, c.prepare.auto.table))
 
-pub returns-in-Refused : goal.returns-in-Refused
-returns-in-Refused c =
-    question_refused c.args.rec.now c.args.marks.now c.args.text.now _ _ c.prepare-prepared.ensures _ c.in-Refused.is c.args.out.now
+pub returns-in_err-count : goal.returns-in_err-count
+returns-in_err-count c =
+    let p = err_from_is_err_and c.from_residual.result c.from_residual.ensures.1 in
+    rw (p.1, p.2) (question_refused c.args.rec.now c.args.marks.now c.args.text.now _ _ c.prepare.ensures _ c.in_err-count.was c.args.out.now)
 
-pub returns-in-Nodes : goal.returns-in-Nodes
-returns-in-Nodes c =
-    question_answered c.args.rec.now c.args.marks.now c.args.text.now _ _ c.prepare-prepared.ensures _
-    c.in-Nodes.is c.args.out.now _ _ c.answer.ensures
+pub returns : goal.returns
+returns c =
+    question_answered c.args.rec.now c.args.marks.now c.args.text.now _ _ c.prepare.ensures _
+    c.in_ok-count.was c.args.out.now _ _ c.answer.ensures

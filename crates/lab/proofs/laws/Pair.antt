@@ -1,20 +1,16 @@
 -- The laboratory's pair call, line by line.
-use Rattle.std.specs.Prelude.{ℕ, ◌/◌, ◌≡◌, refl, List, [], ◌∷◌, ◌++◌, ℤ, length}
+use Rattle.std.specs.Prelude.{ℕ, ◌/◌, ◌≡◌, refl, List, [], ◌∷◌, ◌++◌, ℤ, length, Result, Ok, Err, Some, None}
 use Rattle.std.proofs.Math.Path.{sym, ap}
 use Rattle.std.proofs.Common.{◌∙◌, eq-eqb, ne_eqb}
-use Rattle.refusal.specs.Outcome.{refused, judged, NoneMeets}
+use Rattle.refusal.specs.Outcome.{refused, judged, NoneMeets, reported}
 use Rattle.refusal.specs.Numbers.{number_of, place_of}
 use Rattle.refusal.specs.declared.Refusal.{Refusal}
 use Rattle.recording.specs.Reading.{curve_of}
 use Rattle.recording.specs.Recording.{records, readings, recording_lines, no_record}
-use Rattle.recording.specs.Output.{check_outcome}
-use Rattle.recording.specs.declared.Checked.{Checked}
-use Rattle.recording.specs.declared.Checked.TheVariants as checked
 use Rattle.recording.proofs.laws.Outcome.{judged_pass, judged_skip, judged-first, refusal_stands}
 use Rattle.recording.proofs.laws.Acceptance.{check_accepts}
 use Rattle.recording.proofs.laws.Record.{length-records}
 use Rattle.targets.specs.Target.{Placed, bad_target}
-use Rattle.targets.specs.declared.OnAxis.TheVariants.{Index, Off}
 use Rattle.pair.specs.Pair.{first_pair, too_many_tops, pair_of}
 use Rattle.lab.specs.Lab.{curve_line, lab_pair_of}
 
@@ -26,12 +22,12 @@ other_curve bytes c g h =
 
 -- ---- the pair call on B
 
-module _ (bytes : List ℕ) (g : ℤ) (r : Checked) where
-  pub recording_refused : (x : Refusal) → check_outcome r ≡ judged (recording_lines bytes) (length bytes / 16) → r ≡ checked.Refused x → refused (number_of x) (place_of x) ≡ lab_pair_of bytes 1 g
+module _ (bytes : List ℕ) (g : ℤ) (r : Result ℕ Refusal) where
+  pub recording_refused : (x : Refusal) → reported r ≡ judged (recording_lines bytes) (length bytes / 16) → r ≡ Err x → refused (number_of x) (place_of x) ≡ lab_pair_of bytes 1 g
   unfolding lab_pair_of
-  recording_refused x e q = sym (refusal_stands (recording_lines bytes) _ (length bytes / 16) _ (number_of x) (place_of x) (sym e ∙ ap check_outcome q))
+  recording_refused x e q = sym (refusal_stands (recording_lines bytes) _ (length bytes / 16) _ (number_of x) (place_of x) (sym e ∙ ap reported q))
 
-  module _ (n : ℕ) (e : check_outcome r ≡ judged (recording_lines bytes) (length bytes / 16)) (q : r ≡ checked.Records n) where
+  module _ (n : ℕ) (e : reported r ≡ judged (recording_lines bytes) (length bytes / 16)) (q : r ≡ Ok n) where
     count : length (records bytes) ≡ n
     count = length-records bytes ∙ sym (check_accepts bytes r n e q).1
 
@@ -43,12 +39,12 @@ module _ (bytes : List ℕ) (g : ℤ) (r : Checked) where
       passed : NoneMeets (no_record bytes ∷ [])
       passed = (ne_eqb (length (records bytes)) 0 (λ z. some (sym count ∙ z)), tt)
 
-      pub target_off : Placed g Off → refused 12 0 ≡ lab_pair_of bytes 1 g
+      pub target_off : Placed g None → refused 12 0 ≡ lab_pair_of bytes 1 g
       unfolding lab_pair_of
       target_off h =
           sym (judged_pass (recording_lines bytes) _ _ (check_accepts bytes r n e q).0 ∙ judged_pass (no_record bytes ∷ []) _ _ passed ∙ judged-first (bad_target 1 g) _ _ h)
 
-      pub always_b : (i : ℕ) → Placed g (Index i) → refused 14 0 ≡ lab_pair_of bytes 1 g
+      pub always_b : (i : ℕ) → Placed g (Some i) → refused 14 0 ≡ lab_pair_of bytes 1 g
       unfolding lab_pair_of
       always_b i h =
           sym (judged_pass (recording_lines bytes) _ _ (check_accepts bytes r n e q).0 ∙ judged_pass (no_record bytes ∷ []) _ _ passed ∙ judged_pass (bad_target 1 g ∷ []) _ _ (h.0, tt)

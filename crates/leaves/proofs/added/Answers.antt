@@ -1,5 +1,5 @@
 -- The times of the additions that the row asks for.
-use Rattle.std.proofs.Common.{sym, ap, rules}
+use Rattle.std.proofs.Common.{sym, ap}
 use Rattle.grammar.specs.Syntax.{Text}
 use Rattle.grammar.specs.inner.Kinds.{DOSE}
 use Rattle.runs.proofs.laws.Set.{makes_of}

@@ -1,5 +1,5 @@
 -- By a field, or one test for all numbers.
-use Rattle.std.proofs.Common.{sym, ◌∙◌, arith, rules}
+use Rattle.std.proofs.Common.{sym, ◌∙◌, arith}
 use Rattle.grammar.specs.Syntax.{Text}
 use Rattle.grammar.specs.inner.Kinds.{COMPARE-V}
 use Rattle.runs.proofs.laws.Set.{holds_ext}

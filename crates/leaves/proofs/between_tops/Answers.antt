@@ -1,5 +1,5 @@
 -- By the kind of the row.
-use Rattle.std.proofs.Common.{ℕ, List, subst, rules}
+use Rattle.std.proofs.Common.{ℕ, List, subst}
 use Rattle.recording.specs.Reading.{Curve}
 use Rattle.grammar.specs.Syntax as asks
 use Rattle.grammar.specs.Syntax.{Text}
@@ -7,12 +7,13 @@ use Rattle.grammar.specs.inner.Kinds.{GAPS, STEPS, LAG}
 use Rattle.meaning.specs.inner.Coded.{Coded, coded}
 use Rattle.meaning.specs.inner.Truth.{val, truth, many_tops, asks_too_many, of_listed}
 use Rattle.leaves.specs.inner.Differing.{Differs}
-use Rattle.leaves.specs.declared.Differing.{Differing}
+use Rattle.std.specs.Prelude.{Result}
+use Rattle.leaves.specs.declared.TooMany.{TooMany}
 use Rattle.leaves.proofs.laws.Leaf.{by_kind, past, just, under}
 use Rattle.leaves.proofs.between_tops.Goals as goal
 
 -- what is promised of a text
-abbrev Promised : List Coded → ℕ → List ℕ → Differing → Text → Type 0
+abbrev Promised : List Coded → ℕ → List ℕ → Result (Unit {0}) TooMany → Text → Type 0
 Promised r i words d p = Differs (of_listed (asks_too_many r) p) (λ v. val r v p i) words d
 
 pub returns-then-kind-eq-LAG : goal.returns-then-kind-eq-LAG

@@ -1,5 +1,5 @@
 -- By the kind of the row.
-use Rattle.std.proofs.Common.{sym, ap, ◌∙◌, rules}
+use Rattle.std.proofs.Common.{sym, ap, ◌∙◌}
 use Rattle.recording.specs.Reading.{Curve}
 use Rattle.grammar.specs.Syntax.{listed, peaks, dips}
 use Rattle.grammar.specs.inner.Kinds.{PEAKS, DIPS, CROSS, CROSSUP}

@@ -1,5 +1,5 @@
 -- The times of the event that the row asks for.
-use Rattle.std.proofs.Common.{sym, rules}
+use Rattle.std.proofs.Common.{sym}
 use Rattle.grammar.specs.Syntax.{Text}
 use Rattle.runs.proofs.laws.Set.{makes_of}
 use Rattle.meaning.specs.inner.Coded.{coded}

@@ -1,5 +1,5 @@
 -- Spans: rays and points of the axis, and what a relation to a number selects.
-use Rattle.std.specs.Prelude.{◌≡◌, ℕ, ◌+◌, ◌-◌, ◌<◌, ◌≤◌, Bool, true, false, ◌&&◌, eqb, ltb, leb, List, nat_le, nat_lt}
+use Rattle.std.specs.Prelude.{◌≡◌, ℕ, ◌+◌, ◌-◌, ◌<◌, ◌≤◌, Bool, true, ◌&&◌, eqb, ltb, leb, List, nat_le, nat_lt, Ok}
 use Rattle.std.proofs.Common.{arith, ◌∙◌, le-leb, leb-true, eqb-true, eq-eqb, ltb-true, lt-ltb}
 use Rattle.number.specs.Axis.{axis}
 use Rattle.runs.specs.Set.{Holds, Makes}
@@ -54,5 +54,5 @@ spans_low = spans_by (λ v. ltb v 0) 1 0 (omega arith) (λ v g e. absurd (none v
     none v h = omega arith
 
 -- THE SET OF A SPAN
-pub spans_make : (f : ℕ → Bool) (s : Span) (words : List ℕ) → Spans f s → Holds (λ v. nat_le s.low v && nat_le v s.high) words → Makes f words false
+pub spans_make : (f : ℕ → Bool) (s : Span) (words : List ℕ) → Spans f s → Holds (λ v. nat_le s.low v && nat_le v s.high) words → {A : Type 0} {x : A} → Makes f words (Ok x)
 spans_make f s words w h = holds_makes f words (holds_ext (λ v. nat_le s.low v && nat_le v s.high) f words w.members h)

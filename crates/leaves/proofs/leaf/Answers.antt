@@ -1,5 +1,5 @@
 -- An atom, one run by its ends, else the times of events or additions, or the differences between tops.
-use Rattle.std.proofs.Common.{ℕ, Bool, List, rules}
+use Rattle.std.proofs.Common.{ℕ, Bool, List}
 use Rattle.grammar.specs.declared.Row.{Row}
 use Rattle.runs.proofs.laws.Set.{holds_makes}
 use Rattle.meaning.specs.inner.Truth.{val}

@@ -1,13 +1,11 @@
 -- After i entries, k of them reach the level.
 use mathlib.Core.Bool.{Bool}
 use mathlib.Core.List.{List}
-use Prim.Native.Nat.{ℕ, ◌-◌}
-use native.Mathlib.Omega.{arith}
+use Prim.Native.Nat.{ℕ}
 use Rattle.number.specs.Axis.{whole}
 use Rattle.recording.specs.Reading.{curve_of}
 use Rattle.listing.specs.Listing.{entry_at, said_to_reach}
-use Rattle.listing.proofs.laws.Listing.{Counting, counting_start, counting_turn, counting_end, count_few}
-use borrow.Author.Rules.{rules}
+use Rattle.listing.proofs.laws.Listing.{Counting}
 use Rattle.listing.proofs.count_entries.Given as goal
 
 abbrev pub says : List ℕ → ℕ → ℕ → ℕ → Bool
@@ -15,6 +13,3 @@ says summary curve index i = said_to_reach (curve_of curve) (whole index) (entry
 
 abbrev pub invariant-loop-i : goal.invariant-loop-i
 invariant-loop-i l = Counting (says l.summary l.curve l.index) l.n l.i l.k
-
-abbrev pub decreases-loop-i : goal.decreases-loop-i
-decreases-loop-i l = l.n - l.i

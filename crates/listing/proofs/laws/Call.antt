@@ -1,5 +1,6 @@
 -- The find call, line by line.
-use Rattle.std.specs.Prelude.{ℕ, ◌*◌, ◌%◌, ◌<◌, ◌≤◌, ◌≡◌, true, false, List, [], ◌∷◌, ◌++◌, ltb, eqb, ℤ}
+use Rattle.refusal.specs.declared.Refusal.{Refusal}
+use Rattle.std.specs.Prelude.{ℕ, ◌*◌, ◌%◌, ◌<◌, ◌≤◌, ◌≡◌, true, false, List, [], ◌∷◌, ◌++◌, ltb, eqb, ℤ, Result, Ok, Err, Some, None}
 use native.Mathlib.Omega.{arith}
 use Rattle.std.proofs.Math.Path.{sym, ap, ap₂, subst}
 use Rattle.std.proofs.Common.{◌∙◌, lt-ltb, le-ltb, ltb-false, eq-eqb, ne_eqb}
@@ -14,10 +15,7 @@ use Rattle.refusal.specs.declared.Refusal.TheVariants.{ShortOutput, BadTarget, B
 use Rattle.recording.specs.Reading.{Curve, curve_of}
 use Rattle.recording.specs.Output.{Answers, output_line}
 use Rattle.recording.proofs.laws.Outcome.{judged-first, judged_pass, judged_none, answers_refused, answers_written}
-use Rattle.recording.specs.declared.Written.{Written}
-use Rattle.recording.specs.declared.Written.TheVariants.{Bytes, Refused}
 use Rattle.targets.specs.Target.{off_axis, Placed, bad_target}
-use Rattle.targets.specs.declared.OnAxis.TheVariants.{Index, Off}
 use Rattle.entry.specs.Entry.{entry_bytes}
 use Rattle.listing.specs.Listing.{most_entries, entry_count, entry_at, said_to_reach, numbers_to, listing}
 use Rattle.listing.proofs.laws.Listing.{count_few}
@@ -41,14 +39,14 @@ module _ (summary : List ℕ) (curve : ℕ) (out : List ℕ) where
 
     module _ (z : ℤ) (k : ℕ) (counted : k ≡ length (numbers_to (curve_of curve) z summary n)) where
       -- 10
-      pub of_short : length out < 4 * k → Answers (written z) out (Refused ShortOutput) out
+      pub of_short : length out < 4 * k → Answers (written z) out (Err ShortOutput) out
       of_short h =
           answers_refused (written z) out ShortOutput
           (judged-first (output_line (length out) (listed z)) [] (listed z) (lt-ltb (length out) (length (listed z)) (omega (arith, size_listed z k counted))))
 
       -- the numbers are written
       pub of_written : 4 * k ≤ length out → (new : List ℕ)
-          → new ≡ words_bytes (numbers_to (curve_of curve) z summary n) ++ drop (4 * length (numbers_to (curve_of curve) z summary n)) out → Answers (written z) out (Bytes (4 * k)) new
+          → new ≡ words_bytes (numbers_to (curve_of curve) z summary n) ++ drop (4 * length (numbers_to (curve_of curve) z summary n)) out → Answers (written z) out (Ok (4 * k)) new
       unfolding listing
       of_written h new w =
           let d : n ≡ entry_count summary = omega arith in
@@ -61,36 +59,36 @@ module _ (summary : List ℕ) (curve : ℕ) (out : List ℕ) where
     judged_level = judged (level_lines summary curve level (length out)) (listed level)
 
     -- 12
-    bad : (bad_target curve level).meets ≡ true → Answers judged_level out (Refused BadTarget) out
+    bad : (bad_target curve level).meets ≡ true → Answers judged_level out (Err BadTarget) out
     bad m = answers_refused judged_level out BadTarget (judged-first (bad_target curve level) (output_line (length out) (listed level) ∷ []) (listed level) m)
 
-    pub of_no_curve : 1 < curve → Answers judged_level out (Refused BadTarget) out
+    pub of_no_curve : 1 < curve → Answers judged_level out (Err BadTarget) out
     of_no_curve h = bad (or_left (ltb 1 curve) (off_axis level) (lt-ltb 1 curve h))
 
-    pub of_off_axis : Placed level Off → Answers judged_level out (Refused BadTarget) out
+    pub of_off_axis : Placed level None → Answers judged_level out (Err BadTarget) out
     of_off_axis h = bad (or_right (ltb 1 curve) (off_axis level) h)
 
     -- on the axis
-    pub of_index : curve ≤ 1 → (index : ℕ) → Placed level (Index index) → (r : Written) (new : List ℕ) → Answers (written (whole index)) out r new → Answers judged_level out r new
+    pub of_index : curve ≤ 1 → (index : ℕ) → Placed level (Some index) → (r : Result ℕ Refusal) (new : List ℕ) → Answers (written (whole index)) out r new → Answers judged_level out r new
     of_index h index p r new w =
         subst (λ (o : Outcome (List ℕ)). Answers o out r new)
         (ap written p.2 ∙ sym (judged_pass (bad_target curve level ∷ []) (output_line (length out) (listed level) ∷ []) (listed level) (or_none (le-ltb 1 curve h) p.0, tt))) w
 
     -- 20
-    bad-summary : (bad_summary summary).meets ≡ true → Answers (find_of summary curve level (length out)) out (Refused BadSummary) out
+    bad-summary : (bad_summary summary).meets ≡ true → Answers (find_of summary curve level (length out)) out (Err BadSummary) out
     unfolding find_of
     bad-summary m =
         answers_refused (find_of summary curve level (length out)) out BadSummary
         (judged-first (bad_summary summary) (level_lines summary curve level (length out)) (listed level) m)
 
-    pub of_partial : (length summary % entry_bytes ≡ 0 → ⊥) → Answers (find_of summary curve level (length out)) out (Refused BadSummary) out
+    pub of_partial : (length summary % entry_bytes ≡ 0 → ⊥) → Answers (find_of summary curve level (length out)) out (Err BadSummary) out
     of_partial h = bad-summary (or_left (not (eqb (length summary % entry_bytes) 0)) (ltb most_entries (entry_count summary)) (ap not (ne_eqb (length summary % entry_bytes) 0 h)))
 
-    pub of_many : most_entries < entry_count summary → Answers (find_of summary curve level (length out)) out (Refused BadSummary) out
+    pub of_many : most_entries < entry_count summary → Answers (find_of summary curve level (length out)) out (Err BadSummary) out
     of_many h = bad-summary (or_right (not (eqb (length summary % entry_bytes) 0)) (ltb most_entries (entry_count summary)) (lt-ltb most_entries (entry_count summary) h))
 
     -- a summary in entries, few enough
-    pub of_entries : length summary % entry_bytes ≡ 0 → entry_count summary ≤ most_entries → (r : Written) (new : List ℕ) → Answers judged_level out r new
+    pub of_entries : length summary % entry_bytes ≡ 0 → entry_count summary ≤ most_entries → (r : Result ℕ Refusal) (new : List ℕ) → Answers judged_level out r new
         → Answers (find_of summary curve level (length out)) out r new
     unfolding find_of
     of_entries e h r new w =

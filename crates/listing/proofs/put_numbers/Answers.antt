@@ -1,19 +1,9 @@
 -- After i entries, the numbers of those that reach the level are written.
-use mathlib.Core.Bool.{Bool}
-use mathlib.Core.List.{List}
-use Prim.Native.Nat.{ℕ, ◌-◌}
 use native.Mathlib.Omega.{arith}
-use Rattle.number.specs.Axis.{whole}
-use Rattle.recording.specs.Reading.{curve_of}
-use Rattle.listing.specs.Listing.{entry_at, said_to_reach}
-use Rattle.listing.proofs.laws.Listing.{Writing, writing_start, writing-room, writing-turn, writing-end, counting_end, count_few}
+use Rattle.listing.proofs.laws.Listing.{writing-room, writing-turn, writing-end, counting_end, count_few}
 use borrow.Author.Rules.{rules}
 use Rattle.listing.proofs.put_numbers.Invariants.{says}
 use Rattle.listing.proofs.put_numbers.Goals as goal
-
-pub loop-i-init : goal.loop-i-init
-loop-i-init c =
-    writing_start (says c.args.summary.now c.args.curve c.args.index) c.args.n c.args.out.now
 
 pub put_number-k-requires : goal.put_number-k-requires
 put_number-k-requires c =

@@ -1,13 +1,11 @@
 -- After i entries, the numbers of those that reach the level are written.
 use mathlib.Core.Bool.{Bool}
 use mathlib.Core.List.{List}
-use Prim.Native.Nat.{ℕ, ◌-◌}
-use native.Mathlib.Omega.{arith}
+use Prim.Native.Nat.{ℕ}
 use Rattle.number.specs.Axis.{whole}
 use Rattle.recording.specs.Reading.{curve_of}
 use Rattle.listing.specs.Listing.{entry_at, said_to_reach}
-use Rattle.listing.proofs.laws.Listing.{Writing, writing_start, writing-room, writing-turn, writing-end, counting_end, count_few}
-use borrow.Author.Rules.{rules}
+use Rattle.listing.proofs.laws.Listing.{Writing}
 use Rattle.listing.proofs.put_numbers.Given as goal
 
 abbrev pub says : List ℕ → ℕ → ℕ → ℕ → Bool
@@ -15,6 +13,3 @@ says summary curve index i = said_to_reach (curve_of curve) (whole index) (entry
 
 abbrev pub invariant-loop-i : goal.invariant-loop-i
 invariant-loop-i l = Writing (says l.summary l.curve l.index) l.n l.initial.out l.i l.k l.out
-
-abbrev pub decreases-loop-i : goal.decreases-loop-i
-decreases-loop-i l = l.n - l.i

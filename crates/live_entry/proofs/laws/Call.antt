@@ -1,5 +1,6 @@
 -- The entry of a run, line by line.
-use Rattle.std.specs.Prelude.{ℕ, ◌+◌, ◌-◌, ◌*◌, ◌≤◌, ◌≡◌, true, false, length, take, drop}
+use Rattle.refusal.specs.declared.Refusal.{Refusal}
+use Rattle.std.specs.Prelude.{ℕ, ◌+◌, ◌-◌, ◌*◌, ◌≤◌, ◌≡◌, true, false, length, take, drop, Result, Err}
 use Rattle.std.proofs.Common.{arith, sym, ap, ◌∙◌, subst}
 use mathlib.Core.List.{List, []}
 use Rattle.refusal.specs.Outcome.{Outcome, refused, line, judged}
@@ -7,8 +8,6 @@ use Rattle.refusal.specs.declared.Refusal.TheVariants.{BadMarks}
 use Rattle.recording.specs.Recording.{readings}
 use Rattle.recording.specs.Output.{Answers}
 use Rattle.recording.proofs.laws.Outcome.{judged-first, judged_skip, answers_refused}
-use Rattle.recording.specs.declared.Written.{Written}
-use Rattle.recording.specs.declared.Written.TheVariants.{Refused}
 use Rattle.entry.specs.inner.Reckoned.{reckoned}
 use Rattle.entry.specs.Call.{entry_lines}
 use Rattle.copying.proofs.laws.Put.{length_part}
@@ -50,10 +49,10 @@ module _ (s : List ℕ) where
       let k : at + 16 * n - at ≡ 16 * n = omega arith in
       ap (λ (m : ℕ). length (take m (drop at s))) k ∙ length_part at (16 * n) s h
 
-  pub answers_none : no_state s ≡ true → (out : List ℕ) → Answers (held_entry_of s (length out)) out (Refused BadMarks) out
+  pub answers_none : no_state s ≡ true → (out : List ℕ) → Answers (held_entry_of s (length out)) out (Err BadMarks) out
   answers_none h out = answers_refused (held_entry_of s (length out)) out BadMarks (none_entry h (length out))
 
-  pub answers_held : no_state s ≡ false → (held out : List ℕ) → held ≡ held_in s 0 → (r : Written) (new : List ℕ)
+  pub answers_held : no_state s ≡ false → (held out : List ℕ) → held ≡ held_in s 0 → (r : Result ℕ Refusal) (new : List ℕ)
       → Answers (judged (entry_lines held (length out)) (reckoned (readings held))) out r new → Answers (held_entry_of s (length out)) out r new
   answers_held h held out e r new w =
       subst (λ (o : Outcome (List ℕ)). Answers o out r new)

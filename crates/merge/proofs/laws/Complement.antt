@@ -1,10 +1,14 @@
 -- The complement by cuts: one more or less at either end of the axis, and between them the same.
-use Rattle.std.specs.Prelude.{ℕ, zero, suc, ◌+◌, ◌-◌, ◌*◌, ◌≤◌, ◌<◌, ◌≡◌, refl, Bool, true, false, not, List, [], ◌∷◌, ◌++◌, length, take, drop, get_or, set}
+use Rattle.std.specs.Prelude.{ℕ, zero, suc, ◌+◌, ◌-◌, ◌*◌, ◌≤◌, ◌<◌, ◌≡◌, refl, Bool, true, false, not, List, [], ◌∷◌, ◌++◌, length, take, drop, get_or, set, Ok, Err}
 use Rattle.std.proofs.Common.{arith, sym, ap, ap₂, subst, ◌∙◌, append_assoc, append-nil, ⊎_elim, length-append, length-set, length-drop, length-take-le, get_or-set_same, drop-cons}
 use Rattle.std.proofs.Math.Seq.{take-append_seam, drop-append_seam, take-append-add, get_or-append_seam, set-append_seam}
 use Rattle.std.proofs.lemmas.List.{take-set-le}
+use Rattle.std.proofs.lemmas.Bool.{eq-eqb, ne_eqb}
+use Rattle.std.proofs.Math.Dec.{eqb}
+use Rattle.std.specs.Int.{from_bool}
 use Rattle.number.specs.Axis.{axis}
 use Rattle.number.proofs.laws.Order.{less_or_not}
+use Rattle.runs.specs.declared.TooManyRuns.{TooManyRuns}
 use Rattle.runs.specs.Runs.{most_runs}
 use Rattle.runs.specs.Set.{slot_words, xor, inside, Ascending, Canonical, Makes}
 use Rattle.runs.proofs.laws.Cuts.{none, inside_ge, inside_lt, weaken, lone}
@@ -50,6 +54,9 @@ ended_none (x ∷ a) h = absurd (omega arith)
 -- how many there are where x is y
 abbrev OneIf : ℕ → ℕ → ℕ → Type 0
 OneIf x y n = (x ≡ y → n ≡ 1) × ((x ≡ y → ⊥) → n ≡ 0)
+
+pub one_if : (x y n : ℕ) → n ≡ from_bool (eqb x y) → OneIf x y n
+one_if x y n e = ((λ p. e ∙ ap from_bool (eq-eqb x y p)), (λ p. e ∙ ap from_bool (ne_eqb x y p)))
 
 -- none reaches the high end where the last does not
 lower_last : (lo hi h z : ℕ) (k : List ℕ) → Ascending lo hi (k ++ z ∷ []) → z ≤ h → Ascending lo h (k ++ z ∷ [])
@@ -197,7 +204,7 @@ module _ (a : List ℕ) (c : Canonical a) (r : Ends) (w : Ended a r) where
       ∙ ap₂ ◌+◌ (length-take-le (1 - r.low) (0 ∷ []) (omega arith)) (length-append mid (high_cut (1 - r.high)) ∙ ap₂ ◌+◌ mid-length (length-take-le (1 - r.high) (axis ∷ []) (omega arith)))
       ∙ omega arith
 
-  pub complement_over : (words : List ℕ) → 2 * most_runs < all → Makes f words true
+  pub complement_over : (words : List ℕ) → 2 * most_runs < all → {x : TooManyRuns} → Makes {A = Unit {0}} f words (Err x)
   complement_over words h = too_many f cuts words canonical members (omega (arith, cuts-length))
 
   -- they are put into words
@@ -243,7 +250,7 @@ module _ (a : List ℕ) (c : Canonical a) (r : Ends) (w : Ended a r) where
     placed-length : length placed ≡ slot_words
     placed-length = ap length placed_is ∙ length-append before (get_or rest 0 0 ∷ drop 1 rest) ∙ omega (arith, before-length, rest-length, length-drop 1 rest)
 
-    placed_holds : Makes f (set (set placed back axis) (2 * most_runs) all) false
+    placed_holds : Makes f (set (set placed back axis) (2 * most_runs) all) (Ok (tt {0}))
     placed_holds =
         holds_makes f _
         (held cuts (set (set placed back axis) (2 * most_runs) all) canonical (omega (arith, cuts-length))
@@ -258,5 +265,5 @@ module _ (a : List ℕ) (c : Canonical a) (r : Ends) (w : Ended a r) where
       pub put-length : length p ≡ slot_words
       put-length = ap length e ∙ placed-length
 
-      pub put_holds : Makes f (set (set p back axis) (2 * most_runs) all) false
-      put_holds = subst (λ (l : List ℕ). Makes f (set (set l back axis) (2 * most_runs) all) false) (sym e) placed_holds
+      pub put_holds : Makes f (set (set p back axis) (2 * most_runs) all) (Ok (tt {0}))
+      put_holds = subst (λ (l : List ℕ). Makes f (set (set l back axis) (2 * most_runs) all) (Ok (tt {0}))) (sym e) placed_holds

@@ -1,16 +1,15 @@
 -- Two sets of one run each: what they share is one run or none, and what is in one of them is one run where they meet.
-use Rattle.std.specs.Prelude.{ℕ, ◌≤◌, ◌<◌, min, max, ◌≡◌, refl, Bool, true, false, ◌&&◌, List, [], ◌∷◌, ◌++◌, length, drop, get_or, set}
-use Rattle.std.proofs.Common.{sym, ap₂, subst, ◌∙◌, true≢false, ⊎_elim, arith, lt-ltb, le-ltb}
+use Rattle.std.specs.Prelude.{ℕ, ◌≤◌, ◌<◌, min, max, ◌≡◌, refl, Bool, true, false, ◌&&◌, List, [], ◌∷◌, ◌++◌, length, drop, get_or, set, Option, Some, None}
+use Rattle.std.proofs.Common.{sym, ap₂, subst, ◌∙◌, ⊎_elim, arith, lt-ltb, le-ltb}
 use Rattle.std.proofs.Math.Path.{ap}
 use Rattle.std.proofs.Math.Bool.{cond}
 use Rattle.number.proofs.laws.Order.{less_or_not}
 use Rattle.runs.specs.Set.{xor, inside, Ascending, Canonical}
 use Rattle.merge.specs.inner.Merge.{merge_cuts, Merged}
 use Rattle.merge.specs.inner.OneRun.{run_cuts, OneRun}
+use Rattle.merge.specs.declared.run.Run.{Run}
 use Rattle.runs.proofs.laws.Cuts.{unique, none, before-run, in_run, behind_run}
 use Rattle.merge.proofs.laws.Merge.{merge_asc, merge_inside}
-use Rattle.merge.specs.declared.walk.Filled.{Filled}
-use Rattle.merge.specs.declared.run.Run.{Run}
 
 -- one run: its cuts, and the numbers in it, under it and past it
 module _ (low end : ℕ) where
@@ -87,30 +86,39 @@ two_ascend (x ∷ []) c h = absurd (omega arith)
 two_ascend (x ∷ y ∷ l) c h = omega (arith, c.ascending.2.0)
 
 -- one run is written, or none
-pub none_put : (low end : ℕ) (before : List ℕ) → end ≤ low → Merged (run_cuts low end) before before (record { over = false; n = 0 })
-none_put low end before h = rw (no_run low end h) (record { over = sym (le-ltb (length before) 0 (omega arith)); count = λ z. refl; filled = λ z. refl })
+pub none_put : (low end : ℕ) (before : List ℕ) → end ≤ low → Merged (run_cuts low end) before before (Some 0)
+none_put low end before h = rw (no_run low end h) (record { over = sym (le-ltb (length before) 0 (omega arith)); count = refl; filled = λ z. refl })
 
-pub run-put : (low end : ℕ) (before : List ℕ) → low < end → 2 ≤ length before → Merged (run_cuts low end) before (set (set before 0 low) 1 end) (record { over = false; n = 2 })
+pub run-put : (low end : ℕ) (before : List ℕ) → low < end → 2 ≤ length before → Merged (run_cuts low end) before (set (set before 0 low) 1 end) (Some 2)
 run-put low end before h g =
-    rw (some_run low end h) (record { over = sym (le-ltb (length before) 2 (omega arith)); count = λ z. refl; filled = λ z. put before g })
+    rw (some_run low end h) (record { over = sym (le-ltb (length before) 2 (omega arith)); count = refl; filled = λ z. put before g })
   where
     put : (l : List ℕ) → 2 ≤ length l → set (set l 0 low) 1 end ≡ (low ∷ end ∷ []) ++ drop 2 l
     put [] k = absurd (omega arith)
     put (x ∷ []) k = absurd (omega arith)
     put (x ∷ y ∷ l) k = refl
 
--- what is not known needs no proof; what is, is told by its ends
-pub not_known : (f : Bool → Bool → Bool) (a b : List ℕ) (r : Run) → r.known ≡ false → OneRun f a b r
-not_known f a b r e = record { cuts = λ z. absurd (true≢false (sym z ∙ e)) }
+-- where there may be more runs, nothing is said; one run is told by its ends
+pub not_known : (f : Bool → Bool → Bool) (a b : List ℕ) (r : Option Run) → r ≡ None → OneRun f a b r
+not_known f a b r e = subst (OneRun f a b) (sym e) (record { cuts = tt })
 
-pub known : (f : Bool → Bool → Bool) (a b : List ℕ) (r : Run) (low end : ℕ) → merge_cuts f false false a b ≡ run_cuts low end → r.low ≡ low → r.end ≡ end → OneRun f a b r
-known f a b r low end e l h = record { cuts = λ z. e ∙ ap₂ run_cuts (sym l) (sym h) }
+pub known : (f : Bool → Bool → Bool) (a b : List ℕ) (r : Option Run) (low end : ℕ) → merge_cuts f false false a b ≡ run_cuts low end → r ≡ Some (record { low = low; end = end }) → OneRun f a b r
+known f a b r low end e h = subst (OneRun f a b) (sym h) (record { cuts = e })
 
 -- lists of two cuts
-pub of_cuts : (f : Bool → Bool → Bool) (a b : List ℕ) (r : Run) → length a ≡ 2 → length b ≡ 2
+pub of_cuts : (f : Bool → Bool → Bool) (a b : List ℕ) (r : Option Run) → length a ≡ 2 → length b ≡ 2
     → OneRun f (get_or a 0 0 ∷ get_or a 1 0 ∷ []) (get_or b 0 0 ∷ get_or b 1 0 ∷ []) r → OneRun f a b r
-of_cuts f a b r la lb w = record { cuts = λ z. ap₂ (merge_cuts f false false) (two-cuts a la) (two-cuts b lb) ∙ w.cuts z }
+of_cuts f a b None la lb w = record { cuts = tt }
+of_cuts f a b (Some r) la lb w = record { cuts = ap₂ (merge_cuts f false false) (two-cuts a la) (two-cuts b lb) ∙ w.cuts }
+
+-- what two lists of two cuts share
+pub shared_by_cuts : (a b : List ℕ) (low end : ℕ) → Canonical a → Canonical b → length a ≡ 2 → length b ≡ 2
+    → low ≡ max (get_or a 0 0) (get_or b 0 0) → end ≡ min (get_or a 1 0) (get_or b 1 0) → merge_cuts ◌&&◌ false false a b ≡ run_cuts low end
+shared_by_cuts a b low end ca cb la lb l e =
+    ap₂ (merge_cuts ◌&&◌ false false) (two-cuts a la) (two-cuts b lb)
+    ∙ shared-run (get_or a 0 0) (get_or a 1 0) (get_or b 0 0) (get_or b 1 0) (two_ascend a ca la) (two_ascend b cb lb)
+    ∙ ap₂ run_cuts (sym l) (sym e)
 
 -- the same cuts, written
-pub merged_is : (m l before after : List ℕ) (w : Filled) → m ≡ l → Merged l before after w → Merged m before after w
+pub merged_is : (m l before after : List ℕ) (w : Option ℕ) → m ≡ l → Merged l before after w → Merged m before after w
 merged_is m l before after w e r = subst (λ (k : List ℕ). Merged k before after w) (sym e) r

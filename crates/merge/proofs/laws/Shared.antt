@@ -1,5 +1,5 @@
 -- What two sets share, run by run: of two runs the one that ends first is passed, and before that what both hold of it comes first.
-use Rattle.std.specs.Prelude.{ℕ, ◌+◌, ◌≤◌, ◌<◌, min, max, ◌≡◌, Bool, true, false, ◌&&◌, List, [], ◌∷◌}
+use Rattle.std.specs.Prelude.{ℕ, ◌+◌, ◌≤◌, ◌<◌, min, max, ◌≡◌, Bool, false, ◌&&◌, List, [], ◌∷◌}
 use Rattle.std.proofs.Common.{sym, ap, ap₂, ◌∙◌, true≢false, ⊎_elim, arith}
 use Rattle.std.proofs.Math.Bool.{and-false, and_comm}
 use Rattle.number.specs.Axis.{axis}

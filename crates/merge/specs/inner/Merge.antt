@@ -1,7 +1,7 @@
 -- The cuts of an operation on two sets, by both lists from their heads on, and what it is to write them.
-use Rattle.std.specs.Prelude.{ℕ, ◌≡◌, Bool, true, false, not, List, [], ◌∷◌, ◌++◌, ltb, length, drop}
+use Rattle.std.specs.Prelude.{ℕ, ◌≡◌, Bool, true, false, not, List, [], ◌∷◌, ◌++◌, ltb, length, drop, Option}
+use Rattle.std.specs.Option.{is_none, IfSome}
 use Rattle.runs.specs.inner.Emit.{emit}
-use Rattle.merge.specs.declared.walk.Filled.{Filled}
 
 -- the cuts of f of two sets, p and q being the membership before the cuts
 unfoldable pub merge_cuts : (Bool → Bool → Bool) → Bool → Bool → List ℕ → List ℕ → List ℕ
@@ -18,8 +18,8 @@ merge_cuts f p q (x ∷ xs) (y ∷ ys) =
           ]
     ]
 
--- the cuts m take the place of the first elements, if there is room for all
-pub record Merged (m : List ℕ) (before after : List ℕ) (r : Filled) : Type 0 where
-  pub over : r.over ≡ ltb (length before) (length m)
-  pub count : r.over ≡ false → r.n ≡ length m
-  pub filled : r.over ≡ false → after ≡ m ++ drop (length m) before
+-- the cuts m take the place of the first elements, and their number is the answer, if there is room for all; else there is none
+pub record Merged (m : List ℕ) (before after : List ℕ) (r : Option ℕ) : Type 0 where
+  pub over : is_none r ≡ ltb (length before) (length m)
+  pub count : IfSome r (λ n. n ≡ length m)
+  pub filled : is_none r ≡ false → after ≡ m ++ drop (length m) before

@@ -1,4 +1,6 @@
 -- The answer of `band::band`, told: its place fits in the low half, and its ends are on the axis.
+use Rattle.refusal.specs.declared.Refusal.{Refusal}
+use Rattle.std.specs.Prelude.{Result}
 use Prim.Native.Nat.{ℕ}
 use mathlib.Core.Path.{◌≡◌, sym, subst}
 use mathlib.Core.List.{List}
@@ -8,7 +10,7 @@ use mir.ValLaws.{to_z-of_z}
 use Rattle.refusal.specs.Outcome.{Outcome}
 use Rattle.band.specs.Call.{band_of, outcome_of}
 use Rattle.band.specs.Means.{Bands}
-use Rattle.band.specs.declared.InBand.{InBand}
+use Rattle.band.specs.declared.Bands.{Bands as CodeBands}
 use Rattle.reply.specs.Reply.{InHalf}
 use Rattle.boundary.specs.Boundary.{band_told}
 use Rattle.boundary.specs.inner.Fits.{EndsIn}
@@ -21,7 +23,7 @@ use Rattle.promises.proofs.laws.Computed.{every_call}
 use Rattle.mill.proofs.mill_band.Goals as goal
 
 -- the promise, of e itself
-asked : (bytes text : List ℕ) (e h : ℤ) (x : InBand) → h ≡ e → outcome_of x ≡ band_of bytes text h → outcome_of x ≡ band_of bytes text e
+asked : (bytes text : List ℕ) (e h : ℤ) (x : Result CodeBands Refusal) → h ≡ e → outcome_of x ≡ band_of bytes text h → outcome_of x ≡ band_of bytes text e
 asked bytes text e h x q a = subst (λ (z : ℤ). outcome_of x ≡ band_of bytes text z) q a
 
 pub tell_bands-requires : goal.tell_bands-requires

@@ -1,4 +1,6 @@
 -- The answer of `listing::find`, packed: it fits in the low half.
+use Rattle.refusal.specs.declared.Refusal.{Refusal}
+use Rattle.std.specs.Prelude.{Result}
 use Prim.Native.Nat.{ℕ}
 use mathlib.Core.Path.{◌≡◌, sym, subst}
 use mathlib.Core.List.{List}
@@ -8,7 +10,6 @@ use mir.Syntax.{w64}
 use mir.ValLaws.{to_z-of_z}
 use borrow.Author.Rules.{rules}
 use Rattle.recording.specs.Output.{Answers}
-use Rattle.recording.specs.declared.Written.{Written}
 use Rattle.listing.specs.Call.{find_of}
 use Rattle.reply.specs.Reply.{InHalf}
 use Rattle.promises.proofs.laws.InHalf.{find_in_half}
@@ -18,7 +19,7 @@ use Rattle.promises.proofs.laws.Computed.{every_call}
 use Rattle.mill.proofs.mill_find.Goals as goal
 
 -- the promise, of the level itself
-asked : (summary : List ℕ) (curve : ℕ) (g h : ℤ) (out : List ℕ) (w : Written) (new : List ℕ) → h ≡ g → Answers (find_of summary curve h (length out)) out w new
+asked : (summary : List ℕ) (curve : ℕ) (g h : ℤ) (out : List ℕ) (w : Result ℕ Refusal) (new : List ℕ) → h ≡ g → Answers (find_of summary curve h (length out)) out w new
     → Answers (find_of summary curve g (length out)) out w new
 asked summary curve g h out w new e a = subst (λ (z : ℤ). Answers (find_of summary curve z (length out)) out w new) e a
 

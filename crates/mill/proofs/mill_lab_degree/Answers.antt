@@ -1,4 +1,6 @@
 -- The answer of `lab::lab_degree`, told: its place fits in the low half, and its floats are numbers.
+use Rattle.refusal.specs.declared.Refusal.{Refusal}
+use Rattle.std.specs.Prelude.{Result}
 use Prim.Native.Nat.{ℕ}
 use mathlib.Core.Path.{◌≡◌, sym, subst}
 use mathlib.Core.List.{List}
@@ -21,7 +23,7 @@ use Rattle.promises.proofs.laws.Computed.{every_call}
 use Rattle.mill.proofs.mill_lab_degree.Goals as goal
 
 -- the promise, of the target itself
-asked : (bytes marks text : List ℕ) (g h : ℤ) (n : Nearness) → h ≡ g → outcome_of n ≡ lab_degree_of bytes marks text h → outcome_of n ≡ lab_degree_of bytes marks text g
+asked : (bytes marks text : List ℕ) (g h : ℤ) (n : Result Nearness Refusal) → h ≡ g → outcome_of n ≡ lab_degree_of bytes marks text h → outcome_of n ≡ lab_degree_of bytes marks text g
 asked bytes marks text g h n e a = subst (λ (z : ℤ). outcome_of n ≡ lab_degree_of bytes marks text z) e a
 
 pub tell_degree-requires : goal.tell_degree-requires

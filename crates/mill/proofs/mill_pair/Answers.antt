@@ -1,4 +1,6 @@
 -- The answer of `pair::pair`, told: its place fits in the low half.
+use Rattle.refusal.specs.declared.Refusal.{Refusal}
+use Rattle.std.specs.Prelude.{Result, Option}
 use Prim.Native.Nat.{ℕ}
 use mathlib.Core.Path.{◌≡◌, sym, subst}
 use mathlib.Core.List.{List}
@@ -19,7 +21,7 @@ use Rattle.promises.proofs.laws.Computed.{every_call}
 use Rattle.mill.proofs.mill_pair.Goals as goal
 
 -- the promise, of the target itself
-asked : (bytes : List ℕ) (curve : ℕ) (g h : ℤ) (p : TopPair) → h ≡ g → outcome_of p ≡ pair_of bytes curve h → outcome_of p ≡ pair_of bytes curve g
+asked : (bytes : List ℕ) (curve : ℕ) (g h : ℤ) (p : Result (Option TopPair) Refusal) → h ≡ g → outcome_of p ≡ pair_of bytes curve h → outcome_of p ≡ pair_of bytes curve g
 asked bytes curve g h p e a = subst (λ (z : ℤ). outcome_of p ≡ pair_of bytes curve z) e a
 
 pub tell_pair-requires : goal.tell_pair-requires

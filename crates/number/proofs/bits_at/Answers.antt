@@ -6,4 +6,4 @@ use Rattle.number.proofs.bits_at.Goals as goal
 pub returns : goal.returns
 returns c =
     let n = c.args.index in
-    sym (bits-whole n c.requires ∙ (omega (arith, c.wrapping_sub_u32.ensures)))
+    sym (bits-whole n c.requires ∙ omega arith)

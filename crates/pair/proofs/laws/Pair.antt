@@ -1,5 +1,5 @@
 -- Laws of the pair call: the pair that it gives is the first of the tops that fit; the lines of its table one by one.
-use Rattle.std.specs.Prelude.{ℕ, ◌-◌, ◌≤◌, ◌<◌, ◌≡◌, List, [], ◌∷◌, ◌++◌, length, get_or, take, drop, ℤ, negsuc}
+use Rattle.std.specs.Prelude.{ℕ, ◌-◌, ◌≤◌, ◌<◌, ◌≡◌, List, [], ◌∷◌, ◌++◌, length, get_or, take, drop, ℤ, negsuc, Result, Err, Option}
 use native.Mathlib.Omega.{arith}
 use Rattle.std.proofs.Common.{eq-or-lt_of_le, ap, ap₂, ◌∙◌, inl, inr, take_all, get_or-take, length-take-le}
 use Rattle.std.proofs.Math.Path.{sym, subst}
@@ -24,7 +24,6 @@ use Rattle.tops.specs.inner.Scan.{Scanned}
 use Rattle.tops.proofs.laws.Event.{event-times_ascend}
 use Rattle.tops.proofs.laws.Pick.{Ascending, picked_index, index_rising, index-found, Found, rank_of, number_rising, number-found, Numbered}
 use Rattle.pair.specs.declared.TopPair.{TopPair}
-use Rattle.pair.specs.declared.TopPair.TheVariants as answer
 use Rattle.pair.specs.Pair.{time_at, Fits, Given, none, first_pair, OfTops, Foremost, FirstFitting, outcome_of}
 use Rattle.pair.specs.inner.Search.{Rising, Apart, FirstApart}
 use Rattle.pair.proofs.laws.Search.{none_apart, first-apart, decide_apart, pos_negsuc}
@@ -175,14 +174,14 @@ whole_above n h = sub_above n origin h
 module _ (o : Given) where
   -- the first line meets
   pub answer-first : (l : Line) (ls : List Line) (x : Refusal) → l.meets ≡ true → l.number ≡ number_of x → l.place ≡ place_of x
-      → outcome_of (answer.Refused x) ≡ judged (l ∷ ls) o
+      → outcome_of (Err x) ≡ judged (l ∷ ls) o
   answer-first l ls x m n p = sym (judged-first l ls o m ∙ ap₂ refused n p)
 
   -- lines that do not meet
-  pub answer_pass : (ls ms : List Line) (p : TopPair) → NoneMeets ls → outcome_of p ≡ judged ms o → outcome_of p ≡ judged (ls ++ ms) o
+  pub answer_pass : (ls ms : List Line) (p : Result (Option TopPair) Refusal) → NoneMeets ls → outcome_of p ≡ judged ms o → outcome_of p ≡ judged (ls ++ ms) o
   answer_pass ls ms p n a = a ∙ sym (judged_pass ls ms o n)
 
   -- a refusal by the lines in front
   pub answer_refused : (ls ms : List Line) (x : Refusal) (n : ℕ) → refused (number_of x) (place_of x) ≡ judged ls n
-      → outcome_of (answer.Refused x) ≡ judged (ls ++ ms) o
+      → outcome_of (Err x) ≡ judged (ls ++ ms) o
   answer_refused ls ms x n e = sym (refusal_stands ls ms n o (number_of x) (place_of x) (sym e))

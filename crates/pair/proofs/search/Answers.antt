@@ -8,7 +8,6 @@ use Prim.Native.Nat.{ℕ, ◌+◌, ◌-◌, ◌≤◌, ◌<◌}
 use native.Mathlib.Omega.{arith}
 use lib.ListN.{get_or}
 use Rattle.number.proofs.laws.Order.{less_or_not, less-more_equal}
-use Rattle.refusal.specs.Outcome.{result}
 use Rattle.pair.specs.inner.Search.{Rising, Spaced}
 use Rattle.pair.proofs.laws.Search.{found_first, found_none, Low, low-more, low-next, none_later, none_before, behind_earlier}
 use Rattle.pair.proofs.search.Goals as goal
@@ -92,8 +91,8 @@ returns-then-i-n c =
             foremost times n g i j c.earlier.invariant.0 (none_before times n rising g i j w.earlier-test.true w.loop-j.invariant),
           )
     ] in
-    ap result (sym (found_first times n c.requires.0 g _ _ f.0 f.1))
+    sym (found_first times n c.requires.0 g _ _ f.0 f.1)
 
 pub returns-else-i-n : goal.returns-else-i-n
 returns-else-i-n c =
-    ap result (sym (found_none c.args.times.now c.args.n c.requires.0 c.args.g (λ a b p. let o = p.order in let l = p.inside in c.earlier.invariant.0 a (omega arith) b p)))
+    sym (found_none c.args.times.now c.args.n c.requires.0 c.args.g (λ a b p. let o = p.order in let l = p.inside in c.earlier.invariant.0 a (omega arith) b p))

@@ -1,4 +1,6 @@
 -- `pair::tops_apart` meets its contract. The times of tops are counted for refusal 9 and searched; they ascend, so no pair is 0 or less apart. Assumes nothing.
+use Rattle.refusal.specs.declared.Refusal.{Refusal}
+use Rattle.std.specs.Prelude.{Result, Ok, Err, Option, None}
 use borrow.Author.Rules.{rules}
 use borrow.Author.Tests.{lt-ltb, le-ltb}
 use native.Mathlib.Omega.{arith}
@@ -20,7 +22,6 @@ use Rattle.tops.proofs.laws.Event.{event-times_ascend}
 use Rattle.tops.proofs.laws.Pick.{Ascending}
 use Rattle.pair.specs.inner.Search.{Rising}
 use Rattle.pair.specs.declared.TopPair.{TopPair}
-use Rattle.pair.specs.declared.TopPair.TheVariants as answer
 use Rattle.pair.specs.Pair.{Given, pairs_of, first_apart, first_pair, too_many_tops, outcome_of}
 use Rattle.pair.proofs.laws.Pair.{scanned_all, rising_taken, count-tops, none_for_low, whole_below, whole_above, answer-first}
 use Rattle.pair.proofs.tops_apart.Goals as goal
@@ -36,7 +37,7 @@ module _ (bytes : List ℕ) (n curve index : ℕ) (a : Accepted bytes) (e : n �
   tops : count ≡ length (pick (top (curve_of curve)) (readings bytes))
   tops = scanned.counted ∙ count-tops (readings bytes) (curve_of curve) (whole index)
 
-  over : most_tops < count → outcome_of (answer.Refused TooManyTops) ≡ judged (too_many_tops bytes curve ∷ []) given
+  over : most_tops < count → outcome_of (Err TooManyTops) ≡ judged (too_many_tops bytes curve ∷ []) given
   over h =
       answer-first given (too_many_tops bytes curve) [] TooManyTops
       (lt-ltb most_tops _ (subst (λ (k : ℕ). most_tops < k) tops h)) refl refl
@@ -45,7 +46,7 @@ module _ (bytes : List ℕ) (n curve index : ℕ) (a : Accepted bytes) (e : n �
     few : NoneMeets (too_many_tops bytes curve ∷ [])
     few = (le-ltb most_tops _ (subst (λ (k : ℕ). k ≤ most_tops) tops h), tt)
 
-    at_or_below : index ≤ origin → outcome_of answer.Nothing ≡ judged (too_many_tops bytes curve ∷ []) given
+    at_or_below : index ≤ origin → outcome_of (Ok None) ≡ judged (too_many_tops bytes curve ∷ []) given
     at_or_below k =
         ap result (sym (none_for_low (curve_of curve) bytes a (whole index) (whole_below index k)))
         ∙ sym (judged_none (too_many_tops bytes curve ∷ []) given few)
@@ -56,7 +57,7 @@ module _ (bytes : List ℕ) (n curve index : ℕ) (a : Accepted bytes) (e : n �
     rising : count ≤ length new → Rising new count
     rising fits = rising_taken new count fits (subst Ascending (sym all) (event-times_ascend (a_top (curve_of curve)) bytes a))
 
-    above : origin < index → (p : TopPair) → outcome_of p ≡ result (first_apart (pos (index - origin)) (pairs_of (take count new)))
+    above : origin < index → (p : Result (Option TopPair) Refusal) → outcome_of p ≡ result (first_apart (pos (index - origin)) (pairs_of (take count new)))
         → outcome_of p ≡ judged (too_many_tops bytes curve ∷ []) given
     unfolding first_pair
     above k p f =
@@ -86,4 +87,4 @@ search-requires c =
 pub returns : goal.returns
 returns c =
     above c.args.rec.now c.args.n c.args.curve c.args.index c.requires.0 c.requires.1 _ refl c.event_times-count.result c.event_times-count.new.times c.event_times-count.ensures
-    c.if-count-gt-MOST_TOPS.false c.if-index-le-ORIGIN.false c.search.result c.search.ensures
+    c.if-count-gt-MOST_TOPS.false c.if-index-le-ORIGIN.false (Ok c.search.result) (ap result c.search.ensures)

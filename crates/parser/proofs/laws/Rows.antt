@@ -1,16 +1,15 @@
 -- How far a call that read something went, and the rows that hold a tree.
-use Rattle.std.specs.Prelude.{◌≡◌, List, ℕ, ◌+◌, ◌≤◌, ◌<◌, length}
+use Rattle.std.specs.Prelude.{◌≡◌, Option, List, ℕ, ◌+◌, ◌≤◌, ◌<◌, length}
 use Rattle.std.proofs.Common.{sym, ap, subst, ◌∙◌, arith}
 use Rattle.parser.specs.declared.Got.{Got}
-use Rattle.parser.specs.declared.Got.TheVariants.{Upto}
 use Rattle.grammar.specs.declared.Row.{Row}
 use Rattle.grammar.specs.Syntax.{Text}
 use Rattle.grammar.specs.inner.Table.{unary_from}
 use Rattle.grammar.specs.inner.Parse.{Task, row_text}
-use Rattle.parser.specs.inner.Rows.{Same, Laid, leaf, unary, binary, Ahead, Parses}
+use Rattle.parser.specs.inner.Rows.{Same, Laid, leaf, unary, binary, got_upto, Ahead, Parses}
 
 -- how far an answer reads
-pub ahead_of : {s : List ℕ} {g : Task} {at n e m : ℕ} {T U : List ℕ} {r : Got} → Parses s g at n T U r → r ≡ Upto e m → (at < e) × (e ≤ length s) × (n < m) × (m + at ≤ n + e)
+pub ahead_of : {s : List ℕ} {g : Task} {at n e m : ℕ} {T U : List ℕ} {r : Option Got} → Parses s g at n T U r → r ≡ got_upto e m → (at < e) × (e ≤ length s) × (n < m) × (m + at ≤ n + e)
 ahead_of {s} {at = at} {n = n} x p = subst (Ahead (length s) at n) p x.ahead
 
 -- a tree has a row

@@ -1,8 +1,7 @@
 -- What the reader promises, call by call: how far it reads, and which rows of the table hold what it read.
-use Rattle.std.specs.Prelude.{ℕ, ◌+◌, ◌-◌, ◌*◌, ◌≤◌, ◌<◌, ◌≡◌, List, length}
+use Rattle.std.specs.Prelude.{ℕ, Option, Some, None, ◌+◌, ◌-◌, ◌*◌, ◌≤◌, ◌<◌, ◌≡◌, List, length}
 use Rattle.grammar.specs.declared.Row.{Row}
 use Rattle.parser.specs.declared.Got.{Got}
-use Rattle.parser.specs.declared.Got.TheVariants.{Upto, Unread}
 use Rattle.grammar.specs.Syntax.{Text}
 use Rattle.grammar.specs.Size.{most_bytes}
 use Rattle.grammar.specs.inner.Table.{row, row_at, unary_from, binary_from, kinds}
@@ -30,42 +29,46 @@ pub record Room (s table : List ℕ) (at n : ℕ) : Type 0 where
   pub count : n ≤ at
   pub rows : 4 * length s ≤ length table
 
+-- reading stopped at e, with m rows made
+abbrev pub got_upto : ℕ → ℕ → Option Got
+got_upto e m = Some (record { end = e; nodes = m })
+
 -- reading stops behind `at` and within the text, with a row made, and no more rows than bytes read
-abbrev pub Ahead : ℕ → ℕ → ℕ → Got → Type 0
-Ahead size at n (Upto e m) = (at < e) × (e ≤ size) × (n < m) × (m + at ≤ n + e)
-Ahead size at n Unread = Unit {0}
+abbrev pub Ahead : ℕ → ℕ → ℕ → Option Got → Type 0
+Ahead size at n (Some g) = (at < g.end) × (g.end ≤ size) × (n < g.nodes) × (g.nodes + at ≤ n + g.end)
+Ahead size at n None = Unit {0}
 
 -- the same, where it may stop at once
-abbrev pub Onward : ℕ → ℕ → ℕ → Got → Type 0
-Onward size at n (Upto e m) = (at ≤ e) × (e ≤ size) × (n ≤ m) × (m + at ≤ n + e)
-Onward size at n Unread = Unit {0}
+abbrev pub Onward : ℕ → ℕ → ℕ → Option Got → Type 0
+Onward size at n (Some g) = (at ≤ g.end) × (g.end ≤ size) × (n ≤ g.nodes) × (g.nodes + at ≤ n + g.end)
+Onward size at n None = Unit {0}
 
 -- the same, behind an opening, which is no node before the texts that it holds
-abbrev pub Within : ℕ → ℕ → ℕ → Got → Type 0
-Within size at n (Upto e m) = (at < e) × (e ≤ size) × (n < m) × (m + at ≤ n + e + 1)
-Within size at n Unread = Unit {0}
+abbrev pub Within : ℕ → ℕ → ℕ → Option Got → Type 0
+Within size at n (Some g) = (at < g.end) × (g.end ≤ size) × (n < g.nodes) × (g.nodes + at ≤ n + g.end + 1)
+Within size at n None = Unit {0}
 
 -- the answer is the computed one, and its tree stands in the rows from b on
-abbrev pub Fits : List ℕ → ℕ → Got → Out → Type 0
-Fits table b (Upto e m) (got t j) = (e ≡ j) × Laid table b m t
-Fits table b (Upto e m) unread = ⊥
-Fits table b Unread (got t j) = ⊥
-Fits table b Unread unread = Unit {0}
+abbrev pub Fits : List ℕ → ℕ → Option Got → Out → Type 0
+Fits table b (Some g) (got t j) = (g.end ≡ j) × Laid table b g.nodes t
+Fits table b (Some g) unread = ⊥
+Fits table b None (got t j) = ⊥
+Fits table b None unread = Unit {0}
 
 -- what reading the task from `at` answers, with n rows made
-pub record Parses (s : List ℕ) (g : Task) (at n : ℕ) (before now : List ℕ) (r : Got) : Type 0 where
+pub record Parses (s : List ℕ) (g : Task) (at n : ℕ) (before now : List ℕ) (r : Option Got) : Type 0 where
   pub ahead : Ahead (length s) at n r
   pub same : Same n before now
   pub fits : (f : ℕ) → rank s g < f → Fits now n r (parse s f g)
 
 -- the same of the rest of a chain, whose tree so far stands in the rows from b on
-pub record AnswersMore (s : List ℕ) (o : Joiner) (at n : ℕ) (before now : List ℕ) (r : Got) : Type 0 where
+pub record AnswersMore (s : List ℕ) (o : Joiner) (at n : ℕ) (before now : List ℕ) (r : Option Got) : Type 0 where
   pub onward : Onward (length s) at n r
   pub same : Same n before now
   pub fits : (t : Text) (b : ℕ) → Laid before b n t → (f : ℕ) → rank s (more o t at) < f → Fits now b r (parse s f (more o t at))
 
 -- the same of what stands behind an opening of kind k
-pub record AnswersOpened (s : List ℕ) (k at n : ℕ) (before now : List ℕ) (r : Got) : Type 0 where
+pub record AnswersOpened (s : List ℕ) (k at n : ℕ) (before now : List ℕ) (r : Option Got) : Type 0 where
   pub within : Within (length s) at n r
   pub same : Same n before now
   pub fits : (f : ℕ) → rank s (argument 41 at) < f → Fits now n r (opened k (λ b j. parse s f (argument b j)) at)

@@ -1,5 +1,5 @@
 -- The answered set, or 9 or 8, from what the search for tops and the evaluation promise.
-use Rattle.std.specs.Prelude.{ℕ, ◌-◌, ◌<◌, refl, ◌≡◌, List, [], ◌∷◌, Bool, true, false, length}
+use Rattle.std.specs.Prelude.{ℕ, ◌-◌, ◌<◌, refl, ◌≡◌, List, [], ◌∷◌, Bool, true, false, length, Result, Ok, Err, ⊤}
 use Rattle.std.proofs.Common.{arith, subst, sym, ap, ◌∙◌}
 use Rattle.std.proofs.lemmas.Bool.{false≢true}
 use Rattle.refusal.specs.Outcome.{Outcome, refused, judged, line}
@@ -17,16 +17,15 @@ use Rattle.meaning.specs.inner.Coded.{Coded, coded}
 use Rattle.meaning.specs.inner.Truth.{val, refused8, refused9, some_node, asks_too_many, of_listed}
 use Rattle.leaves.specs.inner.Leaf.{leaf_of, Asked}
 use Rattle.leaves.specs.inner.Differing.{Differs}
-use Rattle.leaves.specs.declared.Differing.{Differing}
-use Rattle.leaves.specs.declared.Differing.TheVariants as found
+use Rattle.leaves.specs.declared.TooMany.{TooMany}
+use Rattle.leaves.specs.declared.TooMany.TheVariants.{Tops, Runs}
+use Rattle.runs.specs.declared.TooManyRuns.{TooManyRuns as Overfull}
 use Rattle.evaluation.specs.inner.Evaluation.{text_of, Asking, Evaluates}
 use Rattle.evaluation.proofs.laws.Alone.{alone_evaluates}
 use Rattle.evaluation.proofs.laws.Leaf.{is_leaf, row_leaf}
 use Rattle.question.specs.Question.{set_lines}
 use Rattle.question.specs.inner.Answered.{Answerable, verdict_of, Gives}
 use Rattle.question.proofs.laws.Limit.{asks_leaf, leaf_none}
-use Rattle.question.specs.declared.answered.Verdict.{Verdict}
-use Rattle.question.specs.declared.answered.Verdict.TheVariants.{Fine, Refused}
 
 -- a refusal as an outcome
 abbrev told : Refusal → Outcome (Unit {0})
@@ -35,15 +34,15 @@ told z = refused (number_of z) (place_of z)
 bad : ◌≡◌ {A = ℕ} 0 1 → ⊥
 bad z = omega arith
 
-refused_fine : {C : Type 0} (x : Refusal) → Refused x ≡ Fine → C
+refused_fine : {C : Type 0} (x : Refusal) → ◌≡◌ {A = Result ⊤ Refusal} (Err x) (Ok tt) → C
 refused_fine x e = let z : ◌≡◌ {A = ℕ} 0 1 = cc in absurd (bad z)
 
-same_refusal : (x y : Refusal) → Refused x ≡ Refused y → x ≡ y
+same_refusal : (x y : Refusal) → ◌≡◌ {A = Result ⊤ Refusal} (Err x) (Err y) → x ≡ y
 same_refusal x y e = cc
 
 module _ (bytes : List ℕ) (p : Text) (words : List ℕ) where
   -- refused by x, as the lines have it
-  gives_refused : (x : Refusal) → judged {R = Unit {0}} (set_lines bytes p) tt ≡ refused (number_of x) (place_of x) → Gives bytes p words (Refused x)
+  gives_refused : (x : Refusal) → judged {R = Unit {0}} (set_lines bytes p) tt ≡ refused (number_of x) (place_of x) → Gives bytes p words (Err x)
   gives_refused x e =
       record {
         refusal = λ y q. e ∙ ap told (same_refusal x y q);
@@ -51,16 +50,16 @@ module _ (bytes : List ℕ) (p : Text) (words : List ℕ) where
         set = λ q. refused_fine x q;
       }
 
-  pub gives_nine : refused9 (coded bytes) p ≡ true → Gives bytes p words (Refused TooManyTops)
+  pub gives_nine : refused9 (coded bytes) p ≡ true → Gives bytes p words (Err TooManyTops)
   gives_nine e = gives_refused TooManyTops (judged-first (line 9 (refused9 (coded bytes) p)) (line 8 (refused8 (coded bytes) p) ∷ []) tt e)
 
   module _ (nine : refused9 (coded bytes) p ≡ false) where
-    pub gives_eight : refused8 (coded bytes) p ≡ true → Gives bytes p words (Refused TooManyRuns)
+    pub gives_eight : refused8 (coded bytes) p ≡ true → Gives bytes p words (Err TooManyRuns)
     gives_eight e =
         gives_refused TooManyRuns
         (judged_skip [] (line 9 (refused9 (coded bytes) p)) (line 8 (refused8 (coded bytes) p) ∷ []) tt nine ∙ judged-first (line 8 (refused8 (coded bytes) p)) [] tt e)
 
-    pub gives_set : refused8 (coded bytes) p ≡ false → Holds (λ n. val (coded bytes) n p 0) words → Gives bytes p words Fine
+    pub gives_set : refused8 (coded bytes) p ≡ false → Holds (λ n. val (coded bytes) n p 0) words → Gives bytes p words (Ok tt)
     gives_set eight h =
         record { refusal = λ y q. refused_fine y (sym q); none = λ q. (nine, (eight, tt)); set = λ q. h }
 
@@ -86,17 +85,17 @@ module _ (table : List ℕ) (count : ℕ) (bytes : List ℕ) (ready : Answerable
         let some = ready.some in
         sym (asks_leaf table count bytes ready.falling (count - 1) (omega arith) root is-root leaf x (sym e))
 
-    evaluates : asked ≡ false → (over : Bool) → Makes (λ v. val (coded bytes) v (leaf_of root) 0) words over → Evaluates (coded bytes) (text_of table count) words over
-    evaluates few over m = alone_evaluates table count bytes (asking (nine_is false few)) root is-root leaf words over m
+    evaluates : asked ≡ false → (r : Result ⊤ Overfull) → Makes (λ v. val (coded bytes) v (leaf_of root) 0) words r → Evaluates (coded bytes) (text_of table count) words r
+    evaluates few r m = alone_evaluates table count bytes (asking (nine_is false few)) root is-root leaf words r m
 
-    gives_found : (d : Differing) → Differs asked (λ v. val (coded bytes) v (leaf_of root) 0) words d → Gives bytes (text_of table count) words (verdict_of d)
-    gives_found found.TooManyTops h = gives_nine bytes (text_of table count) words (nine_is true h)
-    gives_found found.TooManyRuns h = gives_eight bytes (text_of table count) words (nine_is false h.0) (sym (evaluates h.0 true h.1).flag)
-    gives_found found.Made h =
-        let e = evaluates h.0 false h.1 in
+    gives_found : (d : Result ⊤ TooMany) → Differs asked (λ v. val (coded bytes) v (leaf_of root) 0) words d → Gives bytes (text_of table count) words (verdict_of d)
+    gives_found (Err Tops) h = gives_nine bytes (text_of table count) words (nine_is true h)
+    gives_found (Err Runs) h = gives_eight bytes (text_of table count) words (nine_is false h.0) (sym (evaluates h.0 (Err h.1.0) h.1.1).flag)
+    gives_found (Ok x) h =
+        let e = evaluates h.0 (Ok x) h.1 in
         gives_set bytes (text_of table count) words (nine_is false h.0) (sym e.flag) (e.holds refl)
 
-    pub gives_alone : (d : Differing) → Differs asked (λ v. val (coded bytes) v (leaf_of root) 0) words d → (v : Verdict) → v ≡ verdict_of d → Gives bytes (text_of table count) words v
+    pub gives_alone : (d : Result ⊤ TooMany) → Differs asked (λ v. val (coded bytes) v (leaf_of root) 0) words d → (v : Result ⊤ Refusal) → v ≡ verdict_of d → Gives bytes (text_of table count) words v
     gives_alone d h v e = subst (Gives bytes (text_of table count) words) (sym e) (gives_found d h)
 
 -- a leaf asks what its own question asks

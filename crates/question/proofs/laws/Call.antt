@@ -1,11 +1,11 @@
 -- The question call from its parts: prepared, answered, written.
-use Rattle.std.specs.Prelude.{ℕ, ◌*◌, ◌≤◌, ◌<◌, ◌≡◌, List, [], ◌∷◌, ◌++◌, Bool, length, drop, ltb}
+use Rattle.std.specs.Prelude.{ℕ, ◌*◌, ◌≤◌, ◌<◌, ◌≡◌, List, [], ◌∷◌, ◌++◌, Bool, length, drop, ltb, Result, Ok, Err, ⊤}
 use Rattle.std.proofs.Common.{arith, ◌∙◌, ltb-false, lt-ltb, le-ltb, eq-eqb}
 use Rattle.std.proofs.Math.Decide.{ℕ_discrete}
 use Rattle.std.proofs.Math.Path.{sym, ap, subst}
 use Rattle.std.proofs.lemmas.Bool.{false≢true}
 use Rattle.number.proofs.laws.Boolean.{none_left}
-use Rattle.refusal.specs.Outcome.{Outcome, judged, NoneMeets}
+use Rattle.refusal.specs.Outcome.{Outcome, judged, NoneMeets, reported}
 use Rattle.refusal.specs.Numbers.{number_of, place_of}
 use Rattle.refusal.specs.declared.Refusal.{Refusal}
 use Rattle.refusal.specs.declared.Refusal.TheVariants.{ShortOutput}
@@ -13,8 +13,6 @@ use Rattle.recording.specs.Recording.{records, recording_lines, no_record}
 use Rattle.recording.proofs.laws.Record.{length-records}
 use Rattle.recording.specs.Output.{output_line, Answers}
 use Rattle.recording.proofs.laws.Outcome.{judged_pass, judged-first, judged_none, refusal_stands, none_append, answers_refused, answers_written}
-use Rattle.recording.specs.declared.Written.{Written}
-use Rattle.recording.specs.declared.Written.TheVariants as written
 use Rattle.runs.specs.Runs.{run_count, set_bytes}
 use Rattle.runs.proofs.laws.Runs.{set_bytes_ext, set_bytes-length}
 use Rattle.runs.specs.Set.{member}
@@ -28,13 +26,9 @@ use Rattle.meaning.specs.inner.Truth.{val}
 use Rattle.evaluation.specs.inner.Evaluation.{text_of}
 use Rattle.leaves.proofs.laws.Coding.{length-coded}
 use Rattle.question.specs.Question.{the_text, read, answer, asking_lines, set_lines, answer_of, written_of, question_of}
-use Rattle.question.specs.inner.Prepare.{prepared_of, Prepares}
+use Rattle.question.specs.inner.Prepare.{Prepares}
 use Rattle.question.proofs.laws.Prepare.{prepared_passes}
 use Rattle.question.specs.inner.Answered.{Answerable, Gives}
-use Rattle.question.specs.declared.prepare.Prepared.{Prepared}
-use Rattle.question.specs.declared.prepare.Prepared.TheVariants as prepared
-use Rattle.question.specs.declared.answered.Verdict.{Verdict}
-use Rattle.question.specs.declared.answered.Verdict.TheVariants.{Fine, Refused}
 
 -- ---- writing a set
 
@@ -42,12 +36,12 @@ module _ (f : ℕ → Bool) (old : List ℕ) (n : ℕ) (size : n ≡ 8 * run_cou
   bytes_size : length (set_bytes f) ≡ n
   bytes_size = set_bytes-length f ∙ sym size
 
-  pub write_short : length old < n → Answers (written_of f (length old)) old (written.Refused ShortOutput) old
+  pub write_short : length old < n → Answers (written_of f (length old)) old (Err ShortOutput) old
   write_short h =
       answers_refused (written_of f (length old)) old ShortOutput
       (judged-first (output_line (length old) (set_bytes f)) [] (set_bytes f) (lt-ltb (length old) (length (set_bytes f)) (omega (arith, bytes_size))))
 
-  pub write_whole : n ≤ length old → (new : List ℕ) → new ≡ set_bytes f ++ drop (length (set_bytes f)) old → Answers (written_of f (length old)) old (written.Bytes n) new
+  pub write_whole : n ≤ length old → (new : List ℕ) → new ≡ set_bytes f ++ drop (length (set_bytes f)) old → Answers (written_of f (length old)) old (Ok n) new
   write_whole h new e =
       answers_written (written_of f (length old)) old (set_bytes f) new n
       (judged_none (output_line (length old) (set_bytes f) ∷ []) (set_bytes f) (le-ltb (length old) (length (set_bytes f)) (omega (arith, bytes_size)), tt))
@@ -55,13 +49,13 @@ module _ (f : ℕ → Bool) (old : List ℕ) (n : ℕ) (size : n ≡ 8 * run_cou
 
 -- ---- the answered set, or 9 or 8
 
-module _ (bytes : List ℕ) (p : Text) (words : List ℕ) (a : Verdict) (g : Gives bytes p words a) (old : List ℕ) where
-  pub answer_refused : (x : Refusal) → a ≡ Refused x → Answers (answer_of bytes p (length old)) old (written.Refused x) old
+module _ (bytes : List ℕ) (p : Text) (words : List ℕ) (a : Result ⊤ Refusal) (g : Gives bytes p words a) (old : List ℕ) where
+  pub answer_refused : (x : Refusal) → a ≡ Err x → Answers (answer_of bytes p (length old)) old (Err x) old
   answer_refused x e =
       answers_refused (answer_of bytes p (length old)) old x
       (refusal_stands (set_lines bytes p) (output_line (length old) (set_bytes (λ n. val (coded bytes) n p 0)) ∷ []) tt (set_bytes (λ n. val (coded bytes) n p 0)) (number_of x) (place_of x) (g.refusal x e))
 
-  pub answer_fine : a ≡ Fine → (r : Written) (new : List ℕ) → Answers (written_of (member words) (length old)) old r new → Answers (answer_of bytes p (length old)) old r new
+  pub answer_fine : a ≡ (Ok tt) → (r : Result ℕ Refusal) (new : List ℕ) → Answers (written_of (member words) (length old)) old r new → Answers (answer_of bytes p (length old)) old r new
   answer_fine e r new w =
       let same : set_bytes (member words) ≡ set_bytes (λ n. val (coded bytes) n p 0) = set_bytes_ext (member words) (λ n. val (coded bytes) n p 0) (g.set e).members in
       let o : written_of (member words) (length old) ≡ answer_of bytes p (length old) =
@@ -72,15 +66,15 @@ module _ (bytes : List ℕ) (p : Text) (words : List ℕ) (a : Verdict) (g : Giv
 -- ---- the text that was read
 
 module _ (bytes text table : List ℕ) where
-  pub question_refused : (q : Prepared) (x : Refusal) → Prepares bytes text table q → q ≡ prepared.Refused x → (old : List ℕ)
-      → Answers (question_of bytes text (length old)) old (written.Refused x) old
+  pub question_refused : (q : Result ℕ Refusal) (x : Refusal) → Prepares bytes text table q → q ≡ Err x → (old : List ℕ)
+      → Answers (question_of bytes text (length old)) old (Err x) old
   unfolding question_of
   question_refused q x h e old =
       answers_refused (question_of bytes text (length old)) old x
       (refusal_stands (asking_lines bytes text) (set_lines bytes (read text) ++ (output_line (length old) (set_bytes (answer bytes text)) ∷ [])) (nodes_of (parsed text)) (set_bytes (answer bytes text)) (number_of x) (place_of x)
-      (sym h.outcome ∙ ap prepared_of e))
+      (sym h.outcome ∙ ap reported e))
 
-  module _ (q : Prepared) (n : ℕ) (h : Prepares bytes text table q) (e : q ≡ prepared.Nodes n) where
+  module _ (q : Result ℕ Refusal) (n : ℕ) (h : Prepares bytes text table q) (e : q ≡ Ok n) where
     parts : NoneMeets (recording_lines bytes) × NoneMeets (no_record bytes ∷ text_lines text)
     parts = none_append (recording_lines bytes) (no_record bytes ∷ text_lines text) (prepared_passes h n e).0
 
@@ -110,7 +104,7 @@ module _ (bytes text table : List ℕ) where
           few = few_nodes;
         }
 
-    pub question_answered : (old : List ℕ) (r : Written) (new : List ℕ) → Answers (answer_of bytes (text_of table n) (length old)) old r new
+    pub question_answered : (old : List ℕ) (r : Result ℕ Refusal) (new : List ℕ) → Answers (answer_of bytes (text_of table n) (length old)) old r new
         → Answers (question_of bytes text (length old)) old r new
     unfolding question_of
     question_answered old r new w =

@@ -1,5 +1,5 @@
 -- Laws of outcomes: lines of the table in order, and what a call shows whose outcome is known.
-use Rattle.std.specs.Prelude.{ℕ, ◌≡◌, Bool, length, drop}
+use Rattle.std.specs.Prelude.{ℕ, ◌≡◌, Bool, length, drop, Ok, Err}
 use Rattle.std.proofs.Common.{arith, sym, ◌∙◌, subst}
 use Rattle.std.proofs.Math.Path.{refl, ap}
 use mathlib.Core.List.{List, [], ◌∷◌, ◌++◌}
@@ -8,7 +8,6 @@ use Rattle.refusal.specs.Outcome.{Outcome, result, refused, Line, judged, NoneMe
 use Rattle.refusal.specs.Numbers.{number_of, place_of}
 use Rattle.refusal.specs.declared.Refusal.{Refusal}
 use Rattle.recording.specs.Output.{Answers}
-use Rattle.recording.specs.declared.Written.TheVariants.{Bytes, Refused}
 
 pub no_result : {R C : Type 0} (n p : ℕ) (r : R) → refused n p ≡ result r → C
 no_result n p r e = let z : ◌≡◌ {A = ℕ} 0 1 = cc in absurd (bad z)
@@ -84,11 +83,11 @@ append_none (l ∷ ls) ms n m = (n.0, append_none ls ms n.1 m)
 
 -- ---- a call that writes
 
-pub answers_refused : (o : Outcome (List ℕ)) (old : List ℕ) (x : Refusal) → o ≡ refused (number_of x) (place_of x) → Answers o old (Refused x) old
-answers_refused o old x e = subst (λ (k : Outcome (List ℕ)). Answers k old (Refused x) old) (sym e) (record { answer = refl; output = refl })
+pub answers_refused : (o : Outcome (List ℕ)) (old : List ℕ) (x : Refusal) → o ≡ refused (number_of x) (place_of x) → Answers o old (Err x) old
+answers_refused o old x e = subst (λ (k : Outcome (List ℕ)). Answers k old (Err x) old) (sym e) (record { answer = refl; output = refl })
 
 pub answers_written : (o : Outcome (List ℕ)) (old bytes new : List ℕ) (n : ℕ) → o ≡ result bytes → n ≡ length bytes → new ≡ bytes ++ drop n old
-    → Answers o old (Bytes n) new
+    → Answers o old (Ok n) new
 answers_written o old bytes new n e l w =
-    subst (λ (k : Outcome (List ℕ)). Answers k old (Bytes n) new) (sym e)
+    subst (λ (k : Outcome (List ℕ)). Answers k old (Ok n) new) (sym e)
     (record { answer = ap result l; output = w ∙ ap (λ (k : ℕ). bytes ++ drop k old) l })

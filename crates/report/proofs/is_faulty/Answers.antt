@@ -2,7 +2,7 @@
 use borrow.Author.Rules.{rules}
 use native.Mathlib.Omega.{arith}
 use mathlib.Core.Path.{sym, ◌∙◌}
-use Rattle.report.proofs.laws.Running.{fault_whole, fault_many, fault_parts, fault_far, fault_sum, fault_mean, differs_nan}
+use Rattle.report.proofs.laws.Running.{fault_whole, fault_many, fault_parts, fault_far, fault_sum, fault_mean}
 use Rattle.report.proofs.is_faulty.Goals as goal
 
 pub returns-then-r : goal.returns-then-r
@@ -21,14 +21,14 @@ pub returns-then-r-3 : goal.returns-then-r-3
 returns-then-r-3 c =
     fault_parts c.args.r (omega arith)
 
-pub returns-then-r-4 : goal.returns-then-r-4
-returns-then-r-4 c =
-    fault_far c.args.r c.if-r-4.true
+pub returns-then-from-r : goal.returns-then-from-r
+returns-then-from-r c =
+    fault_far c.args.r (omega arith)
 
-pub returns-then-m : goal.returns-then-m
-returns-then-m c =
-    fault_sum c.args.r (sym (differs_nan c.args.r.mean.sum) ∙ c.if-m.true)
+pub returns-then-is_nan : goal.returns-then-is_nan
+returns-then-is_nan c =
+    fault_sum c.args.r (sym c.is_nan.ensures.value ∙ c.if-is_nan.true)
 
 pub returns : goal.returns
 returns c =
-    differs_nan c.args.r.mean.mean ∙ fault_mean c.args.r c.if-r.false c.if-r-gt-MOST_BATCHES.false (omega arith) c.if-r-4.false (sym (differs_nan c.args.r.mean.sum) ∙ c.if-m.false)
+    c.is_nan-2.ensures.value ∙ fault_mean c.args.r c.if-r.false c.if-r-gt-MOST_BATCHES.false (omega arith) (omega arith) (sym c.is_nan.ensures.value ∙ c.if-is_nan.false)

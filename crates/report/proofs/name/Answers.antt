@@ -7,6 +7,7 @@ use Rattle.report.specs.Report.{most_batches}
 use borrow.Author.Tests.{eq-eqb, lt-ltb}
 use mir.Syntax.{w64}
 use mir.ValLaws.{to_z-of_z}
+use Rattle.std.proofs.lemmas.Result.{err_from_is_err_and}
 use Rattle.number.proofs.laws.Boolean.{or_left, or_right}
 use Rattle.refusal.specs.Outcome.{judged}
 use Rattle.meaning.specs.inner.Coded.{index}
@@ -23,14 +24,15 @@ pub returns-then-count-gt-MOST_BATCHES : goal.returns-then-count-gt-MOST_BATCHES
 returns-then-count-gt-MOST_BATCHES c =
     count_bad c.args.count c.args.text.now c.args.target c.args.room (or_right (eqb c.args.count 0) (ltb most_batches c.args.count) (lt-ltb _ _ c.if-count-gt-MOST_BATCHES.true))
 
-pub returns-in-Refused : goal.returns-in-Refused
-returns-in-Refused c =
+pub returns-in_err-read : goal.returns-in_err-read
+returns-in_err-read c =
+    let p = err_from_is_err_and c.from_residual.result c.from_residual.ensures.1 in
     let good = count_good c.args.count c.args.text.now c.args.target c.args.room (omega (arith, c.if-count-eq0.false)) c.if-count-gt-MOST_BATCHES.false in
-    text_bad c.args.count c.args.text.now c.args.target c.args.room good _ _ c.read-read.ensures _ c.in-Refused.is
+    rw (p.1, p.2) (text_bad c.args.count c.args.text.now c.args.target c.args.room good _ _ c.read.ensures _ c.in_err-read.was)
 
-pub returns-in-Nodes : goal.returns-in-Nodes
-returns-in-Nodes c =
+pub returns : goal.returns
+returns c =
     let good = count_good c.args.count c.args.text.now c.args.target c.args.room (omega (arith, c.if-count-eq0.false)) c.if-count-gt-MOST_BATCHES.false in
     let e = to_z-of_z w64 c.args.target c.ranges.target in
-    text_good c.args.count c.args.text.now c.args.target c.args.room good _ _ c.read-read.ensures _ c.in-Nodes.is _
+    text_good c.args.count c.args.text.now c.args.target c.args.room good _ _ c.read.ensures _ c.in_ok-read.was _
     (c.aimed.ensures ∙ ap (λ (g : ℤ). judged (target_lines g c.args.room) (index g)) e)

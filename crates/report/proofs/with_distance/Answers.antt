@@ -1,26 +1,19 @@
 -- `report::with_distance` meets its contract. Assumes nothing.
-use native.Mathlib.Omega.{arith}
-use mathlib.Core.Path.{refl, ap}
+use mathlib.Core.Path.{◌≡◌, refl, ap, ◌∙◌}
+use mathlib.Core.Bool.{Bool, true, false, cond}
 use Prim.Native.Nat.{ℕ, ◌+◌}
+use lib.Dec.{eqb}
+use mir.Val.{bool_byte}
 use Rattle.report.proofs.laws.Running.{same_report}
-use borrow.Author.Rules.{rules}
 use Rattle.report.proofs.with_distance.Goals as goal
 
-pub overflow_add-r : goal.overflow_add-r
-overflow_add-r c = omega arith
-
-pub overflow_sub-r : goal.overflow_sub-r
-overflow_sub-r c = omega arith
-
-pub overflow_add-result : goal.overflow_add-result
-overflow_add-result c = omega arith
-
-pub overflow_add-result-2 : goal.overflow_add-result-2
-overflow_add-result-2 c = omega arith
-
-pub overflow_add-result-3 : goal.overflow_add-result-3
-overflow_add-result-3 c = omega arith
+-- true as the number 1
+one : (b : Bool) → bool_byte b ≡ cond b 1 0
+one true = refl
+one false = refl
 
 pub returns : goal.returns
 returns c =
-    same_report c.args.r.count _ _ _ _ _ _ _ _ _ _ refl (ap (λ (k : ℕ). c.args.r.met + k) c.one_met.ensures.0) refl refl c.with-mean.ensures
+    let r = c.args.r in
+    same_report r.count _ _ _ _ _ _ _ _ _ _ refl (ap (λ (k : ℕ). r.met + k) (c.from.ensures ∙ one (eqb c.args.d 0))) refl
+    (ap (λ (k : ℕ). r.distances + k) c.from-2.ensures) c.with-mean.ensures

@@ -13,8 +13,6 @@ use Rattle.report.specs.Report.{no_mean, mean_degree, Figures, Answer, taken, gi
 use Rattle.report.specs.declared.Report.{Report}
 use Rattle.report.specs.declared.Added.{Added}
 use Rattle.report.specs.declared.Added.TheVariants as variant
-use Rattle.report.specs.declared.Named.{Named}
-use Rattle.report.specs.declared.Named.TheVariants as named
 
 -- after the batches of a list
 abbrev pub running_of : ℕ → List Reach → Report
@@ -77,11 +75,6 @@ counted r = cond (eqb r.taken r.count) (last r) (further r)
 abbrev pub added_to : Report → Outcome Reach → Addition
 added_to r (result x) = counted (with_batch r x)
 added_to r (refused n p) = stopped n p
-
--- the index of the target that was named, or the refusal
-abbrev pub named_of : Named → Outcome ℕ
-named_of (named.Index v) = result v
-named_of (named.Refused x) = refused (number_of x) (place_of x)
 
 -- each distance is one of the axis
 abbrev pub Small : Outcome Reach → Type 0

@@ -1,10 +1,10 @@
 -- The bytes that a naming leaves, and what it returns.
-use Rattle.std.specs.Prelude.{ℕ, ◌+◌, ◌≤◌, ◌<◌, ◌≡◌, refl, Bool, true, false, cond, List, [], ◌++◌, eqb, length, take, drop}
+use Rattle.std.specs.Prelude.{ℕ, ◌+◌, ◌≤◌, ◌<◌, ◌≡◌, refl, Bool, true, false, cond, List, [], ◌++◌, eqb, length, take, drop, Result, Ok, Err}
 use Rattle.std.proofs.Common.{arith, sym, ap, ◌∙◌, subst, length-append, ltb-false, lt-ltb}
 use Rattle.number.specs.Words.{word_bytes, words_bytes}
 use Rattle.number.proofs.laws.Words.{put_behind, length-row}
 use Rattle.number.proofs.laws.Boolean.{none_right, clash}
-use Rattle.refusal.specs.Outcome.{Outcome, result, refused}
+use Rattle.refusal.specs.Outcome.{Outcome, result, refused, reported}
 use Rattle.refusal.specs.Numbers.{number_of, place_of}
 use Rattle.refusal.specs.declared.Refusal.{Refusal}
 use Rattle.recording.proofs.laws.Outcome.{result_none, none_append}
@@ -18,10 +18,8 @@ use Rattle.reply.proofs.laws.Place.{plain-place}
 use Rattle.mean.specs.inner.Running.{Numbers}
 use Rattle.mean.proofs.laws.Number.{running-numbers}
 use Rattle.report.specs.Report.{Naming, report_bytes, naming_lines, named, Answer, taken}
-use Rattle.report.specs.inner.Running.{running_of, named_of}
+use Rattle.report.specs.inner.Running.{running_of}
 use Rattle.report.specs.inner.Naming.{target_lines}
-use Rattle.report.specs.declared.Named.{Named}
-use Rattle.report.specs.declared.Named.TheVariants as variant
 use Rattle.report.specs.declared.Report.{Report}
 use Rattle.report_state.specs.State.{figure_words, named_bytes, no_report, closed_bytes, ended_bytes, naming_after}
 use Rattle.report_state.specs.Call.{answer_told, named_index, Starts}
@@ -57,29 +55,29 @@ module _ (n : Naming) (old : List ℕ) where
   pub named-mapped : named room n ≡ mapped (λ (v : ℕ). taken) (named_index n room)
   named-mapped = sym (judged-mapped (λ (v : ℕ). taken) (naming_lines n room) (index n.target))
 
-  module _ (x : Named) (h : named_of x ≡ named_index n room) where
-    pub start-room : (v : ℕ) → x ≡ variant.Index v → (report_bytes ≤ length old) × (length n.text ≤ most_bytes)
+  module _ (x : Result ℕ Refusal) (h : reported x ≡ named_index n room) where
+    pub start-room : (v : ℕ) → x ≡ Ok v → (report_bytes ≤ length old) × (length n.text ≤ most_bytes)
     start-room v e =
-        let k = (result_none (naming_lines n room) (index n.target) v (sym h ∙ ap named_of e)).0 in
+        let k = (result_none (naming_lines n room) (index n.target) v (sym h ∙ ap reported e)).0 in
         let m = none_append (text_lines n.text) (target_lines n.target room) k.1 in
         (ltb-false room report_bytes m.1.1.0, ltb-false most_bytes (length n.text) (none_right (eqb (length n.text) 0) _ m.0.0))
 
-    pub start-place : (y : Refusal) → x ≡ variant.Refused y → place_of y < half
+    pub start-place : (y : Refusal) → x ≡ Err y → place_of y < half
     start-place y e =
-        let z = plain-place (naming_lines n room) (index n.target) (number_of y) (place_of y) (refl, (refl, (refl, (refl, (refl, (refl, tt)))))) (sym h ∙ ap named_of e) in
+        let z = plain-place (naming_lines n room) (index n.target) (number_of y) (place_of y) (refl, (refl, (refl, (refl, (refl, (refl, tt)))))) (sym h ∙ ap reported e) in
         omega arith
 
-    pub start-begun : (v : ℕ) (new : List ℕ) → x ≡ variant.Index v → new ≡ named_bytes n.count n.text v old → Starts n old 0 new
+    pub start-begun : (v : ℕ) (new : List ℕ) → x ≡ Ok v → new ≡ named_bytes n.count n.text v old → Starts n old 0 new
     start-begun v new e p =
-        let o : named_index n room ≡ result v = sym h ∙ ap named_of e in
+        let o : named_index n room ≡ result v = sym h ∙ ap reported e in
         record {
           returned = sym (ap (λ (a : Outcome Answer). packed (answer_told a)) (named-mapped ∙ ap (mapped (λ (v : ℕ). taken)) o));
           state = p ∙ sym (ap (λ (a : Outcome ℕ). naming_after n a old) o);
         }
 
-    pub start_refused : (y : Refusal) (r : ℕ) (new : List ℕ) → x ≡ variant.Refused y → r ≡ packed (refused (number_of y) (place_of y)) → new ≡ ended_bytes old → Starts n old r new
+    pub start_refused : (y : Refusal) (r : ℕ) (new : List ℕ) → x ≡ Err y → r ≡ packed (refused (number_of y) (place_of y)) → new ≡ ended_bytes old → Starts n old r new
     start_refused y r new e q p =
-        let o : named_index n room ≡ refused (number_of y) (place_of y) = sym h ∙ ap named_of e in
+        let o : named_index n room ≡ refused (number_of y) (place_of y) = sym h ∙ ap reported e in
         record {
           returned = q ∙ sym (ap (λ (a : Outcome Answer). packed (answer_told a)) (named-mapped ∙ ap (mapped (λ (v : ℕ). taken)) o));
           state = p ∙ sym (ap (λ (a : Outcome ℕ). naming_after n a old) o);

@@ -11,6 +11,3 @@ use Rattle.report_state.proofs.put_text.Given as goal
 
 abbrev pub invariant-loop-i : goal.invariant-loop-i
 invariant-loop-i l = (l.i ≤ length l.text) × (length l.buffer ≡ length l.initial.buffer) × (l.buffer ≡ paste l.initial.buffer 52 l.text l.i)
-
-abbrev pub decreases-loop-i : goal.decreases-loop-i
-decreases-loop-i l = length l.text - l.i

@@ -1,7 +1,7 @@
 -- A run more, behind all members of a set: two cuts more, or the last run goes on.
 use Prim.Native.Nat.{ℕ, zero, suc, ◌+◌, ◌-◌, ◌*◌, ◌≤◌, ◌<◌}
 use native.Mathlib.Omega.{arith}
-use Rattle.std.specs.Prelude.{◌≡◌, Bool, not, ◌||◌, ◌&&◌, ◌⊎◌, leb, ltb, get_or, set}
+use Rattle.std.specs.Prelude.{◌≡◌, Bool, not, ◌||◌, ◌&&◌, ◌⊎◌, leb, ltb, get_or, set, Ok, Err}
 use Rattle.std.proofs.Math.Path.{refl, sym, ap}
 use Rattle.std.proofs.Common.{ap₂, subst, ◌∙◌, true≢false, inl, inr, length-set, take-suc, get_or-set_same, get_or-set_other, le-leb, lt-ltb, leb-true, ltb-true}
 use Rattle.std.proofs.Math.Bool.{true, false}
@@ -14,6 +14,7 @@ use Rattle.std.proofs.lemmas.Bool.{lt-leb}
 use Rattle.number.specs.Axis.{axis}
 use Rattle.number.proofs.laws.Boolean.{same}
 use Rattle.number.proofs.laws.Order.{less_or_not}
+use Rattle.runs.specs.declared.TooManyRuns.{TooManyRuns}
 use Rattle.runs.specs.Runs.{most_runs}
 use Rattle.runs.specs.Set.{cuts_of, slot_words, xor, inside, member, Ascending, Canonical, Valid, Makes}
 use Rattle.runs.proofs.laws.Cuts.{xor_assoc, past}
@@ -207,7 +208,7 @@ module _ (words : List ℕ) (w : Valid words) (low high : ℕ) (h : low ≤ high
       cuts-take ∙ ap (λ (i : ℕ). take i words) e ∙ take-suc words (n - 1) 0 (omega (arith, w.few, w.size))
 
   -- it goes on
-  pub joins : 0 < n → get_or words (n - 1) 0 ≡ low → Makes more (set words (n - 1) (high + 1)) false
+  pub joins : 0 < n → get_or words (n - 1) 0 ≡ low → Makes more (set words (n - 1) (high + 1)) (Ok (tt {0}))
   unfolding member
   joins p q =
       let j = take (n - 1) words in
@@ -249,13 +250,13 @@ module _ (words : List ℕ) (w : Valid words) (low high : ℕ) (h : low ≤ high
     grown-length : length cuts ≡ n + 2
     grown-length = length-append (cuts_of words) (low ∷ (high + 1) ∷ []) ∙ ap (λ (i : ℕ). i + 2) (cuts-length words w ∙ sym is)
 
-    pub full : n ≡ 2 * most_runs → Makes more words true
+    pub full : n ≡ 2 * most_runs → {x : TooManyRuns} → Makes {A = Unit {0}} more words (Err x)
     full e = too_many more cuts words grown_canonical (λ v g. grown-members v) (omega (arith, grown-length))
 
     pub room : (n ≡ 2 * most_runs → ⊥) → n + 2 ≤ 2 * most_runs
     room ne = omega (arith, w.few, valid_cuts words w)
 
-    grown-put : (ne : n ≡ 2 * most_runs → ⊥) → Makes more (set (set (set words n low) (n + 1) (high + 1)) (2 * most_runs) (n + 2)) false
+    grown-put : (ne : n ≡ 2 * most_runs → ⊥) → Makes more (set (set (set words n low) (n + 1) (high + 1)) (2 * most_runs) (n + 2)) (Ok (tt {0}))
     grown-put ne =
         let o = set (set words n low) (n + 1) (high + 1) in
         let r = room ne in
@@ -268,5 +269,5 @@ module _ (words : List ℕ) (w : Valid words) (low high : ℕ) (h : low ≤ high
         ∙ put_two words n low (high + 1) (omega (arith, w.size)) ∙ ap (λ (x : List ℕ). x ++ low ∷ (high + 1) ∷ []) (sym cuts-take))
         more (λ v g. grown-members v))
 
-    pub added : (ne : n ≡ 2 * most_runs → ⊥) (o : List ℕ) → o ≡ set (set (set words n low) (n + 1) (high + 1)) (2 * most_runs) (n + 2) → Makes more o false
-    added ne o e = subst (λ (w : List ℕ). Makes more w false) (sym e) (grown-put ne)
+    pub added : (ne : n ≡ 2 * most_runs → ⊥) (o : List ℕ) → o ≡ set (set (set words n low) (n + 1) (high + 1)) (2 * most_runs) (n + 2) → Makes more o (Ok (tt {0}))
+    added ne o e = subst (λ (w : List ℕ). Makes more w (Ok (tt {0}))) (sym e) (grown-put ne)

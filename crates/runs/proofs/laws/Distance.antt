@@ -1,5 +1,5 @@
 -- The distance is the least |v − w| over the members w; it is the size of the axis exactly where there is no member.
-use Rattle.std.specs.Prelude.{ℕ, ◌+◌, ◌-◌, ◌≤◌, ◌<◌, ◌≡◌, refl, Bool, cond, ◌&&◌, ◌||◌, leb, ltb}
+use Rattle.std.specs.Prelude.{ℕ, ◌+◌, ◌-◌, ◌≤◌, ◌<◌, ◌≡◌, refl, Bool, cond, ◌&&◌, ◌||◌, leb, ltb, Some, None}
 use Rattle.std.proofs.Common.{sym, ap, ap₂, ◌∙◌, arith, lt-ltb, le-ltb, le-leb, ltb-true, leb-true}
 use Rattle.std.proofs.Math.Bool.{true, false}
 use Rattle.std.proofs.lemmas.Bool.{false≢true, lt-leb}
@@ -10,7 +10,6 @@ use Rattle.number.proofs.laws.Least.{least_le, least_is, least_none, least_holds
 use Rattle.number.proofs.laws.Order.{less_or_not, true_or_false}
 use Rattle.runs.specs.Distance.{member_at, distance}
 use Rattle.runs.specs.Set.{nearest_of}
-use Rattle.runs.specs.declared.Nearest.TheVariants.{At, Nothing}
 
 -- |v − w|
 abbrev pub between : ℕ → ℕ → ℕ
@@ -95,18 +94,18 @@ unfolding distance
 distance_le f v = least_le (member_at f v) axis
 
 -- a nearest member is at the distance
-pub at_distance : (f : ℕ → Bool) (v d : ℕ) → At d ≡ nearest_of f v → d ≡ distance f v
+pub at_distance : (f : ℕ → Bool) (v d : ℕ) → Some d ≡ nearest_of f v → d ≡ distance f v
 at_distance f v d e = by (ltb (distance f v) axis) e
   where
-    by : (b : Bool) → At d ≡ cond b (At (distance f v)) Nothing → d ≡ distance f v
+    by : (b : Bool) → Some d ≡ cond b (Some (distance f v)) None → d ≡ distance f v
     by true e = cc
     by false e = cc
 
 -- no nearest member: the distance is the size of the axis
-pub nothing-distance : (f : ℕ → Bool) (v : ℕ) → Nothing ≡ nearest_of f v → distance f v ≡ axis
+pub nothing-distance : (f : ℕ → Bool) (v : ℕ) → None ≡ nearest_of f v → distance f v ≡ axis
 nothing-distance f v e =
-    ⊎_elim (λ h. absurd (never (e ∙ ap (λ (b : Bool). cond b (At (distance f v)) Nothing) (lt-ltb (distance f v) axis h))))
+    ⊎_elim (λ h. absurd (never (e ∙ ap (λ (b : Bool). cond b (Some (distance f v)) None) (lt-ltb (distance f v) axis h))))
     (λ h. omega (arith, distance_le f v)) (less_or_not (distance f v) axis)
   where
-    never : Nothing ≡ At (distance f v) → ⊥
-    never p = let z : ◌≡◌ {A = ℕ} 0 1 = cc in omega arith
+    never : None ≡ Some (distance f v) → ⊥
+    never p = cc

@@ -5,8 +5,11 @@ use Rattle.std.proofs.Common.{ap₂, ◌∙◌, true≢false, ⊎_elim, arith, l
 use mathlib.Core.List.{List, [], ◌∷◌, ◌++◌}
 use Rattle.std.proofs.lemmas.List.{take-set-le}
 use Rattle.std.proofs.lemmas.Bool.{lt-leb}
+use Rattle.std.proofs.Common.{Result, Ok, Err}
+use Rattle.std.specs.Result.{is_err, IsErr}
 use Rattle.number.specs.Axis.{axis}
 use Rattle.number.proofs.laws.Order.{less_or_not}
+use Rattle.runs.specs.declared.TooManyRuns.{TooManyRuns}
 use Rattle.runs.specs.Runs.{most_runs, run_count}
 use Rattle.runs.specs.Set.{cuts_of, slot_words, shared_words, inside, member, Ascending, Canonical, Valid, Holds, Makes}
 use Rattle.runs.proofs.laws.Cuts.{one_list, nil_canonical, none, before-run, in_run, behind_run}
@@ -59,24 +62,36 @@ holds_ext f g words e r = record { valid = r.valid; members = λ v h. r.members 
 pub few_runs : (f : ℕ → Bool) (words : List ℕ) → Holds f words → ltb most_runs (run_count f) ≡ false
 few_runs f words c = le-ltb most_runs (run_count f) (omega (arith, run_count_ext (member words) f c.members, valid_count words c.valid))
 
-pub holds_makes : (f : ℕ → Bool) (words : List ℕ) → Holds f words → Makes f words false
+pub holds_makes : {A : Type 0} {x : A} (f : ℕ → Bool) (words : List ℕ) → Holds f words → Makes f words (Ok x)
 holds_makes f words c = record { flag = sym (few_runs f words c); holds = λ z. c }
 
-pub makes_ext : (f g : ℕ → Bool) (words : List ℕ) (over : Bool) → ((v : ℕ) → v < axis → f v ≡ g v) → Makes f words over → Makes g words over
-makes_ext f g words over e r =
-    record { flag = r.flag ∙ ap (ltb most_runs) (run_count_ext f g e); holds = λ o. holds_ext f g words e (r.holds o) }
+-- the promise does not speak of the value beside it
+pub makes_beside : {A B : Type 0} (f : ℕ → Bool) (words : List ℕ) {r : Result A TooManyRuns} {s : Result B TooManyRuns}
+    → is_err r ≡ is_err s → Makes f words r → Makes f words s
+makes_beside f words e m = record { flag = sym e ∙ m.flag; holds = λ o. m.holds (e ∙ o) }
+
+-- an error is passed on, whatever the words hold
+pub makes_failed : {A B : Type 0} {x : TooManyRuns} (f : ℕ → Bool) (words other : List ℕ) (r : Result B TooManyRuns)
+    → Makes {A = A} f words (Err x) → IsErr r → Makes f other r
+makes_failed f words other r m e = record { flag = e ∙ m.flag; holds = λ o. absurd (true≢false (sym e ∙ o)) }
+
+pub makes_ext : {A : Type 0} (f g : ℕ → Bool) (words : List ℕ) (r : Result A TooManyRuns)
+    → ((v : ℕ) → v < axis → f v ≡ g v) → Makes f words r → Makes g words r
+makes_ext f g words r e m =
+    record { flag = m.flag ∙ ap (ltb most_runs) (run_count_ext f g e); holds = λ o. holds_ext f g words e (m.holds o) }
 
 -- the same members, by equal lists of cuts
-pub makes_lists : (op : Bool → Bool → Bool) (words : List ℕ) (over : Bool) {a a' b b' : List ℕ} → a ≡ a' → b ≡ b'
-    → Makes (λ v. op (inside a v) (inside b v)) words over → Makes (λ v. op (inside a' v) (inside b' v)) words over
-makes_lists op words over e g m = subst (λ (h : ℕ → Bool). Makes h words over) (λ i v. op (inside (e i) v) (inside (g i) v)) m
+pub makes_lists : {A : Type 0} (op : Bool → Bool → Bool) (words : List ℕ) (r : Result A TooManyRuns) {a a' b b' : List ℕ} → a ≡ a' → b ≡ b'
+    → Makes (λ v. op (inside a v) (inside b v)) words r → Makes (λ v. op (inside a' v) (inside b' v)) words r
+makes_lists op words r e g m = subst (λ (h : ℕ → Bool). Makes h words r) (λ i v. op (inside (e i) v) (inside (g i) v)) m
 
 -- the same members, told of equal things
-pub makes_of : {A : Type 0} (f : A → ℕ → Bool) (words : List ℕ) (over : Bool) {a b : A} → a ≡ b → Makes (f a) words over → Makes (f b) words over
-makes_of f words over e m = subst (λ (h : ℕ → Bool). Makes h words over) (λ i. f (e i)) m
+pub makes_of : {A B : Type 0} (f : B → ℕ → Bool) (words : List ℕ) (r : Result A TooManyRuns) {a b : B} → a ≡ b → Makes (f a) words r → Makes (f b) words r
+makes_of f words r e m = subst (λ (h : ℕ → Bool). Makes h words r) (λ i. f (e i)) m
 
 -- more cuts than there is room for
-pub too_many : (f : ℕ → Bool) (m words : List ℕ) → Canonical m → ((v : ℕ) → v < axis → inside m v ≡ f v) → 2 * most_runs < length m → Makes f words true
+pub too_many : {A : Type 0} {x : TooManyRuns} (f : ℕ → Bool) (m words : List ℕ) → Canonical m → ((v : ℕ) → v < axis → inside m v ≡ f v)
+    → 2 * most_runs < length m → Makes {A = A} f words (Err x)
 too_many f m words c e h =
     record { flag = sym (lt-ltb most_runs (run_count f) (omega (arith, cuts-count f m c e))); holds = λ z. absurd (true≢false z) }
 

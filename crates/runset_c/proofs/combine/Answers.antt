@@ -3,7 +3,6 @@ use Rattle.runs.specs.Set.{member}
 use Rattle.runs.proofs.laws.Set.{makes_ext}
 use Rattle.runset_c.specs.Bytes.{chosen}
 use Rattle.runset_c.proofs.Delivery.{chosen_or, chosen_and, chosen_not, chosen_else}
-use Rattle.std.proofs.Common.{rules}
 use Rattle.runset_c.proofs.combine.Goals as goal
 
 pub or-requires : goal.or-requires

@@ -1,22 +1,18 @@
 -- What `distance` says of the loaded set.
-use Rattle.std.proofs.Common.{sym, ◌∙◌, rules}
-use Rattle.runset_c.proofs.Delivery.{distance_refused, distance_off, distance_said}
-use Rattle.runs.proofs.laws.Distance.{at_distance, nothing-distance}
+use Rattle.std.proofs.Common.{sym, ◌∙◌}
+use Rattle.runset_c.proofs.Delivery.{distance_refused, distance_off, distance_said, distance_or}
 use Rattle.runset_c.proofs.runset_distance.Goals as goal
 
-pub returns-then-load : goal.returns-then-load
-returns-then-load c = let g = c.args in distance_refused g.a.now _ _ c.load.ensures g.v c.if-load.true
+pub returns-then-is_err : goal.returns-then-is_err
+returns-then-is_err c = let g = c.args in distance_refused g.a.now _ _ c.load.ensures g.v (sym c.is_err.ensures.value ∙ c.if-is_err.true)
 
 pub returns-then-v-ge-AXIS : goal.returns-then-v-ge-AXIS
-returns-then-v-ge-AXIS c = let g = c.args in distance_off g.a.now _ _ c.load.ensures g.v c.if-load.false c.if-v-ge-AXIS.true
+returns-then-v-ge-AXIS c = let g = c.args in distance_off g.a.now _ _ c.load.ensures g.v (sym c.is_err.ensures.value ∙ c.if-is_err.false) c.if-v-ge-AXIS.true
 
 pub distance-requires : goal.distance-requires
-distance-requires c = ((c.load.ensures.holds c.if-load.false).valid, c.if-v-ge-AXIS.false)
+distance-requires c = ((c.load.ensures.holds (sym c.is_err.ensures.value ∙ c.if-is_err.false)).valid, c.if-v-ge-AXIS.false)
 
-pub returns-in-At : goal.returns-in-At
-returns-in-At c =
-    distance_said c.args.a.now _ _ c.load.ensures c.args.v c.if-load.false c.if-v-ge-AXIS.false _ (at_distance _ c.args.v _ (sym c.in-At.is ∙ c.distance.ensures))
-
-pub returns-in-Nothing : goal.returns-in-Nothing
-returns-in-Nothing c =
-    distance_said c.args.a.now _ _ c.load.ensures c.args.v c.if-load.false c.if-v-ge-AXIS.false _ (sym (nothing-distance _ c.args.v (sym c.in-Nothing.is ∙ c.distance.ensures)))
+pub returns : goal.returns
+returns c =
+    distance_said c.args.a.now _ _ c.load.ensures c.args.v (sym c.is_err.ensures.value ∙ c.if-is_err.false) c.if-v-ge-AXIS.false _
+    (distance_or _ c.args.v _ _ c.distance.ensures c.unwrap_or.ensures)

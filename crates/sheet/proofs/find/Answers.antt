@@ -6,7 +6,6 @@ use Prim.Native.Nat.{ℕ, ◌/◌, ◌≤◌, ◌<◌}
 use native.Mathlib.Omega.{arith}
 use lib.ListN.{length}
 use Rattle.number.specs.Words.{word}
-use Rattle.refusal.specs.Outcome.{result}
 use Rattle.recording.specs.Recording.{raw_at, readings, Accepted}
 use Rattle.recording.proofs.laws.Record.{length-readings}
 use Rattle.sheet.specs.Sheet.{sheet_of, most_lines, AcceptedSheet}
@@ -22,13 +21,13 @@ module _ (bytes : List ℕ) (accepted : Accepted bytes) (n : ℕ) (count : n ≡
   shown : Earliest table (length (readings bytes)) sheet (length sheet / 2) index line
   shown = subst (λ (k : ℕ). Earliest table k sheet (length sheet / 2) index line) (count ∙ sym (length-readings bytes)) e
 
-  met : n ≤ index → result all_met ≡ result (finding (sheet_of sheet) (readings bytes))
-  met h = ap result (shown_met (readings bytes) table firsts sheet fine index line shown (omega (arith, length-readings bytes)))
+  met : n ≤ index → all_met ≡ finding (sheet_of sheet) (readings bytes)
+  met h = shown_met (readings bytes) table firsts sheet fine index line shown (omega (arith, length-readings bytes))
 
-  broken : (time : ℕ) → index < n → time ≡ word (raw_at bytes index) 0 → result (broken_at time line) ≡ result (finding (sheet_of sheet) (readings bytes))
+  broken : (time : ℕ) → index < n → time ≡ word (raw_at bytes index) 0 → broken_at time line ≡ finding (sheet_of sheet) (readings bytes)
   broken time h t =
-      ap result (ap (λ (u : ℕ). broken_at u line) (t ∙ time-at bytes accepted index (omega arith))
-      ∙ shown_broken (readings bytes) table firsts sheet fine index line shown (omega (arith, length-readings bytes)))
+      ap (λ (u : ℕ). broken_at u line) (t ∙ time-at bytes accepted index (omega arith))
+      ∙ shown_broken (readings bytes) table firsts sheet fine index line shown (omega (arith, length-readings bytes))
 
   few : index < n → line < most_lines
   few h = let l = e.there h in let m = lines_few sheet fine in omega arith

@@ -18,6 +18,3 @@ pub record Copied (from to₀ : List ℕ) (at i : ℕ) (to : List ℕ) : Type 0 
 
 abbrev pub invariant-loop-i : goal.invariant-loop-i
 invariant-loop-i l = Copied l.from l.initial.to l.at l.i l.to
-
-abbrev pub decreases-loop-i : goal.decreases-loop-i
-decreases-loop-i l = length l.from - l.i

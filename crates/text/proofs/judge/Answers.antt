@@ -1,5 +1,4 @@
 -- Each way out cites its law.
-use borrow.Author.Rules.{rules}
 use Rattle.text.proofs.ToldLaws.{judge_mixed, judge_large, judge_deep, judge_nodes}
 use Rattle.text.proofs.judge.Goals as goal
 

@@ -1,9 +1,8 @@
 -- What an answer with nodes says: none of 5, 6 and 7 meets the text, the tree is its one reading by the rules, and the nodes are counted.
-use Rattle.std.specs.Prelude.{◌≡◌, refl, Bool, true, false, cond, List, [], ◌∷◌, ℕ, ◌-◌, ◌≤◌, ◌<◌, ltb}
+use Rattle.std.specs.Prelude.{◌≡◌, refl, Bool, true, false, cond, List, [], ◌∷◌, ℕ, ◌-◌, ◌≤◌, ◌<◌, ltb, Ok}
 use Rattle.std.proofs.Common.{ap, arith, ltb-false}
 use Rattle.number.proofs.laws.Boolean.{none_left}
 use Rattle.refusal.specs.Outcome.{result, refused, Line, judged, NoneMeets}
-use Rattle.text.specs.declared.Answer.TheVariants.{Nodes}
 use Rattle.grammar.specs.Size.{nodes, most_nodes, too_deep}
 use Rattle.grammar.specs.inner.Table.{tree_at}
 use Rattle.grammar.specs.inner.Parse.{parsed}
@@ -21,7 +20,7 @@ judged_result (l ∷ ls) r x e = go l.meets refl e (λ g. judged_result ls r x g
     go true q g k = let z : ◌≡◌ {A = ℕ} 0 1 = cc in absurd (omega arith)
     go false q g k = (q, k g)
 
-module _ (s table : List ℕ) (n : ℕ) (h : Told s table (Nodes n)) where
+module _ (s table : List ℕ) (n : ℕ) (h : Told s table (Ok n)) where
   pub none_meets : NoneMeets (text_lines s)
   none_meets = judged_result (text_lines s) (nodes_of (parsed s)) n h.outcome
 

@@ -5,8 +5,8 @@ use Rattle.grammar.specs.inner.Lexer.{fields, level_names, top_names, difference
 use Rattle.words.proofs.WordLaws.{in_first, in_rest}
 use Rattle.words.proofs.begun.Goals as goal
 
-pub returns-in-At : goal.returns-in-At
-returns-in-At c = in_first fields (level_names ++ (top_names ++ (difference_names ++ (pigment_names ++ openings)))) c.args.text.now c.args.at c.field.ensures c.in-At.is
+pub returns-in-Some : goal.returns-in-Some
+returns-in-Some c = in_first fields (level_names ++ (top_names ++ (difference_names ++ (pigment_names ++ openings)))) c.args.text.now c.args.at c.field.ensures c.in-Some.is
 
-pub returns-in-Missing : goal.returns-in-Missing
-returns-in-Missing c = in_rest fields (level_names ++ (top_names ++ (difference_names ++ (pigment_names ++ openings)))) c.args.text.now c.args.at c.field.ensures c.in-Missing.is c.name_or_opening.ensures
+pub returns-in-None : goal.returns-in-None
+returns-in-None c = in_rest fields (level_names ++ (top_names ++ (difference_names ++ (pigment_names ++ openings)))) c.args.text.now c.args.at c.field.ensures c.in-None.is c.name_or_opening.ensures

@@ -5,8 +5,8 @@ use Rattle.grammar.specs.inner.Lexer.{difference_names, pigment_names, openings}
 use Rattle.words.proofs.WordLaws.{in_first, in_rest}
 use Rattle.words.proofs.difference_or_opening.Goals as goal
 
-pub returns-in-At : goal.returns-in-At
-returns-in-At c = in_first difference_names (pigment_names ++ openings) c.args.text.now c.args.at c.difference_name.ensures c.in-At.is
+pub returns-in-Some : goal.returns-in-Some
+returns-in-Some c = in_first difference_names (pigment_names ++ openings) c.args.text.now c.args.at c.difference_name.ensures c.in-Some.is
 
-pub returns-in-Missing : goal.returns-in-Missing
-returns-in-Missing c = in_rest difference_names (pigment_names ++ openings) c.args.text.now c.args.at c.difference_name.ensures c.in-Missing.is c.pigment_or_opening.ensures
+pub returns-in-None : goal.returns-in-None
+returns-in-None c = in_rest difference_names (pigment_names ++ openings) c.args.text.now c.args.at c.difference_name.ensures c.in-None.is c.pigment_or_opening.ensures

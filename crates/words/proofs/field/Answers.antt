@@ -6,8 +6,8 @@ use Rattle.grammar.specs.inner.Lexer.{word, curves}
 use Rattle.words.proofs.WordLaws.{in_first, in_rest}
 use Rattle.words.proofs.field.Goals as goal
 
-pub returns-in-At : goal.returns-in-At
-returns-in-At c = in_first curves (word 2 (bytes "T") ∷ []) c.args.text.now c.args.at c.curve_letter.ensures c.in-At.is
+pub returns-in-Some : goal.returns-in-Some
+returns-in-Some c = in_first curves (word 2 (bytes "T") ∷ []) c.args.text.now c.args.at c.curve_letter.ensures c.in-Some.is
 
-pub returns-in-Missing : goal.returns-in-Missing
-returns-in-Missing c = in_rest curves (word 2 (bytes "T") ∷ []) c.args.text.now c.args.at c.curve_letter.ensures c.in-Missing.is c.time.ensures
+pub returns-in-None : goal.returns-in-None
+returns-in-None c = in_rest curves (word 2 (bytes "T") ∷ []) c.args.text.now c.args.at c.curve_letter.ensures c.in-None.is c.time.ensures

@@ -4,8 +4,8 @@ use Rattle.grammar.specs.inner.Lexer.{pigment_names, openings}
 use Rattle.words.proofs.WordLaws.{in_first, in_rest}
 use Rattle.words.proofs.pigment_or_opening.Goals as goal
 
-pub returns-in-At : goal.returns-in-At
-returns-in-At c = in_first pigment_names openings c.args.text.now c.args.at c.pigment_name.ensures c.in-At.is
+pub returns-in-Some : goal.returns-in-Some
+returns-in-Some c = in_first pigment_names openings c.args.text.now c.args.at c.pigment_name.ensures c.in-Some.is
 
-pub returns-in-Missing : goal.returns-in-Missing
-returns-in-Missing c = in_rest pigment_names openings c.args.text.now c.args.at c.pigment_name.ensures c.in-Missing.is c.opening.ensures
+pub returns-in-None : goal.returns-in-None
+returns-in-None c = in_rest pigment_names openings c.args.text.now c.args.at c.pigment_name.ensures c.in-None.is c.opening.ensures

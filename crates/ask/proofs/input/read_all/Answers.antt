@@ -20,16 +20,16 @@ is-more Failed e = let z : ◌≡◌ {A = ℕ} 0 1 = cc in absurd (omega arith)
 once_more : (store before new : List ℕ) (n : ℕ) (next : Input) → Turns store before (input n More) → Turn before n new next → is_more next.state ≡ true → Turns store new (input next.kept More)
 once_more store before new n next t u e = subst (λ (s : State). Turns store new (input next.kept s)) (is-more next.state e) (then t refl u)
 
-pub loop-turns-init : goal.loop-turns-init
-loop-turns-init g c = (refl, search rules, no_turn)
+pub loop-init : goal.loop-init
+loop-init g c = (refl, search rules, no_turn)
 
 pub returns-then-not-goes_on : goal.returns-then-not-goes_on
 returns-then-not-goes_on g c =
-    record { turns = then c.loop-turns.invariant.2 refl c.read_on-next.ensures.turn; told = c.read_on-next.ensures.told; prefix_len = c.read_on-next.ensures.prefix_len }
+    record { turns = then c.loop.invariant.2 refl c.read_on-next.ensures.turn; told = c.read_on-next.ensures.told; prefix_len = c.read_on-next.ensures.prefix_len }
 
-pub loop-turns-preserved : goal.loop-turns-preserved
-loop-turns-preserved g c = (
+pub loop-preserved : goal.loop-preserved
+loop-preserved g c = (
   search rules,
   search rules,
-  once_more c.args.store.now c.loop-turns.store c.read_on-next.new.store c.loop-turns.kept c.read_on-next.result c.loop-turns.invariant.2 c.read_on-next.ensures.turn (sym c.goes_on.ensures ∙ c.if-not-goes_on.false),
+  once_more c.args.store.now c.loop.store c.read_on-next.new.store c.loop.kept c.read_on-next.result c.loop.invariant.2 c.read_on-next.ensures.turn (sym c.goes_on.ensures ∙ c.if-not-goes_on.false),
 )

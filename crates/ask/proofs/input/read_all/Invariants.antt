@@ -1,4 +1,4 @@
--- The invariant: what is kept lies within the store, and it came by turns that left more to be read. The measure is the number of turns that are left.
+-- The invariant: what is kept lies within the store, and it came by turns that left more to be read.
 use Prim.Native.Nat.{ℕ}
 use mathlib.Core.Path.{◌≡◌}
 use lib.ListN.{length}
@@ -12,8 +12,5 @@ use Rattle.ask.proofs.input.read_all.Given as goal
 abbrev pub input : ℕ → State → Input
 input n s = record { kept = n; state = s }
 
-abbrev pub invariant-loop-turns : goal.invariant-loop-turns
-invariant-loop-turns g l = (length l.store ≡ length l.fn.store) × IsPrefixLen l.kept l.store × Turns l.fn.store l.store (input l.kept More)
-
-abbrev pub decreases-loop-turns : goal.decreases-loop-turns
-decreases-loop-turns g l = l.turns
+abbrev pub invariant-loop : goal.invariant-loop
+invariant-loop g l = (length l.store ≡ length l.fn.store) × IsPrefixLen l.kept l.store × Turns l.fn.store l.store (input l.kept More)

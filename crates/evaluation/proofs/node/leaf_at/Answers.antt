@@ -15,7 +15,6 @@ use Rattle.meaning.specs.inner.Coded.{coded}
 use Rattle.leaves.specs.inner.Leaf.{leaf_of}
 use Rattle.evaluation.specs.inner.Slots.{Sized}
 use Rattle.evaluation.proofs.laws.Slots.{across, across_is, made_in}
-use borrow.Author.Rules.{rules}
 use Rattle.evaluation.proofs.node.leaf_at.Goals as goal
 
 -- the members of the leaf's set

@@ -9,7 +9,6 @@ use lib.Seq.{length-take-le, take_at}
 use Rattle.runs.specs.Set.{member, Valid, slot_words}
 use Rattle.evaluation.specs.inner.Slots.{slot}
 use Rattle.evaluation.proofs.laws.Slots.{puts_ext}
-use borrow.Author.Rules.{rules}
 use Rattle.evaluation.proofs.node.next_at.Goals as goal
 
 pub set_in-requires : goal.set_in-requires

@@ -8,7 +8,6 @@ use Rattle.runs.specs.Set.{member, Valid}
 use Rattle.evaluation.specs.inner.Step.{unary_of}
 use Rattle.evaluation.specs.inner.Slots.{slot}
 use Rattle.evaluation.proofs.laws.Slots.{across, across_is, made_in, puts_lists, puts_ext}
-use borrow.Author.Rules.{rules}
 use Rattle.evaluation.proofs.node.one_at.Goals as goal
 
 pub next_at-requires : goal.next_at-requires

@@ -6,7 +6,6 @@ use lib.Seq.{length-take-le}
 use Rattle.runs.specs.Set.{member, Valid}
 use Rattle.evaluation.specs.inner.Step.{binary_of}
 use Rattle.evaluation.proofs.laws.Slots.{across, across_is, made_in, puts_lists}
-use borrow.Author.Rules.{rules}
 use Rattle.evaluation.proofs.node.two_at.Goals as goal
 
 pub set_in-requires : goal.set_in-requires

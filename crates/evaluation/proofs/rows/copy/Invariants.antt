@@ -19,6 +19,3 @@ pub record Copied (table rows₀ : List ℕ) (i : ℕ) (rows : List ℕ) : Type 
 
 abbrev pub invariant-loop-i : goal.invariant-loop-i
 invariant-loop-i l = Copied l.table l.initial.rows l.i l.rows
-
-abbrev pub decreases-loop-i : goal.decreases-loop-i
-decreases-loop-i l = l.words - l.i

@@ -5,7 +5,6 @@ use lib.ListN.{length-drop}
 use lib.Seq.{length-take-le}
 use Rattle.runs.proofs.laws.Set.{holds_makes}
 use Rattle.evaluation.proofs.laws.Slots.{across, across_is, made_in}
-use borrow.Author.Rules.{rules}
 use Rattle.evaluation.proofs.slots.put.Goals as goal
 
 pub copy-requires : goal.copy-requires

@@ -1,6 +1,5 @@
 -- The words of the slot.
 use Rattle.evaluation.proofs.laws.Slots.{across, across_is, slot_is}
-use borrow.Author.Rules.{rules}
 use Rattle.evaluation.proofs.slots.set_in.Goals as goal
 
 pub returns : goal.returns

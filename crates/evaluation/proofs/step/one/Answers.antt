@@ -9,7 +9,6 @@ use Rattle.runs.specs.Set.{member}
 use Rattle.runs.proofs.laws.Set.{holds_makes, makes_ext}
 use Rattle.evaluation.specs.inner.Step.{unary_of}
 use Rattle.evaluation.proofs.laws.Step.{child_at-last, last_of_four}
-use borrow.Author.Rules.{rules}
 use Rattle.evaluation.proofs.step.one.Goals as goal
 
 pub not-requires : goal.not-requires

@@ -9,7 +9,6 @@ use Rattle.runs.specs.Set.{member}
 use Rattle.runs.proofs.laws.Set.{holds_makes, makes_ext}
 use Rattle.evaluation.specs.inner.Step.{binary_of}
 use Rattle.evaluation.proofs.laws.Step.{last_of_four, until_or_weak}
-use borrow.Author.Rules.{rules}
 use Rattle.evaluation.proofs.step.two.Goals as goal
 
 above : (k : ℕ) → binary_from ≤ k → (k ≡ binary_from → ⊥) → (k ≡ AND → ⊥) → AND < k

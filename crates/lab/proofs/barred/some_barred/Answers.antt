@@ -1,9 +1,7 @@
 -- `barred::some_barred` meets its contract. The invariant: no row before i is barred.
-use mathlib.Core.Path.{◌≡◌, refl, sym, ap, ◌∙◌}
-use mathlib.Core.Bool.{false}
-use Prim.Native.Nat.{ℕ, ◌-◌, ◌≤◌}
-use borrow.Author.Rules.{rules}
-use Rattle.grammar.specs.inner.Table.{some_row}
+use mathlib.Core.Path.{refl, sym, ap, ◌∙◌}
+use Prim.Native.Nat.{ℕ}
+use native.Mathlib.Omega.{arith}
 use Rattle.marks.specs.Marks.{marks_of}
 use Rattle.text.proofs.laws.Table.{some_here, some_next, some_end}
 use Rattle.lab.specs.inner.Barred.{row_barred}
@@ -11,7 +9,7 @@ use Rattle.lab.proofs.laws.Barred.{barred_scan}
 use Rattle.lab.proofs.barred.some_barred.Goals as goal
 
 pub loop-i-init : goal.loop-i-init
-loop-i-init c = (search rules, refl)
+loop-i-init c = refl
 
 pub returns-then-is_barred : goal.returns-then-is_barred
 returns-then-is_barred c =
@@ -24,13 +22,11 @@ returns-then-is_barred c =
 pub loop-i-preserved : goal.loop-i-preserved
 loop-i-preserved c =
     let i : ℕ = c.loop-i.i in
-    let P = row_barred (marks_of c.args.marks.now) in (
-      search rules,
-      some_next P c.args.table.now i (ap P (sym c.row_at.ensures) ∙ sym c.is_barred.ensures ∙ c.if-is_barred.false)
-          c.loop-i.invariant.1,
-    )
+    let P = row_barred (marks_of c.args.marks.now) in
+    some_next P c.args.table.now i (ap P (sym c.row_at.ensures) ∙ sym c.is_barred.ensures ∙ c.if-is_barred.false)
+    c.loop-i.invariant
 
 pub returns : goal.returns
 returns c =
     barred_scan (marks_of c.args.marks.now) c.args.table.now c.args.n _
-    (some_end (row_barred (marks_of c.args.marks.now)) c.args.table.now c.loop-i.i c.args.n c.loop-i.invariant.0 c.loop-i-test.false c.loop-i.invariant.1)
+    (some_end (row_barred (marks_of c.args.marks.now)) c.args.table.now c.loop-i.i c.args.n (omega arith) (omega arith) c.loop-i.invariant)

@@ -1,5 +1,5 @@
 -- One test for all numbers.
-use Rattle.std.proofs.Common.{ℕ, ap, ◌∙◌, rules}
+use Rattle.std.proofs.Common.{ℕ, ap, ◌∙◌}
 use Rattle.grammar.specs.inner.Table.{relation_of}
 use Rattle.meaning.specs.inner.Truth.{relate}
 use Rattle.leaves.proofs.atoms.against_number.Goals as goal

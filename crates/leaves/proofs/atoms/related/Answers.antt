@@ -1,5 +1,5 @@
 -- By the code: the numbers up to x, from x on, below x, behind x, or x alone.
-use Rattle.std.proofs.Common.{ℕ, ◌+◌, ltb, leb, sym, ap, arith, rules}
+use Rattle.std.proofs.Common.{ℕ, ◌+◌, ltb, leb, sym, ap, arith}
 use Rattle.grammar.specs.Syntax.{Relation}
 use Rattle.grammar.specs.inner.Table.{relation_of}
 use Rattle.meaning.specs.inner.Truth.{relate}

@@ -1,5 +1,5 @@
 -- One test for all numbers.
-use Rattle.std.proofs.Common.{ℕ, eqb, ap, ◌∙◌, rules}
+use Rattle.std.proofs.Common.{ℕ, eqb, ap, ◌∙◌}
 use Rattle.meaning.specs.inner.Truth.{coded_at}
 use Rattle.meaning.specs.inner.Coded.{coded}
 use Rattle.recording.specs.Reading.{Curve}

@@ -1,5 +1,5 @@
 -- From the least on.
-use Rattle.std.proofs.Common.{arith, rules}
+use Rattle.std.proofs.Common.{arith}
 use lib.ListN.{length-map}
 use Rattle.recording.specs.Recording.{readings}
 use Rattle.meaning.specs.inner.Coded.{code}

@@ -2,7 +2,6 @@
 use Rattle.meaning.specs.inner.Coded.{coded}
 use Rattle.leaves.proofs.laws.Span.{spans_ext}
 use Rattle.leaves.proofs.laws.Extreme.{lowafter_from}
-use Rattle.std.proofs.Common.{rules}
 use Rattle.recording.specs.Reading.{curve_of}
 use Rattle.leaves.proofs.extremes.lowafter.Goals as goal
 

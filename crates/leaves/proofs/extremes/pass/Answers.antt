@@ -1,5 +1,5 @@
 -- A record at or before the after-time changes nothing; another is weighed.
-use Rattle.std.proofs.Common.{ℕ, ◌<◌, ap, ◌∙◌, subst, arith, rules}
+use Rattle.std.proofs.Common.{ℕ, ◌<◌, ap, ◌∙◌, subst, arith}
 use Rattle.number.specs.Axis.{axis}
 use Rattle.meaning.specs.inner.Truth.{coded_at}
 use Rattle.meaning.specs.inner.Coded.{coded}

@@ -1,5 +1,5 @@
 -- The byte read is the slope.
-use Rattle.std.proofs.Common.{◌∙◌, arith, rules}
+use Rattle.std.proofs.Common.{◌∙◌, arith}
 use Rattle.leaves.proofs.laws.Coding.{record_inside, slope-field}
 use Rattle.leaves.proofs.fields.slope_at.Goals as goal
 

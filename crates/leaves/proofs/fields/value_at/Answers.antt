@@ -1,5 +1,5 @@
 -- The bits of an accepted value and the origin, wrapped, are its index.
-use Rattle.std.proofs.Common.{ℕ, ◌+◌, ◌%◌, ap, ◌∙◌, arith, rules}
+use Rattle.std.proofs.Common.{ℕ, ◌+◌, ◌%◌, ap, ◌∙◌, arith}
 use Rattle.number.specs.Axis.{origin}
 use Rattle.leaves.proofs.laws.Coding.{record_inside, value-field, value_range}
 use Rattle.leaves.proofs.fields.value_at.Goals as goal

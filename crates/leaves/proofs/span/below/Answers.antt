@@ -1,5 +1,5 @@
 -- Below 0 there is nothing.
-use Rattle.std.proofs.Common.{ltb, sym, ap, arith, rules}
+use Rattle.std.proofs.Common.{ltb, sym, ap, arith}
 use Rattle.leaves.proofs.laws.Span.{spans_ext, spans_low, spans_below}
 use Rattle.leaves.proofs.span.below.Goals as goal
 

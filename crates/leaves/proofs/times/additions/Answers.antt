@@ -1,5 +1,5 @@
 -- The times of the additions themselves.
-use Rattle.std.proofs.Common.{sym, subst, length-take-le, rules}
+use Rattle.std.proofs.Common.{sym, subst, length-take-le}
 use Rattle.runs.proofs.laws.Set.{makes_of}
 use Rattle.differences.specs.inner.Times.{Times, time_set}
 use Rattle.leaves.proofs.laws.Indices.{addition-times, additions_room}

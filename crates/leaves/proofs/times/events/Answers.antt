@@ -1,5 +1,5 @@
 -- The times of the event themselves.
-use Rattle.std.proofs.Common.{ℕ, Bool, sym, subst, length-take-le, rules}
+use Rattle.std.proofs.Common.{ℕ, Bool, sym, subst, length-take-le}
 use mathlib.Core.Path.{fun_ext}
 use Rattle.meaning.specs.inner.Coded.{coded}
 use Rattle.runs.proofs.laws.Set.{makes_of}

@@ -1,28 +1,28 @@
 -- The first k are shifted, the others are as before.
-use Rattle.std.proofs.Common.{◌-◌, ◌≤◌, arith, rules}
-use Rattle.leaves.proofs.laws.Indices.{Shifting, shifting_start, shifting_turn}
+use Rattle.std.proofs.Common.{arith}
+use Rattle.leaves.proofs.laws.Indices.{shifting_start, shifting_turn}
 use Rattle.leaves.proofs.times.shift.Goals as goal
 
 pub loop-k-init : goal.loop-k-init
-loop-k-init c = (omega arith, shifting_start c.args.times.now)
+loop-k-init c = shifting_start c.args.times.now
 
 pub bounds-times-k : goal.bounds-times-k
-bounds-times-k c = omega (arith, c.loop-k.invariant.1.long)
+bounds-times-k c = omega (arith, c.loop-k.invariant.long)
 
 pub overflow_add-times : goal.overflow_add-times
 overflow_add-times c =
-    omega (arith, c.loop-k.invariant.1.rest c.loop-k.k (omega arith), c.requires.1 c.loop-k.k c.loop-k-test.true)
+    omega (arith, c.loop-k.invariant.rest c.loop-k.k (omega arith), c.requires.1 c.loop-k.k c.loop-k-test.true)
 
 pub bounds-times-k-in-loop-k : goal.bounds-times-k-in-loop-k
-bounds-times-k-in-loop-k c = omega (arith, c.loop-k.invariant.1.long)
+bounds-times-k-in-loop-k c = omega (arith, c.loop-k.invariant.long)
 
 pub loop-k-preserved : goal.loop-k-preserved
 loop-k-preserved c =
-    (omega arith, shifting_turn c.args.times.now c.loop-k.k c.loop-k.times (omega (arith, c.requires.0, c.loop-k-test.true)) c.loop-k.invariant.1)
+    shifting_turn c.args.times.now c.loop-k.k c.loop-k.times (omega (arith, c.requires.0, c.loop-k-test.true)) c.loop-k.invariant
 
 pub shape_of-times : goal.shape_of-times
-shape_of-times c = c.loop-k.invariant.1.long
+shape_of-times c = c.loop-k.invariant.long
 
 pub returns : goal.returns
 returns c =
-    record { long = c.loop-k.invariant.1.long; shifted = λ k h. c.loop-k.invariant.1.shifted k (omega (arith, c.loop-k-test.false)) }
+    record { long = c.loop-k.invariant.long; shifted = λ k h. c.loop-k.invariant.shifted k (omega (arith, c.loop-k-test.false)) }

@@ -1,5 +1,6 @@
 -- The differences of neighbouring tops.
-use Rattle.std.proofs.Common.{sym, subst, length-take-le, rules}
+use Rattle.std.specs.Prelude.{refl}
+use Rattle.std.proofs.Common.{sym, subst, length-take-le}
 use Rattle.recording.specs.Reading.{a_top, curve_of}
 use Rattle.grammar.specs.Syntax as asks
 use Rattle.meaning.specs.inner.Coded.{coded, coded_times}
@@ -7,24 +8,32 @@ use Rattle.meaning.specs.inner.Truth.{truth, many_tops}
 use Rattle.runs.proofs.laws.Set.{makes_of}
 use Rattle.differences.specs.inner.Times.{Times, steps_of}
 use Rattle.leaves.proofs.laws.Indices.{event-times}
-use Rattle.leaves.proofs.laws.Differing.{differs-made, too_many, few_enough}
+use Rattle.leaves.proofs.laws.Differing.{differs-over, differs-many, few_enough}
 use Rattle.leaves.proofs.times.steps.Goals as goal
 
-pub returns-then-n-gt-MOST_TOPS : goal.returns-then-n-gt-MOST_TOPS
-returns-then-n-gt-MOST_TOPS c =
-    too_many (coded_times (a_top (curve_of c.args.curve)) (coded c.args.rec.now)) c.top_indices-n.result c.top_indices-n.ensures.counted c.if-n-gt-MOST_TOPS.true
+pub returns-in_err-n : goal.returns-in_err-n
+returns-in_err-n c =
+    let k = curve_of c.args.curve in
+    let r = coded c.args.rec.now in
+    differs-many (many_tops k r) (λ v. truth (asks.steps k) r v) _ (coded_times (a_top k) r) _ _ (λ h. h) c.in_err-n.ensures _ c.from_residual.ensures.1
 
 pub slice_bounds-steps-end : goal.slice_bounds-steps-end
-slice_bounds-steps-end c = let t = c.top_indices-n in sym (length-take-le t.result t.new.times (t.ensures.indexed c.if-n-gt-MOST_TOPS.false).room)
+slice_bounds-steps-end c = sym (length-take-le c.in_ok-n.n _ c.in_ok-n.ensures.1.room)
 
 pub steps-requires : goal.steps-requires
 steps-requires c =
-    (subst Times (sym (c.top_indices-n.ensures.indexed c.if-n-gt-MOST_TOPS.false).indices) (event-times c.args.rec.now c.requires.0 (a_top (curve_of c.args.curve))), c.requires.2)
+    (subst Times (sym c.in_ok-n.ensures.1.indices) (event-times c.args.rec.now c.requires.0 (a_top (curve_of c.args.curve))), c.requires.2)
+
+pub returns-in_err-steps : goal.returns-in_err-steps
+unfolding truth
+returns-in_err-steps c =
+    let k = curve_of c.args.curve in
+    let r = coded c.args.rec.now in
+    differs-over (many_tops k r) (λ v. truth (asks.steps k) r v) _ (few_enough (coded_times (a_top k) r) _ refl c.in_ok-n.ensures.0) (makes_of steps_of _ _ c.in_ok-n.ensures.1.indices c.in_err-steps.ensures) _ c.from_residual-in_err-steps.ensures.1
 
 pub returns : goal.returns
 unfolding truth
 returns c =
     let k = curve_of c.args.curve in
     let r = coded c.args.rec.now in
-    differs-made (many_tops k r) (λ v. truth (asks.steps k) r v) _ (few_enough (coded_times (a_top k) r) c.top_indices-n.result c.top_indices-n.ensures.counted c.if-n-gt-MOST_TOPS.false) c.steps.result
-    (makes_of steps_of _ _ (c.top_indices-n.ensures.indexed c.if-n-gt-MOST_TOPS.false).indices c.steps.ensures) c.made.result c.made.ensures
+    (few_enough (coded_times (a_top k) r) _ refl c.in_ok-n.ensures.0, makes_of steps_of _ _ c.in_ok-n.ensures.1.indices c.in_ok-steps.ensures)

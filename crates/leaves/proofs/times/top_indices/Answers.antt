@@ -1,5 +1,5 @@
 -- The times of the scan, each shifted where they are few.
-use Rattle.std.proofs.Common.{◌≡◌, ℕ, ◌≤◌, List, length, arith, rules}
+use Rattle.std.proofs.Common.{◌≡◌, ℕ, ◌≤◌, List, length, arith}
 use Rattle.recording.specs.Reading.{a_top, curve_of}
 use Rattle.recording.specs.Recording.{readings, Accepted}
 use Rattle.tops.specs.Tops as raw
@@ -34,22 +34,18 @@ module _ (rec : List ℕ) (a : Accepted rec) (curve : ℕ) (old new : List ℕ) 
     indexed : (final : List ℕ) → Shifted count new final → Indexed found count final
     indexed = scan_indexed times found old new count (event_indices rec a (a_top (curve_of curve))) s fits
 
+pub returns-then-n-gt-MOST_TOPS : goal.returns-then-n-gt-MOST_TOPS
+returns-then-n-gt-MOST_TOPS c =
+    omega (arith, c.if-n-gt-MOST_TOPS.true, counted c.args.rec.now c.requires.0 c.args.curve c.args.times.now c.event_times-n.new.times c.requires.2 c.event_times-n.result c.event_times-n.ensures)
+
 pub shift-requires : goal.shift-requires
 shift-requires c = (
-  there c.args.rec.now c.requires.0 c.args.curve c.args.times.now c.event_times-n.new.times c.requires.2 c.event_times-n.result c.event_times-n.ensures c.if-n-le-MOST_TOPS.true,
-  early c.args.rec.now c.requires.0 c.args.curve c.args.times.now c.event_times-n.new.times c.requires.2 c.event_times-n.result c.event_times-n.ensures c.if-n-le-MOST_TOPS.true,
+  there c.args.rec.now c.requires.0 c.args.curve c.args.times.now c.event_times-n.new.times c.requires.2 c.event_times-n.result c.event_times-n.ensures c.if-n-gt-MOST_TOPS.false,
+  early c.args.rec.now c.requires.0 c.args.curve c.args.times.now c.event_times-n.new.times c.requires.2 c.event_times-n.result c.event_times-n.ensures c.if-n-gt-MOST_TOPS.false,
 )
 
-pub returns-then-n-le-MOST_TOPS : goal.returns-then-n-le-MOST_TOPS
-returns-then-n-le-MOST_TOPS c =
-    record {
-      counted = counted c.args.rec.now c.requires.0 c.args.curve c.args.times.now c.event_times-n.new.times c.requires.2 c.event_times-n.result c.event_times-n.ensures;
-      indexed = λ h. indexed c.args.rec.now c.requires.0 c.args.curve c.args.times.now c.event_times-n.new.times c.requires.2 c.event_times-n.result c.event_times-n.ensures h c.shift.new.times c.shift.ensures;
-    }
-
-pub returns-else-n-le-MOST_TOPS : goal.returns-else-n-le-MOST_TOPS
-returns-else-n-le-MOST_TOPS c =
-    record {
-      counted = counted c.args.rec.now c.requires.0 c.args.curve c.args.times.now c.event_times-n.new.times c.requires.2 c.event_times-n.result c.event_times-n.ensures;
-      indexed = λ h. absurd (omega arith);
-    }
+pub returns : goal.returns
+returns c = (
+  omega (arith, c.if-n-gt-MOST_TOPS.false, counted c.args.rec.now c.requires.0 c.args.curve c.args.times.now c.event_times-n.new.times c.requires.2 c.event_times-n.result c.event_times-n.ensures),
+  indexed c.args.rec.now c.requires.0 c.args.curve c.args.times.now c.event_times-n.new.times c.requires.2 c.event_times-n.result c.event_times-n.ensures c.if-n-gt-MOST_TOPS.false c.shift.new.times c.shift.ensures,
+)

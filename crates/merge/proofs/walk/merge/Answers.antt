@@ -1,15 +1,8 @@
 -- The invariant: the cuts written so far, with those of what the rests of both lists share, are all cuts.
-use Prim.Native.Nat.{◌+◌, ◌-◌}
 use native.Mathlib.Omega.{arith}
-use lib.ListN.{length, length-set}
-use borrow.Author.Rules.{rules}
 use Rattle.runs.proofs.laws.Place.{two_left}
-use Rattle.merge.proofs.Progress.{Walking, walking_start, walked_left, walked_right, pass_left, pass_right, write_left, write_right, no_room}
+use Rattle.merge.proofs.Progress.{walked_left, walked_right, pass_left, pass_right, write_left, write_right, no_room}
 use Rattle.merge.proofs.walk.merge.Goals as goal
-
-pub loop-i-init : goal.loop-i-init
-loop-i-init c =
-    walking_start c.args.a.now c.args.b.now c.args.out.now c.requires.0 c.requires.1
 
 pub returns-then-j-b : goal.returns-then-j-b
 returns-then-j-b c =
@@ -33,19 +26,15 @@ loop-i-preserved-then-eb-la c =
 
 pub returns-then-room-n : goal.returns-then-room-n
 returns-then-room-n c =
-    no_room c.args.a.now c.args.b.now c.args.out.now c.loop-i.out c.loop-i.n c.loop-i.i c.loop-i.j c.loop-i.invariant c.loop-i-test.true (omega (arith, c.loop-i.invariant.right_in, c.if-j-b.false)) (omega (arith, c.if-ea-lb.false)) (omega (arith, c.if-eb-la.false)) (omega (arith, c.if-room-n.true)) c.loop-i.n
-
-pub bounds-out-n-else-eb-la : goal.bounds-out-n-else-eb-la
-bounds-out-n-else-eb-la c =
-    simp length-set (omega (arith, c.loop-i.invariant.progress.size, c.if-room-n.false))
+    no_room c.args.a.now c.args.b.now c.args.out.now c.loop-i.out c.loop-i.n c.loop-i.i c.loop-i.j c.loop-i.invariant c.loop-i-test.true (omega (arith, c.loop-i.invariant.right_in, c.if-j-b.false)) (omega (arith, c.if-ea-lb.false)) (omega (arith, c.if-eb-la.false)) (omega (arith, c.if-room-n.true))
 
 pub loop-i-preserved-then-ea-eb : goal.loop-i-preserved-then-ea-eb
 loop-i-preserved-then-ea-eb c =
-    write_left c.args.a.now c.args.b.now c.args.out.now c.loop-i.out c.loop-i.n c.loop-i.i c.loop-i.j c.loop-i.invariant c.loop-i-test.true (omega (arith, c.loop-i.invariant.right_in, c.if-j-b.false)) _ _ c.greater.ensures c.lesser.ensures (omega (arith, c.if-ea-lb.false)) (omega (arith, c.if-ea-eb.true)) (omega (arith, c.if-room-n.false))
+    write_left c.args.a.now c.args.b.now c.args.out.now c.loop-i.out c.loop-i.n c.loop-i.i c.loop-i.j c.loop-i.invariant c.loop-i-test.true (omega (arith, c.loop-i.invariant.right_in, c.if-j-b.false)) _ _ c.max.ensures c.min.ensures (omega (arith, c.if-ea-lb.false)) (omega (arith, c.if-ea-eb.true)) (omega (arith, c.if-room-n.false))
 
 pub loop-i-preserved : goal.loop-i-preserved
 loop-i-preserved c =
-    write_right c.args.a.now c.args.b.now c.args.out.now c.loop-i.out c.loop-i.n c.loop-i.i c.loop-i.j c.loop-i.invariant c.loop-i-test.true (omega (arith, c.loop-i.invariant.right_in, c.if-j-b.false)) _ _ c.greater.ensures c.lesser.ensures (omega (arith, c.if-eb-la.false)) (omega (arith, c.if-ea-eb.false)) (omega (arith, c.if-room-n.false))
+    write_right c.args.a.now c.args.b.now c.args.out.now c.loop-i.out c.loop-i.n c.loop-i.i c.loop-i.j c.loop-i.invariant c.loop-i-test.true (omega (arith, c.loop-i.invariant.right_in, c.if-j-b.false)) _ _ c.max.ensures c.min.ensures (omega (arith, c.if-eb-la.false)) (omega (arith, c.if-ea-eb.false)) (omega (arith, c.if-room-n.false))
 
 pub returns : goal.returns
 returns c =

@@ -16,26 +16,26 @@ pub refusal_page-requires : goal.refusal_page-requires
 refusal_page-requires c = omega (arith, c.refusal_page-arg-1.given.0.1)
 
 pub slice_bounds-set-end : goal.slice_bounds-set-end
-slice_bounds-set-end c = told-within _ _ _ _ c.question-written.ensures _ c.in-Bytes.is
+slice_bounds-set-end c = told-within _ _ _ _ c.question-written.ensures _ c.in-Ok.is
 
-pub slice_bounds-set_page-end-in-Bytes : goal.slice_bounds-set_page-end-in-Bytes
-slice_bounds-set_page-end-in-Bytes c = sym (length-take-le _ _ (told-within _ _ _ _ c.question-written.ensures _ c.in-Bytes.is))
+pub slice_bounds-set_page-end-in-Ok : goal.slice_bounds-set_page-end-in-Ok
+slice_bounds-set_page-end-in-Ok c = sym (length-take-le _ _ (told-within _ _ _ _ c.question-written.ensures _ c.in-Ok.is))
 
 pub set_page-requires : goal.set_page-requires
 set_page-requires c =
-    let within = told-within _ _ _ _ c.question-written.ensures c.in-Bytes.size c.in-Bytes.is in
-    omega (arith, c.set_page-arg-1.given.0.1, set-fits (take c.in-Bytes.size c.question-written.new.out) (omega (arith, length-take-le c.in-Bytes.size c.question-written.new.out within, c.question-written.auto.out)))
+    let within = told-within _ _ _ _ c.question-written.ensures c.in-Ok.size c.in-Ok.is in
+    omega (arith, c.set_page-arg-1.given.0.1, set-fits (take c.in-Ok.size c.question-written.new.out) (omega (arith, length-take-le c.in-Ok.size c.question-written.new.out within, c.question-written.auto.out)))
 
-pub returns-in-Refused : goal.returns-in-Refused
-returns-in-Refused c =
-    let e = told_refusal _ _ _ _ c.question-written.ensures _ c.in-Refused.is ∙ ap (λ (t : List ℕ). question_of c.args.rec.now t set_room) c.text_length-n.ensures.0 in
+pub returns-in-Err : goal.returns-in-Err
+returns-in-Err c =
+    let e = told_refusal _ _ _ _ c.question-written.ensures _ c.in-Err.is ∙ ap (λ (t : List ℕ). question_of c.args.rec.now t set_room) c.text_length-n.ensures.0 in
     let p = puts_prints _ (printed c.args.rec.now c.args.typed.now) c.args.page.now _ _ (ap page e) c.refusal_page.ensures in
     let w = prints_within _ _ _ _ p in
     record { prints = p; prefix_len = (w, sym (length-take-le _ _ w)) }
 
-pub returns-in-Bytes : goal.returns-in-Bytes
-returns-in-Bytes c =
-    let e = told-set _ _ _ _ c.question-written.ensures _ c.in-Bytes.is ∙ ap (λ (t : List ℕ). question_of c.args.rec.now t set_room) c.text_length-n.ensures.0 in
+pub returns-in-Ok : goal.returns-in-Ok
+returns-in-Ok c =
+    let e = told-set _ _ _ _ c.question-written.ensures _ c.in-Ok.is ∙ ap (λ (t : List ℕ). question_of c.args.rec.now t set_room) c.text_length-n.ensures.0 in
     let p = puts_prints _ (printed c.args.rec.now c.args.typed.now) c.args.page.now _ _ (ap page e) c.set_page.ensures in
     let w = prints_within _ _ _ _ p in
     record { prints = p; prefix_len = (w, sym (length-take-le _ _ w)) }

@@ -12,22 +12,21 @@ use Rattle.page.proofs.lines.runs.Goals as goal
 
 pub loop-i-init : goal.loop-i-init
 loop-i-init c =
-    (omega arith, search rules, runs_none c.args.set.now c.args.out.now c.args.at)
+    (search rules, runs_none c.args.set.now c.args.out.now c.args.at)
 
 pub run-end-requires : goal.run-end-requires
 run-end-requires c =
     let line = ap₂ (λ (x y : ℕ). length (run_line (signed x) (signed y))) c.word_at-low.ensures c.word_at-high.ensures in
-    omega (arith, c.requires.1, c.loop-i.invariant.1, c.loop-i.invariant.2.behind, line, run-within c.args.n c.loop-i.i c.args.set.now c.loop-i-test.true)
+    omega (arith, c.requires.1, c.loop-i.invariant.0, c.loop-i.invariant.1.behind, line, run-within c.args.n c.loop-i.i c.args.set.now c.loop-i-test.true)
 
 pub loop-i-preserved : goal.loop-i-preserved
 loop-i-preserved c = (
-  search rules,
-  c.run-end.auto.out ∙ c.loop-i.invariant.1,
+  c.run-end.auto.out ∙ c.loop-i.invariant.0,
   runs_next c.args.set.now c.args.out.now c.loop-i.out _ c.args.at c.loop-i.end _ c.loop-i.i _ _ c.word_at-low.ensures c.word_at-high.ensures
-      (omega (arith, c.requires.1, run-within c.args.n c.loop-i.i c.args.set.now c.loop-i-test.true)) c.loop-i.invariant.2 c.run-end.ensures,
+      (omega (arith, c.requires.1, run-within c.args.n c.loop-i.i c.args.set.now c.loop-i-test.true)) c.loop-i.invariant.1 c.run-end.ensures,
 )
 
 pub returns : goal.returns
 returns c =
-    let e : c.loop-i.i ≡ c.args.n = omega (arith, c.loop-i.invariant.0, c.loop-i-test.false) in
-    puts_same (ap (λ (k : ℕ). run_lines k c.args.set.now) e) c.loop-i.invariant.2
+    let e : c.loop-i.i ≡ c.args.n = omega (arith, c.loop-i.auto.i-end, c.loop-i-test.false) in
+    puts_same (ap (λ (k : ℕ). run_lines k c.args.set.now) e) c.loop-i.invariant.1

@@ -1,6 +1,5 @@
 -- Four stores make the row.
 use native.Mathlib.Omega.{arith}
-use borrow.Author.Rules.{rules}
 use lib.ListN.{length-set}
 use Rattle.parser.proofs.TableLaws.{put-row}
 use Rattle.parser.proofs.table.put.Goals as goal

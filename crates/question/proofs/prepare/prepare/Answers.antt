@@ -1,24 +1,18 @@
 -- Each answer is the first refusal that meets, or the table of the text.
-use Rattle.question.proofs.laws.Prepare.{prepare_empty, prepare_refused, prepare_unread, prepare_read}
+use Rattle.question.proofs.laws.Prepare.{prepare_empty, prepare_refused, prepare_asked}
 use borrow.Author.Rules.{rules}
+use Rattle.std.proofs.lemmas.Result.{err_from_is_err_and}
 use Rattle.question.proofs.prepare.prepare.Goals as goal
 
-pub returns-then-n-eq0 : goal.returns-then-n-eq0
-returns-then-n-eq0 c =
-    prepare_empty c.args.rec.now c.args.text.now _ _ _ c.check-checked.ensures c.in-Records.is c.if-n-eq0.true
+pub returns-in_err-records : goal.returns-in_err-records
+returns-in_err-records c =
+    let p = err_from_is_err_and c.from_residual.result c.from_residual.ensures.1 in
+    rw (p.1, p.2) (prepare_refused c.args.rec.now c.args.text.now _ _ _ c.check.ensures c.in_err-records.was)
 
-pub read-answer-requires : goal.read-answer-requires
-read-answer-requires c =
-    c.requires
+pub returns-then-records-eq0 : goal.returns-then-records-eq0
+returns-then-records-eq0 c =
+    prepare_empty c.args.rec.now c.args.text.now _ _ _ c.check.ensures c.in_ok-records.was c.if-records-eq0.true
 
-pub returns-in-Refused : goal.returns-in-Refused
-returns-in-Refused c =
-    prepare_refused c.args.rec.now c.args.text.now _ _ _ c.check-checked.ensures c.in-Refused.is
-
-pub returns-in-Refused-answer : goal.returns-in-Refused-answer
-returns-in-Refused-answer c =
-    prepare_unread c.args.rec.now c.args.text.now _ _ _ c.check-checked.ensures c.in-Records.is c.if-n-eq0.false _ c.read-answer.ensures _ c.in-Refused-answer.is
-
-pub returns-in-Nodes : goal.returns-in-Nodes
-returns-in-Nodes c =
-    prepare_read c.args.rec.now c.args.text.now _ _ _ c.check-checked.ensures c.in-Records.is c.if-n-eq0.false _ c.read-answer.ensures _ c.in-Nodes.is
+pub returns : goal.returns
+returns c =
+    prepare_asked c.args.rec.now c.args.text.now _ _ _ c.check.ensures c.in_ok-records.was c.if-records-eq0.false _ c.read.ensures

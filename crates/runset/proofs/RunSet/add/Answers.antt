@@ -1,11 +1,6 @@
 -- The last run goes on, or two cuts more, or there is no room for them.
-use native.Mathlib.Omega.{arith}
 use Rattle.runs.proofs.laws.Added.{joins, full, room, added}
-use borrow.Author.Rules.{rules}
 use Rattle.runset.proofs.RunSet.add.Goals as goal
-
-pub overflow_sub-set : goal.overflow_sub-set
-overflow_sub-set c = omega (arith, (c.ends_at.ensures.0 c.if-ends_at.true).0)
 
 pub returns-then-ends_at : goal.returns-then-ends_at
 returns-then-ends_at c =

@@ -8,7 +8,6 @@ use lib.Seq.{take-append_seam, take-set-le, get_or-set_same}
 use Rattle.runs.specs.Runs.{most_runs}
 use Rattle.runs.specs.Set.{slot_words, cuts_of, member, Valid, Holds}
 use Rattle.runs.proofs.laws.Set.{held, cuts-length}
-use borrow.Author.Rules.{rules}
 use Rattle.runset.proofs.RunSet.copy.Goals as goal
 
 short : (a k : List ℕ) → Valid a → k ≡ cuts_of a → length k ≤ 2 * most_runs
@@ -22,12 +21,6 @@ copied a old k p v e size is =
     (get_or-set_same p (2 * most_runs) (length k) 0 (omega arith) ∙ n)
     (ap (λ (i : ℕ). take i (set p (2 * most_runs) (length k))) (sym n) ∙ take-set-le (length k) p (2 * most_runs) (length k) (short a k v e) ∙ ap (take (length k)) is ∙ take-append_seam k (drop (0 + length k) old) ∙ e)
     (member a) (λ w h. refl)
-
-pub copy-requires : goal.copy-requires
-copy-requires c = let s = c in omega (arith, short s.args.a.now _ s.requires.0 c.cuts_of-cuts.ensures, s.requires.1)
-
-pub overflow_cast-set : goal.overflow_cast-set
-overflow_cast-set c = let s = c in omega (arith, short s.args.a.now _ s.requires.0 c.cuts_of-cuts.ensures)
 
 pub returns : goal.returns
 returns c = let s = c in copied s.args.a.now s.args.set.now _ _ s.requires.0 c.cuts_of-cuts.ensures (c.set-1.given ∙ s.requires.1) c.copy.ensures

@@ -1,7 +1,6 @@
 -- Two cuts for each run.
 use native.Mathlib.Omega.{arith}
 use Rattle.runs.proofs.laws.Set.{valid_cuts}
-use borrow.Author.Rules.{rules}
 use Rattle.runset.proofs.RunSet.count.Goals as goal
 
 pub returns : goal.returns

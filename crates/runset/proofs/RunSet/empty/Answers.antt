@@ -4,7 +4,6 @@ use lib.Seq.{get_or-set_same}
 use mathlib.Core.Path.{◌∙◌}
 use native.Mathlib.Omega.{arith}
 use Rattle.runs.proofs.laws.Set.{nothing-held}
-use borrow.Author.Rules.{rules}
 use Rattle.runset.proofs.RunSet.empty.Goals as goal
 
 pub returns : goal.returns

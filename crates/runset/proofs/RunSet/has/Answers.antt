@@ -1,43 +1,37 @@
 -- The invariant: what the cuts passed say, with what those that are left say, is the membership.
-use Prim.Native.Nat.{ℕ, ◌+◌, ◌-◌, ◌*◌, ◌≤◌, ◌<◌}
-use mathlib.Core.Path.{◌≡◌, refl, sym, ap, ◌∙◌}
-use mathlib.Core.Bool.{Bool}
-use mathlib.Core.List.{List}
-use native.Mathlib.Omega.{arith}
-use lib.Dec.{leb}
-use lib.ListN.{length, take, drop, get_or}
-use Rattle.runs.specs.Runs.{most_runs}
-use Rattle.runs.specs.Set.{xor, cuts_of, inside, member}
-use Rattle.runs.proofs.laws.Cuts.{xor_false, xor_assoc, none, front, all_passed}
-use Rattle.runs.proofs.laws.Set.{cuts_there}
-use borrow.Author.Rules.{rules}
+use Rattle.std.proofs.Common.{ℕ, List, Bool, true, false, not, ◌≡◌, ◌<◌, ◌+◌, refl, sym, ap, ◌∙◌, arith, leb, length, drop, get_or, add-one, drop-cons}
+use mathlib.Core.Bool.{beq}
+use Rattle.std.proofs.Math.Seq.{drop-length}
+use Rattle.runs.specs.Set.{xor, inside, member}
+use Rattle.runs.proofs.laws.Cuts.{xor_false, xor_assoc, none}
 use Rattle.runset.proofs.RunSet.has.Goals as goal
 
+differ : (a b : Bool) → not (beq a b) ≡ xor a b
+differ true true = refl
+differ true false = refl
+differ false true = refl
+differ false false = refl
+
 -- one more cut
-counted : (a : List ℕ) (n i v : ℕ) (b c m : Bool) → n ≤ length a → i < n → c ≡ xor b (leb (get_or a i 0) v) → xor b (inside (drop i (take n a)) v) ≡ m
-    → xor c (inside (drop (i + 1) (take n a)) v) ≡ m
+counted : (l : List ℕ) (i v : ℕ) (b m : Bool) → i < length l → xor b (inside (drop i l) v) ≡ m
+    → xor (not (beq b (leb (get_or l i 0) v))) (inside (drop (i + 1) l) v) ≡ m
 unfolding inside
-counted a n i v b c m h g e w =
-    ap (λ (k : Bool). xor k (inside (drop (i + 1) (take n a)) v)) e ∙ xor_assoc b (leb (get_or a i 0) v) _
-    ∙ ap (λ (l : List ℕ). xor b (inside l v)) (sym (front a n i h g)) ∙ w
+counted l i v b m g w =
+    ap (λ (k : Bool). xor k (inside (drop (i + 1) l) v)) (differ b (leb (get_or l i 0) v)) ∙ xor_assoc b (leb (get_or l i 0) v) _
+    ∙ ap (λ (k : ℕ). xor b (xor (leb (get_or l i 0) v) (inside (drop k l) v))) (add-one i)
+    ∙ ap (λ (k : List ℕ). xor b (inside k v)) (sym (drop-cons l i 0 g)) ∙ w
 
-counted-all : (a : List ℕ) (n i v : ℕ) (b m : Bool) → n ≤ length a → i ≡ n → xor b (inside (drop i (take n a)) v) ≡ m → b ≡ m
-counted-all a n i v b m h g w = sym (xor_false b) ∙ ap (xor b) (sym (none v) ∙ ap (λ (l : List ℕ). inside l v) (sym (all_passed a n i h g))) ∙ w
+-- all of them
+counted-all : (l : List ℕ) (i v : ℕ) (b m : Bool) → i ≡ length l → xor b (inside (drop i l) v) ≡ m → b ≡ m
+counted-all l i v b m e w =
+    sym (xor_false b) ∙ ap (xor b) (sym (none v) ∙ ap (λ (k : List ℕ). inside k v) (sym (ap (λ (j : ℕ). drop j l) e ∙ drop-length l))) ∙ w
 
-pub loop-i-init : goal.loop-i-init
-loop-i-init c = (omega arith, refl)
-
-pub offset_bounds-set-i : goal.offset_bounds-set-i
-offset_bounds-set-i c = let s = c in omega (arith, c.cuts_in-n.ensures, s.requires.few, s.requires.size)
-
-pub bounds-set-i : goal.bounds-set-i
-bounds-set-i c = let s = c in omega (arith, c.cuts_in-n.ensures, s.requires.few, s.requires.size)
-
-pub loop-i-preserved : goal.loop-i-preserved
-loop-i-preserved c =
-    (omega arith, counted c.args.set.now (get_or c.args.set.now (2 * most_runs) 0) c.loop-i.i c.args.v c.loop-i.inside c.differ-inside.result _ (cuts_there c.args.set.now c.requires) (omega arith) c.differ-inside.ensures c.loop-i.invariant.1)
+pub loop-cut-preserved : goal.loop-cut-preserved
+loop-cut-preserved c =
+    counted c.cuts_of-cut-items.result.now c.loop-cut.cut-index c.args.v c.loop-cut.inside _ c.loop-cut-test.true c.loop-cut.invariant
 
 pub returns : goal.returns
 unfolding member
 returns c =
-    counted-all c.args.set.now (get_or c.args.set.now (2 * most_runs) 0) c.loop-i.i c.args.v c.loop-i.inside _ (cuts_there c.args.set.now c.requires) (omega arith) c.loop-i.invariant.1
+    counted-all c.cuts_of-cut-items.result.now c.loop-cut.cut-index c.args.v c.loop-cut.inside _ (omega (arith, c.loop-cut-test.false, c.loop-cut.auto.cut-index-end)) c.loop-cut.invariant
+    ∙ ap (λ (l : List ℕ). inside l c.args.v) c.cuts_of-cut-items.ensures

@@ -1,5 +1,4 @@
 -- Two words, one behind the other.
-use borrow.Author.Rules.{rules}
 use Rattle.slot.proofs.laws.Bytes.{two-words}
 use Rattle.slot.proofs.run.put_bytes.Goals as goal
 

@@ -1,5 +1,4 @@
 -- The scan over the kinds says what the tree writes.
-use borrow.Author.Rules.{rules}
 use Rattle.text.proofs.TableLaws.{listed_scan}
 use Rattle.text.proofs.table.has_listed.Goals as goal
 

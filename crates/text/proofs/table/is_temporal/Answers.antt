@@ -1,10 +1,9 @@
 -- The scan over the kinds says what the tree writes.
-use borrow.Author.Rules.{rules}
 use Rattle.text.proofs.TableLaws.{temporal_yes, temporal-rest}
 use Rattle.text.proofs.table.is_temporal.Goals as goal
 
 pub returns-then-some_kind : goal.returns-then-some_kind
 returns-then-some_kind c = λ t h. temporal_yes c.args.table.now c.args.n t h c.some_kind.result c.some_kind.ensures c.if-some_kind.true
 
-pub returns : goal.returns
-returns c = λ t h. temporal-rest c.args.table.now c.args.n t h c.some_kind.result c.some_kind-2.result c.some_kind.ensures c.if-some_kind.false c.some_kind-2.ensures
+pub returns-else-some_kind : goal.returns-else-some_kind
+returns-else-some_kind c = λ t h. temporal-rest c.args.table.now c.args.n t h c.some_kind.result c.some_kind-else-some_kind.result c.some_kind.ensures c.if-some_kind.false c.some_kind-else-some_kind.ensures
