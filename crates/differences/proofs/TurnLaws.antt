@@ -138,7 +138,7 @@ module _ (f : ℕ → Bool) (low x : ℕ) (words after : List ℕ) (r : Result �
       by (yes a) = rw (lt-ltb v x a, lt-leb x v a, lt-ltb v m.next (omega (arith, m.on))) (or_false (from low f v))
       by (no a) = rw (le-ltb v x (omega arith), le-leb x v (omega arith), le-leb low v (omega arith))
 
-  turn_more : is_err r ≡ false → Gathered (from low f) m.next after
+  pub turn_more : is_err r ≡ false → Gathered (from low f) m.next after
   turn_more = gathered_more (from low f) m.next m.stop _ part after r m.made
 
   -- the next turn starts at n

@@ -12,7 +12,7 @@ off_axis z = lt_z z lowest || lt_z highest z
 abbrev pub bad_target : ℕ → ℤ → Line
 bad_target curve z = line 12 (ltb 1 curve || off_axis z)
 
--- the number at the index is z; Off exactly where z is off the axis
+-- the number at the index is z; none exactly where z is off the axis
 abbrev pub Placed : ℤ → Option ℕ → Type 0
 Placed z (Some n) = (off_axis z ≡ false) × (n < axis) × (whole n ≡ z)
 Placed z None = off_axis z ≡ true
