@@ -382,7 +382,7 @@ fn peak_of_every_call() {
 #[test]
 fn a_stack_that_is_too_small_is_seen() {
     const LESS: &str = "MILL_LESS_STACK";
-    let (recording, lag) = (bytes(&flat(1)), "!".repeat(31) + "lag");
+    let (recording, lag, gaps) = (bytes(&flat(1)), "!".repeat(31) + "lag", "!".repeat(31) + "gaps(A)");
     let live = mill::Live::start(&[]).unwrap().as_bytes().to_vec();
     let jobs = [
         (Job::Question(recording.clone(), "(".repeat(256)), 32_768),
@@ -396,6 +396,10 @@ fn a_stack_that_is_too_small_is_seen() {
         (Job::LabPair(recording.clone(), 16), 512),
         (Job::ReportStart("(".repeat(256)), 32_768),
         (Job::Assured("(".repeat(256)), 32_768),
+        (Job::Question(recording.clone(), lag.clone()), 65_536),
+        (Job::Degree(recording.clone(), lag.clone()), 65_536),
+        (Job::LabQuestion(recording.clone(), gaps.clone()), 65_536),
+        (Job::LabDegree(recording.clone(), gaps), 65_536),
         (Job::ReportAdd(mill::Report::start(2, lag.as_bytes(), 7).unwrap().as_bytes().to_vec(), recording), 65_536),
         (Job::LiveStart, 32),
         (Job::LiveAdd(live.clone(), flat(1)[0].bytes().to_vec()), 32),
